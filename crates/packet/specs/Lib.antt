@@ -1,0 +1,4 @@
+pub mod Lowest
+pub mod Refusals
+pub mod Sizes
+pub mod Packets

@@ -1,0 +1,135 @@
+-- Causes 4 to 9 of document 01, over any list of policies.
+use Prim.Native.Nat.{ℕ, zero, suc, pred, _+_, _≤_, _<_}
+use mathlib.Core.Bool.{Bool, true, false, not, _||_}
+use mathlib.Core.List.{List, [], _∷_, map}
+use mathlib.Core.Option.{Option}
+use mathlib.Core.Path.{_≡_}
+use lib.Dec.{leb, ltb, eqb}
+use lib.ListN.{length, getD}
+use Rattle.packet.specs.Lowest.{lowest}
+use Rattle.packet.specs.Refusals.{refusedAt, atZero, firstOf}
+use Rattle.packet.specs.declared.Tested.{Tested}
+use Rattle.policy.specs.declared.FieldAction.{FieldAction}
+use Rattle.policy.specs.declared.FieldAction.the-variants.{Equals, Differs, Set}
+use Rattle.policy.specs.Tree.{Policy, drop, id, field, dup, sum, seq, star}
+use Rattle.policy.specs.NodeLists.{NodeLists, nodeCount, nodeAt, children, one, dupsBelow}
+
+-- cause 4: lists unequal, empty or over 512
+unfoldable pub badLengths : NodeLists → Bool
+badLengths L =
+    not (eqb (length (L .first)) (nodeCount L)) || not (eqb (length (L .second)) (nodeCount L)) || eqb (nodeCount L) 0 || ltb 512 (nodeCount L)
+
+-- cause 5: kind over 8
+unfoldable pub badKind : NodeLists → ℕ → Bool
+badKind L i = ltb 8 (getD (L .kind) i 0)
+
+-- there is no field f, or v is no value of it
+unfoldable pub badField : List ℕ → ℕ → ℕ → Bool
+badField sizes f v = leb (length sizes) f || leb (getD sizes f 0) v
+
+-- an unused entry is not 0
+unfoldable pub used : ℕ → Bool
+used a = not (eqb a 0)
+
+-- cause 6: field, value or unused entry wrong; kinds 6 and 7 use both entries, kind 8 the first
+unfoldable pub wrongEntries : List ℕ → ℕ → ℕ → ℕ → Bool
+wrongEntries sizes zero a b = used a || used b
+wrongEntries sizes (suc zero) a b = used a || used b
+wrongEntries sizes (suc (suc zero)) a b = badField sizes a b
+wrongEntries sizes (suc (suc (suc zero))) a b = badField sizes a b
+wrongEntries sizes (suc (suc (suc (suc zero)))) a b = badField sizes a b
+wrongEntries sizes (suc (suc (suc (suc (suc zero))))) a b = used a || used b
+wrongEntries sizes (suc (suc (suc (suc (suc (suc zero)))))) a b = false
+wrongEntries sizes (suc (suc (suc (suc (suc (suc (suc zero))))))) a b = false
+wrongEntries sizes (suc (suc (suc (suc (suc (suc (suc (suc k)))))))) a b = used b
+
+unfoldable pub badEntries : List ℕ → NodeLists → ℕ → Bool
+badEntries sizes L i = wrongEntries sizes (getD (L .kind) i 0) (getD (L .first) i 0) (getD (L .second) i 0)
+
+unfoldable pub someNotBelow : ℕ → List ℕ → Bool
+someNotBelow i [] = false
+someNotBelow i (c ∷ cs) = leb i c || someNotBelow i cs
+
+-- cause 7: a child of node i is not below it
+unfoldable pub badChild : NodeLists → ℕ → Bool
+badChild L i = someNotBelow i (children (nodeAt L i))
+
+-- how often j stands in a list
+unfoldable pub occurrences : ℕ → List ℕ → ℕ
+occurrences j [] = 0
+occurrences j (c ∷ cs) = one (eqb c j) + occurrences j cs
+
+-- how often node j is a child of one of the first n nodes
+unfoldable pub timesChild : NodeLists → ℕ → ℕ → ℕ
+timesChild L j zero = 0
+timesChild L j (suc n) = timesChild L j n + occurrences j (children (nodeAt L n))
+
+-- cause 8: node j is not a child exactly once
+unfoldable pub notOnce : NodeLists → ℕ → Bool
+notOnce L j = not (eqb (timesChild L j (nodeCount L)) 1)
+
+-- the most dups that a policy may have
+unfoldable pub maxDups : ℕ
+maxDups = 31
+
+-- cause 9: with node i there are too many dups
+unfoldable pub tooManyDups : NodeLists → ℕ → Bool
+tooManyDups L i = ltb maxDups (dupsBelow L (suc i))
+
+-- a policy and the side that its refusals name
+pub record Sided : Type 0 where
+  pub side : ℕ
+  pub lists : NodeLists
+
+-- one cause, tested on each policy in order
+unfoldable pub cause : ℕ → (NodeLists → Option ℕ) → List Sided → Tested
+cause number place policies = firstOf (map (λ (p : Sided). refusedAt number (p .side) (place (p .lists))) policies)
+
+-- stage "policies": causes 4 to 9, each on every policy before the next
+unfoldable pub policiesStage : List ℕ → List Sided → Tested
+policiesStage sizes policies =
+    firstOf
+    (cause 4 (λ L. atZero (badLengths L)) policies
+    ∷ cause 5 (λ L. lowest (badKind L) (nodeCount L)) policies
+    ∷ cause 6 (λ L. lowest (badEntries sizes L) (nodeCount L)) policies
+    ∷ cause 7 (λ L. lowest (badChild L) (nodeCount L)) policies
+    ∷ cause 8 (λ L. lowest (notOnce L) (pred (nodeCount L))) policies
+    ∷ cause 9 (λ L. lowest (tooManyDups L) (nodeCount L)) policies
+    ∷ [])
+
+-- what evaluation asks of the lists; the tree of any node of well-formed lists serves as a policy
+pub record WellFormed (sizes : List ℕ) (L : NodeLists) : Type 0 where
+  pub firsts : length (L .first) ≡ nodeCount L
+  pub seconds : length (L .second) ≡ nodeCount L
+  pub few : nodeCount L ≤ 512
+  pub kinds : (i : ℕ) → i < nodeCount L → badKind L i ≡ false
+  pub entries : (i : ℕ) → i < nodeCount L → badEntries sizes L i ≡ false
+  pub below : (i : ℕ) → i < nodeCount L → badChild L i ≡ false
+  pub once : (j : ℕ) → timesChild L j (nodeCount L) ≤ 1
+  pub dups : dupsBelow L (nodeCount L) ≤ maxDups
+
+-- legal lists: none of causes 4 to 9 holds
+pub record Legal (sizes : List ℕ) (L : NodeLists) : Type 0 where
+  pub wellFormed : WellFormed sizes L
+  pub some : 0 < nodeCount L
+  pub children : (j : ℕ) → j < pred (nodeCount L) → timesChild L j (nodeCount L) ≡ 1
+
+unfoldable pub fieldOf : FieldAction → ℕ
+fieldOf (Equals f v) = f
+fieldOf (Differs f v) = f
+fieldOf (Set f v) = f
+
+unfoldable pub valueOf : FieldAction → ℕ
+valueOf (Equals f v) = v
+valueOf (Differs f v) = v
+valueOf (Set f v) = v
+
+-- each test and change of the tree names a field and a value of it
+unfoldable pub InFields : List ℕ → Policy → Type 0
+InFields sizes drop = Unit
+InFields sizes id = Unit
+InFields sizes (field a) = badField sizes (fieldOf a) (valueOf a) ≡ false
+InFields sizes (dup i) = Unit
+InFields sizes (sum p q) = InFields sizes p × InFields sizes q
+InFields sizes (seq p q) = InFields sizes p × InFields sizes q
+InFields sizes (star p) = InFields sizes p

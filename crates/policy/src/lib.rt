@@ -1,0 +1,19 @@
+// Policies as node lists (document 01, "Policies").
+
+// A test or a change of one field, with the field's number and the value.
+pub enum FieldAction {
+    Equals(u16, u16),
+    Differs(u16, u16),
+    Set(u16, u16),
+}
+
+// A node of a policy; sum, sequence and star carry the numbers of their children.
+pub enum Node {
+    Drop,
+    Id,
+    Field(FieldAction),
+    Dup,
+    Sum(u16, u16),
+    Seq(u16, u16),
+    Star(u16),
+}
