@@ -1,0 +1,26 @@
+-- The two steps of a loop that looks for the lowest place.
+-- Assumes nothing.
+use Prim.Native.Nat.{ℕ, zero, suc, _<_, _≤_}
+use native.Mathlib.Nat.{not-suc-le-zero}
+use native.Mathlib.Omega.{arith}
+use native.Mathlib.Decide.{ℕ-discrete}
+use mathlib.Core.Bool.{Bool, true, false}
+use mathlib.Core.Option.{Option, none, some}
+use mathlib.Core.Path.{_≡_, refl, ap, ap₂, _∙_, subst}
+use Rattle.packet.specs.Lowest.{lowest, orAt}
+
+-- what was not found below i, and does not pass at i, is not found below i + 1
+pub lowest-more : (test : ℕ → Bool) (i : ℕ) → lowest test i ≡ none → test i ≡ false → lowest test (suc i) ≡ none
+unfolding lowest orAt
+lowest-more test i e f = ap₂ (λ (o : Option ℕ) (b : Bool). orAt o b i) e f
+
+-- what was not found below i, and passes at i, is found there in every longer range
+pub lowest-found : (test : ℕ → Bool) (i n : ℕ) → lowest test i ≡ none → test i ≡ true → i < n → lowest test n ≡ some i
+unfolding lowest orAt
+lowest-found test i zero e f h = absurd (not-suc-le-zero h)
+lowest-found test i (suc n) e f h = go (ℕ-discrete i n) (lowest-found test i n e f)
+  where
+    go : Dec (i ≡ n) → (i < n → lowest test n ≡ some i) → lowest test (suc n) ≡ some i
+    go (yes q) rec =
+        subst (λ (m : ℕ). lowest test (suc m) ≡ some i) q (ap₂ (λ (o : Option ℕ) (b : Bool). orAt o b i) e f)
+    go (no d) rec = ap (λ (o : Option ℕ). orAt o (test n) n) (rec (omega arith))
