@@ -1,2 +1,4 @@
 pub mod Lowest
+pub mod Sizes
+pub mod Stages
 pub mod Packets

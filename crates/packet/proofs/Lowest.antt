@@ -24,3 +24,7 @@ lowest-found test i (suc n) e f h = go (ℕ-discrete i n) (lowest-found test i n
     go (yes q) rec =
         subst (λ (m : ℕ). lowest test (suc m) ≡ some i) q (ap₂ (λ (o : Option ℕ) (b : Bool). orAt o b i) e f)
     go (no d) rec = ap (λ (o : Option ℕ). orAt o (test n) n) (rec (omega arith))
+
+-- a loop that has come to the end of its range
+pub lowest-none-whole : (test : ℕ → Bool) (i n : ℕ) → lowest test i ≡ none → i ≡ n → lowest test n ≡ none
+lowest-none-whole test i n e q = subst (λ (m : ℕ). lowest test m ≡ none) q e

@@ -5,7 +5,10 @@ use mathlib.Core.List.{List, [], _∷_}
 use mathlib.Core.Path.{_≡_}
 use lib.Dec.{leb, ltb, eqb}
 use lib.ListN.{length, getD, take}
+use Rattle.packet.specs.declared.Counted.{Counted}
+use Rattle.packet.specs.declared.Counted.the-variants.{Packets, Refused as NotCounted}
 use Rattle.packet.specs.declared.Tested.{Tested}
+use Rattle.packet.specs.declared.Tested.the-variants.{Passed, Refused}
 use Rattle.packet.specs.Lowest.{lowest}
 use Rattle.packet.specs.Refusals.{refusedAt, atZero, firstOf}
 
@@ -33,3 +36,11 @@ fieldsStage sizes = firstOf (refusedAt 1 0 (atZero (badCount sizes)) ∷ refused
 -- stage "product": cause 3
 unfoldable pub productStage : List ℕ → Tested
 productStage sizes = refusedAt 3 0 (lowest (productOver sizes) (length sizes))
+
+-- the packet count where the stage passes
+unfoldable pub counted : Tested → ℕ → Counted
+counted Passed n = Packets n
+counted (Refused r) n = NotCounted r
+
+unfoldable pub packetCount : List ℕ → Counted
+packetCount sizes = counted (productStage sizes) (product sizes)
