@@ -1,4 +1,5 @@
 pub mod Lowest
 pub mod Sizes
 pub mod Stages
+pub mod Legal
 pub mod Packets

@@ -10,7 +10,7 @@ use mathlib.Core.Option.{Option, none, some}
 use mathlib.Core.Path.{_≡_, refl, ap, ap₂, sym, _∙_, subst}
 use borrow.Author.Tests.{lt-ltb, le-ltb}
 use lib.ListN.{length, getD, take, drop}
-use lib.Seq.{take-all}
+use lib.Seq.{take-all, drop-cons}
 use Rattle.packet.specs.Lowest.{lowest}
 use Rattle.packet.specs.Refusals.{refusedAt, refusal}
 use Rattle.packet.specs.declared.Counted.the-variants.{Packets, Refused}
@@ -48,12 +48,12 @@ module _ (sizes : List ℕ) {i p x : ℕ} (r : Running sizes i p) (h : i < lengt
   unfolding productOver
   running-more small =
       rw add-one
-      (record
-        { within = h
-        ; is = more-is
-        ; small = small
-        ; passed = lowest-more (productOver sizes) i (r .passed) (le-ltb 1024 _ (subst (λ (n : ℕ). n ≤ 1024) more-is small))
-        })
+      (record {
+        within = h;
+        is = more-is;
+        small = small;
+        passed = lowest-more (productOver sizes) i (r .passed) (le-ltb 1024 _ (subst (λ (n : ℕ). n ≤ 1024) more-is small));
+      })
 
   pub running-over : 1024 < p * x → packetCount sizes ≡ Refused (refusal 3 0 i)
   unfolding productOver productStage counted packetCount refusedAt
@@ -66,3 +66,10 @@ unfolding productStage counted packetCount refusedAt
 running-all sizes {i} {p} r end =
     ap (λ (o : Option ℕ). counted (refusedAt 3 0 o) (product sizes)) (lowest-none-whole (productOver sizes) i (length sizes) (r .passed) (omega (arith, r .within)))
     ∙ ap Packets (sym (r .is ∙ ap product (take-all i sizes end)))
+
+-- ---- from the last field down
+
+-- the fields from i on, of which the first has size s
+pub product-from : (sizes : List ℕ) (i : ℕ) → i < length sizes → product (drop i sizes) ≡ getD sizes i 0 * product (drop (suc i) sizes)
+unfolding product
+product-from sizes i h = ap product (drop-cons sizes i 0 h)

@@ -3,14 +3,16 @@
 use Prim.Native.Nat.{ℕ, _<_, _≤_}
 use mathlib.Core.Bool.{Bool, true, false, _||_}
 use mathlib.Core.List.{List, [], _∷_}
-use mathlib.Core.Option.{Option}
+use mathlib.Core.Option.{Option, none, some}
+use native.Mathlib.Omega.{arith}
 use mathlib.Core.Path.{_≡_, refl, ap, ap₂, _∙_}
 use borrow.Author.Tests.{eq-eqb, ne-eqb, lt-ltb, le-ltb}
 use lib.ListN.{length}
+use Rattle.packet.specs.declared.Refusal.{Refusal}
 use Rattle.packet.specs.declared.Tested.{Tested}
 use Rattle.packet.specs.declared.Tested.the-variants.{Passed, Refused}
 use Rattle.packet.specs.Lowest.{lowest}
-use Rattle.packet.specs.Refusals.{refusal, refusedAt, atZero, firstOf}
+use Rattle.packet.specs.Refusals.{refusal, refusedAt, atPlace, firstOf}
 use Rattle.packet.specs.Sizes.{badCount, zeroSize, fieldsStage}
 
 -- the last test of an order
@@ -19,23 +21,52 @@ unfolding firstOf
 firstOf-last Passed = refl
 firstOf-last (Refused r) = refl
 
+-- ---- an order that passes: each of its tests passes
+
+zero≢one : _≡_ {A = ℕ} 0 1 → ⊥
+zero≢one z = omega arith
+
+passed≢refused : {r : Refusal} → Refused r ≡ Passed → ⊥
+passed≢refused {r} q = let z : _≡_ {A = ℕ} 0 1 = cc in zero≢one z
+
+pub firstOf-passed : (t : Tested) (ts : List Tested) → firstOf (t ∷ ts) ≡ Passed → (t ≡ Passed) × (firstOf ts ≡ Passed)
+unfolding firstOf
+firstOf-passed Passed ts e = (refl, e)
+firstOf-passed (Refused r) ts e = absurd (passed≢refused e)
+
+pub passed-firstOf : (t : Tested) (ts : List Tested) → t ≡ Passed → firstOf ts ≡ Passed → firstOf (t ∷ ts) ≡ Passed
+unfolding firstOf
+passed-firstOf t ts p q = ap (λ (u : Tested). firstOf (u ∷ ts)) p ∙ q
+
+pub refusedAt-passed : (number side : ℕ) (o : Option ℕ) → refusedAt number side o ≡ Passed → o ≡ none
+unfolding refusedAt
+refusedAt-passed number side none e = refl
+refusedAt-passed number side (some i) e = absurd (passed≢refused e)
+
+pub atPlace-none : (place : ℕ) (b : Bool) → atPlace place b ≡ none → b ≡ false
+unfolding atPlace
+atPlace-none place false e = refl
+atPlace-none place true e = let z : _≡_ {A = ℕ} 0 1 = cc in absurd (zero≢one z)
+
+-- ---- stage "fields"
+
 module _ (sizes : List ℕ) where
   pub none-declared : length sizes ≡ 0 → fieldsStage sizes ≡ Refused (refusal 1 0 0)
-  unfolding fieldsStage badCount refusedAt atZero firstOf
+  unfolding fieldsStage badCount refusedAt atPlace firstOf
   none-declared h = rw (eq-eqb (length sizes) 0 h)
 
   over-eight : (length sizes ≡ 0 → ⊥) → 8 < length sizes → badCount sizes ≡ true
   unfolding badCount
-  over-eight some over = ap₂ (λ (a b : Bool). a || b) (ne-eqb (length sizes) 0 some) (lt-ltb 8 (length sizes) over)
+  over-eight declared over = ap₂ (λ (a b : Bool). a || b) (ne-eqb (length sizes) 0 declared) (lt-ltb 8 (length sizes) over)
 
   pub too-many : (length sizes ≡ 0 → ⊥) → 8 < length sizes → fieldsStage sizes ≡ Refused (refusal 1 0 0)
-  unfolding fieldsStage refusedAt atZero firstOf
-  too-many some over = rw (over-eight some over)
+  unfolding fieldsStage refusedAt atPlace firstOf
+  too-many declared over = rw (over-eight declared over)
 
   one-to-eight : (length sizes ≡ 0 → ⊥) → length sizes ≤ 8 → badCount sizes ≡ false
   unfolding badCount
-  one-to-eight some few = ap₂ (λ (a b : Bool). a || b) (ne-eqb (length sizes) 0 some) (le-ltb 8 (length sizes) few)
+  one-to-eight declared few = ap₂ (λ (a b : Bool). a || b) (ne-eqb (length sizes) 0 declared) (le-ltb 8 (length sizes) few)
 
   pub few-fields : (length sizes ≡ 0 → ⊥) → length sizes ≤ 8 → fieldsStage sizes ≡ refusedAt 2 0 (lowest (zeroSize sizes) (length sizes))
-  unfolding fieldsStage refusedAt atZero firstOf
-  few-fields some few = rw (one-to-eight some few) (firstOf-last _)
+  unfolding fieldsStage refusedAt atPlace firstOf
+  few-fields declared few = rw (one-to-eight declared few) (firstOf-last _)

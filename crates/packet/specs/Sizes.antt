@@ -1,9 +1,8 @@
 -- Sizes of the fields and the packet count N (document 01, "Packets" and causes 1 to 3).
-use Prim.Native.Nat.{ℕ, zero, suc, _*_}
-use mathlib.Core.Bool.{Bool, true, false, not, _||_}
+use Prim.Native.Nat.{ℕ, suc, _*_, _≤_, _<_}
+use mathlib.Core.Bool.{Bool, _||_}
 use mathlib.Core.List.{List, [], _∷_}
-use mathlib.Core.Path.{_≡_}
-use lib.Dec.{leb, ltb, eqb}
+use lib.Dec.{ltb, eqb}
 use lib.ListN.{length, getD, take}
 use Rattle.packet.specs.declared.Counted.{Counted}
 use Rattle.packet.specs.declared.Counted.the-variants.{Packets, Refused as NotCounted}
@@ -44,3 +43,10 @@ counted (Refused r) n = NotCounted r
 
 unfoldable pub packetCount : List ℕ → Counted
 packetCount sizes = counted (productStage sizes) (product sizes)
+
+-- none of causes 1 to 3 holds
+pub record LegalSizes (sizes : List ℕ) : Type 0 where
+  pub some : 0 < length sizes
+  pub few : length sizes ≤ 8
+  pub positive : (i : ℕ) → i < length sizes → 0 < getD sizes i 0
+  pub small : product sizes ≤ 1024

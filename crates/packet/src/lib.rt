@@ -1,12 +1,11 @@
 // Sizes of fields, the packet count, and packets as numbers (document 01, "Packets").
 ghost use mathlib.Core.Path.{_≡_};
-ghost use mathlib.Core.List.{List};
-ghost use Prim.Native.Nat.{_<_, _≤_};
-ghost use lib.ListN.{length, getD};
+ghost use Prim.Native.Nat.{_<_};
+ghost use lib.ListN.{length};
 ghost use Rattle.packet.specs.Lowest.{lowest, optionOf};
 ghost use Rattle.packet.specs.Refusals.{refusedAt};
-ghost use Rattle.packet.specs.Sizes.{zeroSize, fieldsStage, packetCount, product};
-ghost use Rattle.packet.specs.Packets.{stride, valueAt, changed};
+ghost use Rattle.packet.specs.Sizes.{zeroSize, fieldsStage, packetCount, LegalSizes};
+ghost use Rattle.packet.specs.Packets.{stride};
 
 // A numbered cause of document 01: its number, the side (0 none, 1 left, 2 right) and the place.
 pub struct Refusal {
@@ -67,10 +66,18 @@ pub fn fields_stage(sizes: &[u16]) -> Tested
 {
     let k = sizes.len();
     if k == 0 {
-        return Tested::Refused(Refusal { number: 1, side: 0, place: 0 });
+        return Tested::Refused(Refusal {
+            number: 1,
+            side: 0,
+            place: 0,
+        });
     }
     if 8 < k {
-        return Tested::Refused(Refusal { number: 1, side: 0, place: 0 });
+        return Tested::Refused(Refusal {
+            number: 1,
+            side: 0,
+            place: 0,
+        });
     }
     refused_at(2, 0, lowest_zero(sizes))
 }
@@ -90,9 +97,28 @@ pub fn packet_count(sizes: &[u16]) -> Counted
     while i < sizes.len() {
         product *= wide(sizes[i]);
         if 1024 < product {
-            return Counted::Refused(Refusal { number: 3, side: 0, place: i as u64 });
+            return Counted::Refused(Refusal {
+                number: 3,
+                side: 0,
+                place: i as u64,
+            });
         }
         i += 1;
     }
     Counted::Packets(product as u16)
+}
+
+// Inner: how far apart two packets are that differ by one in the field alone.
+pub fn stride_of(sizes: &[u16], field: usize) -> u16
+    requires { ⌜ LegalSizes (now sizes) ⌝ }
+    requires { ⌜ field < length (now sizes) ⌝ }
+    ensures { λ r. ⌜ r ≡ stride (now (sizes .entry)) field ⌝ }
+{
+    let mut stride: u16 = 1;
+    let mut i = sizes.len();
+    while field + 1 < i {
+        i -= 1;
+        stride *= sizes[i];
+    }
+    stride
 }
