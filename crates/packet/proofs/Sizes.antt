@@ -13,9 +13,15 @@ use lib.ListN.{length, getD, take, drop}
 use lib.Seq.{take-all, drop-cons}
 use Rattle.packet.specs.Lowest.{lowest}
 use Rattle.packet.specs.Refusals.{refusedAt, refusal}
+use Rattle.packet.specs.declared.Refusal.{Refusal}
+use Rattle.packet.specs.declared.Tested.{Tested}
+use Rattle.packet.specs.declared.Tested.the-variants.{Passed, Refused as Stopped}
 use Rattle.packet.specs.declared.Counted.the-variants.{Packets, Refused}
 use Rattle.packet.specs.Sizes.{product, productOver, productStage, counted, packetCount}
 use Rattle.packet.proofs.Lowest.{lowest-more, lowest-found, lowest-none-whole}
+
+zero≢one : _≡_ {A = ℕ} 0 1 → ⊥
+zero≢one z = omega arith
 
 -- one field more
 pub product-more : (sizes : List ℕ) (i : ℕ) → i < length sizes → product (take (suc i) sizes) ≡ product (take i sizes) * getD sizes i 0
@@ -73,3 +79,23 @@ running-all sizes {i} {p} r end =
 pub product-from : (sizes : List ℕ) (i : ℕ) → i < length sizes → product (drop i sizes) ≡ getD sizes i 0 * product (drop (suc i) sizes)
 unfolding product
 product-from sizes i h = ap product (drop-cons sizes i 0 h)
+
+-- ---- a packet count is a stage that passed, and the product
+
+pub counted-packets : (t : Tested) (n m : ℕ) → counted t n ≡ Packets m → (t ≡ Passed) × (m ≡ n)
+unfolding counted
+counted-packets Passed n m e = (refl, cc)
+counted-packets (Stopped r) n m e = absurd (let z : _≡_ {A = ℕ} 0 1 = cc in zero≢one z)
+
+pub counted-refused : (t : Tested) (n : ℕ) (r : Refusal) → counted t n ≡ Refused r → t ≡ Stopped r
+unfolding counted
+counted-refused Passed n r e = absurd (let z : _≡_ {A = ℕ} 0 1 = cc in zero≢one z)
+counted-refused (Stopped q) n r e = cc
+
+pub count-packets : (sizes : List ℕ) (n : ℕ) → packetCount sizes ≡ Packets n → (productStage sizes ≡ Passed) × (n ≡ product sizes)
+unfolding packetCount
+count-packets sizes n e = counted-packets _ _ n e
+
+pub count-refused : (sizes : List ℕ) (r : Refusal) → packetCount sizes ≡ Refused r → productStage sizes ≡ Stopped r
+unfolding packetCount
+count-refused sizes r e = counted-refused _ _ r e

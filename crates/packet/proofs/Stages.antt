@@ -21,6 +21,16 @@ unfolding firstOf
 firstOf-last Passed = refl
 firstOf-last (Refused r) = refl
 
+-- a test that refuses ends the order
+pub firstOf-refused : (t : Tested) (ts : List Tested) (r : Refusal) → t ≡ Refused r → firstOf (t ∷ ts) ≡ Refused r
+unfolding firstOf
+firstOf-refused t ts r e = ap (λ (u : Tested). firstOf (u ∷ ts)) e
+
+-- a test that passes hands on to the next
+pub firstOf-next : (t : Tested) (ts : List Tested) → t ≡ Passed → firstOf (t ∷ ts) ≡ firstOf ts
+unfolding firstOf
+firstOf-next t ts e = ap (λ (u : Tested). firstOf (u ∷ ts)) e
+
 -- ---- an order that passes: each of its tests passes
 
 zero≢one : _≡_ {A = ℕ} 0 1 → ⊥
@@ -33,10 +43,6 @@ pub firstOf-passed : (t : Tested) (ts : List Tested) → firstOf (t ∷ ts) ≡ 
 unfolding firstOf
 firstOf-passed Passed ts e = (refl, e)
 firstOf-passed (Refused r) ts e = absurd (passed≢refused e)
-
-pub passed-firstOf : (t : Tested) (ts : List Tested) → t ≡ Passed → firstOf ts ≡ Passed → firstOf (t ∷ ts) ≡ Passed
-unfolding firstOf
-passed-firstOf t ts p q = ap (λ (u : Tested). firstOf (u ∷ ts)) p ∙ q
 
 pub refusedAt-passed : (number side : ℕ) (o : Option ℕ) → refusedAt number side o ≡ Passed → o ≡ none
 unfolding refusedAt
