@@ -1,1 +1,6 @@
+pub mod Basics
+pub mod Lowest
+pub mod Climb
+pub mod Listing
+pub mod Runs
 pub mod Examples
