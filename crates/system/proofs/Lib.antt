@@ -5,4 +5,6 @@ pub mod Listing
 pub mod Runs
 pub mod Following
 pub mod Lines
+pub mod Tables
+pub mod Shortest
 pub mod Examples

@@ -50,6 +50,24 @@ module _ (S : System) where
       go true e = row (ltb-true (x .handled) (length (x .rows)) e) (lowest (S .packets) (tells S (current S x))) (lowest-found (S .packets) (tells S (current S x)))
       go false e = at-end (ltb-false (x .handled) (length (x .rows)) e)
 
+  pub end-turn : (x : Run S) → turn S x ≡ finished → length (x .rows) ≤ x .handled
+  end-turn x e = go (subst (Turned x) e (turned x))
+    where
+      go : Turned x finished → length (x .rows) ≤ x .handled
+      go (at-end h) = h
+
+  pub telling-turn : (x : Run S) (γ : ℕ) → turn S x ≡ telling γ → (x .handled < length (x .rows)) × Lowest (S .packets) (tells S (current S x)) γ
+  telling-turn x γ e = go (subst (Turned x) e (turned x))
+    where
+      go : Turned x (telling γ) → (x .handled < length (x .rows)) × Lowest (S .packets) (tells S (current S x)) γ
+      go (at-telling h l) = (h, l)
+
+  pub row-turn : (x : Run S) → turn S x ≡ handling → (x .handled < length (x .rows)) × ((γ : ℕ) → γ < S .packets → tells S (current S x) γ ≡ false)
+  row-turn x e = go (subst (Turned x) e (turned x))
+    where
+      go : Turned x handling → (x .handled < length (x .rows)) × ((γ : ℕ) → γ < S .packets → tells S (current S x) γ ≡ false)
+      go (at-row h f) = (h, f)
+
   pub going-or-stopped : (x : Run S) → (turn S x ≡ handling) ⊎ (turn S x ≡ handling → ⊥)
   going-or-stopped x = go (turn S x) refl
     where
@@ -164,7 +182,8 @@ module _ (S : System) where
 
     invariant-handle : (x : Run S) → turn S x ≡ handling → Invariant x → Invariant (handle S x)
     unfolding handle
-    invariant-handle x e I = go (turned x) e
+    invariant-handle x e I =
+        now (row-turn x e .0) (row-turn x e .1) (grown S L (weaken S (omega arith) (I .listing)) (row-turn x e .0) (S .packets) (omega arith))
       where
         es : List (Entry S)
         es = x .rows
@@ -197,11 +216,6 @@ module _ (S : System) where
                       subst (λ r. (γ : ℕ) → γ < S .packets → (S .dead (nextRow S r γ .state) ≡ true) ⊎ Under fs (x .handled) (nextRow S r γ)) same
                       (λ γ l. ⊎-elim inl (λ u. inr (under u)) (G .onward γ l));
                 })
-
-        go : {t : Turn} → Turned x t → t ≡ handling → Invariant (handle S x)
-        go (at-end h) q = absurd (finished≢handling q)
-        go (at-telling h l) q = absurd (telling≢handling q)
-        go (at-row h f) q = now h f (grown S L (weaken S (omega arith) (I .listing)) h (S .packets) (omega arith))
 
     -- the invariant holds throughout
     pub invariant : (k : ℕ) → Invariant (run S k)
