@@ -5,6 +5,7 @@ use mathlib.Core.List.{List, [], _∷_, _++_, append-assoc, append-nil}
 use mathlib.Core.Logic.{_⊎_, inl, inr}
 use Prim.Native.Nat.{ℕ, zero, suc, _+_, _≤_, _<_}
 use native.Mathlib.Nat.{not-suc-le-zero, add-zero}
+use native.Mathlib.Decide.{le-ind}
 use native.Mathlib.Omega.{arith}
 use lib.Dec.{ltb}
 use lib.ListN.{length, getD, take, length-append, List·getD-append}
@@ -60,6 +61,10 @@ module _ {A : Type 0} where
 
   pub prefix-trans : {xs ys zs : List A} → Prefix xs ys → Prefix ys zs → Prefix xs zs
   prefix-trans {xs} p q = record { more = p .more ++ q .more; whole = sym (append-assoc xs (p .more) (q .more)) ∙ ap (λ l. l ++ q .more) (p .whole) ∙ q .whole }
+
+  -- lists that grow step by step
+  pub prefix-chain : (f : ℕ → List A) → ((n : ℕ) → Prefix (f n) (f (suc n))) → (n m : ℕ) → n ≤ m → Prefix (f n) (f m)
+  prefix-chain f step n m h = le-ind (λ m. Prefix (f n) (f m)) (prefix-refl (f n)) (λ m l p. prefix-trans p (step m)) m h
 
   pub prefix-snoc : (xs : List A) (x : A) → Prefix xs (xs ++ (x ∷ []))
   prefix-snoc xs x = record { more = x ∷ []; whole = refl }

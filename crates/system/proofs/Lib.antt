@@ -7,4 +7,6 @@ pub mod Following
 pub mod Lines
 pub mod Tables
 pub mod Shortest
+pub mod Answers
+pub mod Verdicts
 pub mod Examples

@@ -82,11 +82,11 @@ module _ (S : System) where
         there = ap (λ z. z .row) (prefix-at q (startEntry S 0) (l .place) (l .inside)) ∙ l .there;
       }
 
-  append-kept : (p : ℕ) (es : List (Entry S)) (r : Row S) → (S .dead (r .state) || listed S es r) ≡ true → append S p es r ≡ es
+  pub append-kept : (p : ℕ) (es : List (Entry S)) (r : Row S) → (S .dead (r .state) || listed S es r) ≡ true → append S p es r ≡ es
   unfolding append
   append-kept p es r e = rw (e, append)
 
-  append-new : (p : ℕ) (es : List (Entry S)) (r : Row S) → (S .dead (r .state) || listed S es r) ≡ false → append S p es r ≡ es ++ (record { row = r; parent = p } ∷ [])
+  pub append-new : (p : ℕ) (es : List (Entry S)) (r : Row S) → (S .dead (r .state) || listed S es r) ≡ false → append S p es r ≡ es ++ (record { row = r; parent = p } ∷ [])
   unfolding append
   append-new p es r e = rw (e, append)
 
