@@ -9,4 +9,5 @@ pub mod Tables
 pub mod Shortest
 pub mod Answers
 pub mod Verdicts
+pub mod Maps
 pub mod Examples
