@@ -4,18 +4,16 @@ use mathlib.Core.Bool.{Bool, true, false, _||_}
 use mathlib.Core.List.{List, [], _∷_, _++_}
 use mathlib.Core.Logic.{_⊎_, inl, inr, ⊎-elim, _↔_}
 use Prim.Native.Nat.{ℕ, zero, suc, _≤_, _<_}
-use native.Mathlib.Nat.{le-of-suc-le-suc}
 use native.Mathlib.Decide.{le-ind}
 use native.Mathlib.Omega.{arith}
-use lib.Dec.{ltb}
-use lib.ListN.{length, take, length-take}
-use lib.Seq.{take-all, take-length, take-take, length-take-le}
-use borrow.Author.Tests.{ltb-true, ltb-false, lt-ltb, le-ltb}
-use Rattle.system.specs.System.{System, Lawful, Row, nextRow}
-use Rattle.system.specs.RowOrder.{Entry, startEntry, Run, Turn, finished, telling, handling, starts, listed, append, appendNext, current, turn, handle, runFrom, begin, run, depth, path, entering, Answer, full, equal, different, verdict, answer, held}
-use Rattle.system.proofs.Basics.{last-or-before, lt-or-le, prefix-chain, Prefix, prefix-refl, prefix-trans, prefix-snoc, prefix-length, prefix-take}
+use lib.ListN.{length, take}
+use lib.Seq.{take-all, take-take, length-take-le}
+use borrow.Author.Tests.{lt-ltb, le-ltb}
+use Rattle.system.specs.System.{System, Row, nextRow}
+use Rattle.system.specs.RowOrder.{Entry, startEntry, Run, Turn, finished, telling, handling, starts, listed, append, appendNext, current, turn, handle, runFrom, run, NeedsMore, path, entering, Answer, full, equal, different, verdict, answer, held}
+use Rattle.system.proofs.Basics.{lt-or-le, prefix-chain, Prefix, prefix-refl, prefix-snoc, prefix-length, prefix-take}
 use Rattle.system.proofs.Listing.{append-kept, append-new}
-use Rattle.system.proofs.Runs.{Stopped, going-or-stopped, run-handle, run-stay, row-turn}
+use Rattle.system.proofs.Runs.{finished≢handling, telling≢handling, Stopped, going-or-stopped, run-handle, run-stay, row-turn}
 
 module _ (S : System) where
   -- lists only grow
@@ -85,13 +83,13 @@ module _ (S : System) where
       go (inr l) (inl c) = omega (arith, prefix-length (run-longer k (suc n) (omega arith)))
       go (inr l) (inr c) = subst (λ x. n < length (x .rows)) (run-short n k l (inl c)) h
 
-  answer-more : (n : ℕ) → n < length (run S (suc n) .rows) → answer S n ≡ full
-  unfolding answer
-  answer-more n h = rw (lt-ltb n (length (run S (suc n) .rows)) h, answer)
-
   answer-verdict : (n : ℕ) → length (run S (suc n) .rows) ≤ n → answer S n ≡ verdict S (run S (suc n))
   unfolding answer
   answer-verdict n h = rw (le-ltb n (length (run S (suc n) .rows)) h, answer)
+
+  answer-more : (n : ℕ) → n < length (run S (suc n) .rows) → answer S n ≡ full
+  unfolding answer
+  answer-more n h = rw (lt-ltb n (length (run S (suc n) .rows)) h, answer)
 
   verdict-end : (x : Run S) → turn S x ≡ finished → verdict S x ≡ equal (length (x .rows))
   unfolding verdict
@@ -121,8 +119,8 @@ module _ (S : System) where
       go (inr h) = short h (turn S (run S (suc n))) refl
 
   -- full exactly when the row order needs more than n rows
-  pub full-iff : (n : ℕ) → (answer S n ≡ full) ↔ ((k : ℕ) × (n < length (run S k .rows)))
-  full-iff n = (λ e. (suc n, more (subst (Answered n) e (answered n))), λ p. answer-more n (needs-more n (p .0) (p .1)))
+  pub full-iff : (n : ℕ) → (answer S n ≡ full) ↔ NeedsMore S n
+  full-iff n = (λ e. record { after = suc n; more = more (subst (Answered n) e (answered n)) }, λ p. answer-more n (needs-more n (p .after) (p .more)))
     where
       more : Answered n full → n < length (run S (suc n) .rows)
       more (is-full h) = h
@@ -141,6 +139,13 @@ module _ (S : System) where
   pub answer-stopped : (n k : ℕ) → Stopped S (run S k) → length (run S k .rows) ≤ n → answer S n ≡ verdict S (run S k)
   answer-stopped n k ne h =
       answer-verdict n (subst (λ x. length (x .rows) ≤ n) (sym (settled n k ne h)) h) ∙ ap (verdict S) (settled n k ne h)
+
+  pub answer-finished : (n k : ℕ) → turn S (run S k) ≡ finished → length (run S k .rows) ≤ n → answer S n ≡ equal (length (run S k .rows))
+  answer-finished n k e h = answer-stopped n k (λ q. finished≢handling (sym e ∙ q)) h ∙ verdict-end (run S k) e
+
+  pub answer-telling : (n k γ : ℕ) → turn S (run S k) ≡ telling γ → length (run S k .rows) ≤ n
+      → answer S n ≡ different (run S k .handled) (entering S (run S k .rows) (run S k .handled)) (path S (run S k .rows) (run S k .handled) ++ (γ ∷ []))
+  answer-telling n k γ e h = answer-stopped n k (λ q. telling≢handling (sym e ∙ q)) h ∙ verdict-telling (run S k) γ e
 
   -- more rows lent, the same answer
   pub answer-kept : (n m : ℕ) → n ≤ m → (answer S n ≡ full → ⊥) → answer S m ≡ answer S n
@@ -171,7 +176,7 @@ module _ (S : System) where
 
   pub held-full : (n : ℕ) → answer S n ≡ full → length (held S n) ≡ n
   unfolding held
-  held-full n e = length-take-le n (run S (suc n) .rows) (omega (arith, needs-more n (full-iff n .0 e .0) (full-iff n .0 e .1)))
+  held-full n e = length-take-le n (run S (suc n) .rows) (omega (arith, needs-more n (full-iff n .0 e .after) (full-iff n .0 e .more)))
 
   -- rows enough: all rows of the stopped run are held
   pub held-stopped : (n k : ℕ) → Stopped S (run S k) → length (run S k .rows) ≤ n → held S n ≡ run S k .rows
@@ -180,4 +185,4 @@ module _ (S : System) where
 
   -- n rows in place and another to come: full, and those n are the rows held
   pub full-at : (n k : ℕ) {es : List (Entry S)} → Prefix es (run S k .rows) → length es ≡ n → n < length (run S k .rows) → (answer S n ≡ full) × (held S n ≡ es)
-  full-at n k {es} p e h = (full-iff n .1 (k, h), sym (held-first n k (omega arith)) ∙ prefix-take p n (omega arith) ∙ take-all n es (omega arith))
+  full-at n k {es} p e h = (full-iff n .1 (record { after = k; more = h }), sym (held-first n k (omega arith)) ∙ prefix-take p n (omega arith) ∙ take-all n es (omega arith))

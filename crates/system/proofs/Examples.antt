@@ -1,7 +1,7 @@
 -- The row order computes: a small system over two packets, whose laws hold. Packet 0 counts down from 2, packet 1 keeps the count; 0 is dead.
 -- Packet 1 tells where the count is t.
-use mathlib.Core.Path.{_≡_, refl, sym, _∙_, ap}
-use mathlib.Core.Bool.{Bool, true, false, _&&_}
+use mathlib.Core.Path.{_≡_, refl, _∙_, ap}
+use mathlib.Core.Bool.{true, _&&_}
 use mathlib.Core.List.{List, [], _∷_, map}
 use Prim.Native.Nat.{ℕ, zero, suc}
 use lib.Dec.{eqb, eqb·zero-suc}
@@ -53,15 +53,15 @@ last-depth : depth (toy 7) (held (toy 7) 4) 3 ≡ 2
 unfolding count toy lowest starts sameRow listed append appendNext lowestTelling turn handle runFrom run held climbing climb depth
 last-depth = refl
 
-equal-with-4096 : answer (toy 7) 4096 ≡ equal 4
+equal-with-64 : answer (toy 7) 64 ≡ equal 4
 unfolding count toy lowest starts sameRow listed append appendNext lowestTelling turn handle runFrom run answer verdict
-equal-with-4096 = refl
+equal-with-64 = refl
 
 full-with-3 : answer (toy 7) 3 ≡ full
 unfolding count toy lowest starts sameRow listed append appendNext lowestTelling turn handle runFrom run answer
 full-with-3 = refl
 
 -- Packet 1 tells at 1: at row 2, entered by 0, after the packet 0.
-different-at-2 : answer (toy 1) 4096 ≡ different 2 0 (0 ∷ 1 ∷ [])
+different-at-2 : answer (toy 1) 64 ≡ different 2 0 (0 ∷ 1 ∷ [])
 unfolding count toy lowest starts sameRow listed append appendNext lowestTelling turn handle runFrom run answer verdict climbing climb path entering
 different-at-2 = refl

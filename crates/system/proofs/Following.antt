@@ -1,9 +1,9 @@
 -- Where words lead: packets stay below N, states stay valid, and what is dead stays dead.
-use mathlib.Core.Path.{_≡_, refl, sym, _∙_, subst, ap}
-use mathlib.Core.Bool.{Bool, true, false}
+use mathlib.Core.Path.{_≡_, refl}
+use mathlib.Core.Bool.{true, false}
 use mathlib.Core.List.{List, [], _∷_, _++_}
-use Prim.Native.Nat.{ℕ, zero, suc, _≤_, _<_}
-use Rattle.system.specs.System.{System, Lawful, Row, startRow, nextRow, tells}
+use Prim.Native.Nat.{ℕ, _<_}
+use Rattle.system.specs.System.{System, Lawful, Row, nextRow, tells}
 use Rattle.system.specs.Words.{Word, end, then, follow}
 
 pub word-append : {n : ℕ} {v w : List ℕ} → Word n v → Word n w → Word n (v ++ w)

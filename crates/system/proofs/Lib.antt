@@ -9,5 +9,6 @@ pub mod Tables
 pub mod Shortest
 pub mod Answers
 pub mod Verdicts
+pub mod Counting
 pub mod Maps
 pub mod Examples

@@ -1,11 +1,11 @@
 -- Each listed row's line of parents: its path leads to it, depths never fall along the list, and they keep within a band of one.
-use mathlib.Core.Path.{_≡_, refl, sym, _∙_, subst, subst₂, ap}
+use mathlib.Core.Path.{_≡_, sym, _∙_, subst, subst₂, ap}
 use mathlib.Core.List.{List, [], _∷_, _++_}
 use mathlib.Core.Logic.{_⊎_, inl, inr}
-use Prim.Native.Nat.{ℕ, zero, suc, _≤_, _<_}
+use Prim.Native.Nat.{ℕ, suc, _≤_, _<_}
 use native.Mathlib.Omega.{arith}
 use lib.ListN.{length}
-use Rattle.system.specs.System.{System, Row, startRow, nextRow}
+use Rattle.system.specs.System.{System, startRow, nextRow}
 use Rattle.system.specs.Words.{Word, end, follow}
 use Rattle.system.specs.RowOrder.{Entry, startEntry, entryAt, climb, depth, path, entering}
 use Rattle.system.proofs.Basics.{lt-or-le, induction, Prefix, length-snoc}

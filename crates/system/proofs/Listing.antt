@@ -1,19 +1,19 @@
 -- What holds of the rows listed at any time of a run, and how handling a row keeps it.
 use mathlib.Core.Path.{_≡_, refl, sym, _∙_, subst, subst₂, ap}
-use mathlib.Core.Bool.{Bool, true, false, _&&_, _||_}
+use mathlib.Core.Bool.{Bool, true, false, _||_}
 use mathlib.Core.List.{List, [], _∷_, _++_}
 use mathlib.Core.Logic.{_⊎_, inl, inr, ⊎-elim}
 use Prim.Native.Nat.{ℕ, zero, suc, _≤_, _<_, suc-le-suc, zero-le}
 use native.Mathlib.Nat.{not-suc-le-zero, le-of-suc-le-suc}
 use native.Mathlib.Omega.{arith}
 use lib.Dec.{eqb}
-use lib.ListN.{length, getD}
+use lib.ListN.{length}
 use lib.Seq.{getD-append-seam}
 use borrow.Author.Tests.{eqb-true, eq-eqb}
-use Rattle.system.specs.System.{System, Lawful, Row, startRow, nextRow, tells}
+use Rattle.system.specs.System.{System, Lawful, Row, nextRow}
 use Rattle.system.specs.RowOrder.{Entry, startEntry, entryAt, starts, sameRow, listed, append, appendNext}
 use Rattle.system.specs.Tables.{Listed}
-use Rattle.system.proofs.Basics.{clash, or-true, or-false, and-true, last-or-before, lt-or-le, induction, Prefix, prefix-refl, prefix-trans, prefix-snoc, prefix-length, prefix-at, Place, old, last, length-snoc, place}
+use Rattle.system.proofs.Basics.{clash, or-true, or-false, and-true, last-or-before, lt-or-le, Prefix, prefix-refl, prefix-trans, prefix-snoc, prefix-length, prefix-at, Place, old, last, length-snoc, place}
 use Rattle.system.proofs.Climb.{Earlier}
 
 module _ (S : System) where

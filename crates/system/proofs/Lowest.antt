@@ -1,8 +1,8 @@
 -- The lowest number that passes a test.
-use mathlib.Core.Path.{_≡_, refl, sym, _∙_, subst, ap}
+use mathlib.Core.Path.{_≡_, refl, sym, subst, ap}
 use mathlib.Core.Bool.{Bool, true, false}
 use mathlib.Core.Logic.{_⊎_, inl, inr}
-use mathlib.Core.Option.{Option, none, some, Option·none-ne-some, Option·some-ne-none, Option·some-injective}
+use mathlib.Core.Option.{Option, none, some}
 use Prim.Native.Nat.{ℕ, zero, suc, _≤_, _<_}
 use native.Mathlib.Nat.{not-suc-le-zero}
 use native.Mathlib.Omega.{arith}
@@ -36,24 +36,6 @@ unfolding lowest
 lowest-found zero test = nowhere (λ j h. absurd (not-suc-le-zero h))
 lowest-found (suc n) test = more n test (lowest n test) (lowest-found n test)
 
-pub lowest-none : (n : ℕ) (test : ℕ → Bool) → lowest n test ≡ none → (j : ℕ) → j < n → test j ≡ false
-lowest-none n test e = go (lowest n test) (lowest-found n test) e
-  where
-    go : (o : Option ℕ) → Found n test o → o ≡ none → (j : ℕ) → j < n → test j ≡ false
-    go none (nowhere f) q = f
-    go (some γ) (at l) q = absurd (Option·some-ne-none γ q)
-
-pub lowest-some : (n : ℕ) (test : ℕ → Bool) (γ : ℕ) → lowest n test ≡ some γ → Lowest n test γ
-lowest-some n test γ e = subst (Found′ n test) e (found′ (lowest-found n test))
-  where
-    Found′ : ℕ → (ℕ → Bool) → Option ℕ → Type 0
-    Found′ m t none = Unit {0}
-    Found′ m t (some δ) = Lowest m t δ
-
-    found′ : {o : Option ℕ} → Found n test o → Found′ n test o
-    found′ (nowhere f) = tt
-    found′ (at l) = l
-
 -- there is one lowest number
 pub lowest-unique : {n : ℕ} {test : ℕ → Bool} {γ δ : ℕ} → Lowest n test γ → Lowest n test δ → γ ≡ δ
 lowest-unique {γ = γ} {δ = δ} a b = go (lt-or-le γ δ) (lt-or-le δ γ)
@@ -76,11 +58,3 @@ none-lowest {n} {test} f = go (lowest-found n test)
     go : {o : Option ℕ} → Found n test o → o ≡ none
     go (nowhere g) = refl
     go (at {γ = γ} m) = clash (m .passes) (f γ (m .small))
-
--- tests that agree below n have the same lowest number
-pub lowest-same : (n : ℕ) (f g : ℕ → Bool) → ((j : ℕ) → j < n → f j ≡ g j) → lowest n f ≡ lowest n g
-lowest-same n f g e = go (lowest-found n g)
-  where
-    go : {o : Option ℕ} → Found n g o → lowest n f ≡ o
-    go (nowhere h) = none-lowest (λ j l. e j l ∙ h j l)
-    go (at {γ = γ} m) = lowest-is (record { small = m .small; passes = e γ (m .small) ∙ m .passes; least = λ j l. e j (omega (arith, m .small)) ∙ m .least j l })

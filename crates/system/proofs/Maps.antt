@@ -4,16 +4,13 @@ use mathlib.Core.Bool.{Bool, true, false, _&&_, _||_}
 use mathlib.Core.List.{List, [], _∷_, _++_, map, map-append}
 use mathlib.Core.Logic.{_⊎_, inl, inr}
 use Prim.Native.Nat.{ℕ, zero, suc, _≤_, _<_, suc-le-suc, zero-le}
-use native.Mathlib.Nat.{le-of-suc-le-suc}
 use native.Mathlib.Omega.{arith}
 use lib.Dec.{eqb, ltb}
 use lib.ListN.{length, getD, take, length-map, List·getD-map}
-use borrow.Author.Tests.{ltb-true, ltb-false, lt-ltb, le-ltb}
-use Rattle.system.specs.System.{System, Lawful, Row, startRow, nextRow, tells}
-use Rattle.system.specs.RowOrder.{Entry, Run, Turn, finished, telling, handling, startEntry, entryAt, starts, sameRow, listed, append, appendNext, current, turn, handle, runFrom, begin, run, climbing, climb, depth, path, entering, verdict, Answer, full, equal, different, answer, held}
-use Rattle.system.proofs.Lowest.{Lowest}
+use Rattle.system.specs.System.{System, Lawful, Row, nextRow, tells}
+use Rattle.system.specs.RowOrder.{Entry, Run, Turn, finished, telling, handling, startEntry, entryAt, starts, sameRow, listed, append, appendNext, current, turn, handle, runFrom, run, climbing, climb, depth, path, entering, verdict, Answer, full, equal, different, answer, held}
 use Rattle.system.proofs.Basics.{clash}
-use Rattle.system.proofs.Listing.{Listing, Grown, grown, weaken, append-kept, append-new}
+use Rattle.system.proofs.Listing.{Listing, grown, weaken, append-kept, append-new}
 use Rattle.system.proofs.Runs.{Invariant, invariant, Turned, at-end, at-telling, at-row, turned, turn-end, turn-telling, turn-row, Stopped, going-or-stopped, row-turn, run-handle, run-stay}
 
 take-map : {A B : Type 0} (f : A → B) (n : ℕ) (xs : List A) → take n (map f xs) ≡ map f (take n xs)

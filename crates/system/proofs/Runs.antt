@@ -1,7 +1,7 @@
 -- A run, one row handled after another: how it goes on, and what holds at any time of it.
 use mathlib.Core.Path.{_≡_, refl, sym, _∙_, subst, ap}
 use mathlib.Core.Bool.{Bool, true, false}
-use mathlib.Core.List.{List, [], _∷_, _++_}
+use mathlib.Core.List.{List}
 use mathlib.Core.Logic.{_⊎_, inl, inr, ⊎-elim}
 use mathlib.Core.Option.{Option, none, some}
 use Prim.Native.Nat.{ℕ, zero, suc, _≤_, _<_}
@@ -13,7 +13,7 @@ use borrow.Author.Tests.{ltb-true, ltb-false, lt-ltb, le-ltb}
 use Rattle.system.specs.System.{System, Lawful, Row, nextRow, tells}
 use Rattle.system.specs.RowOrder.{lowest, Entry, startEntry, entryAt, Run, Turn, finished, telling, handling, lowestTelling, current, turn, handle, runFrom, begin, run}
 use Rattle.system.specs.Tables.{Listed}
-use Rattle.system.proofs.Basics.{clash, last-or-before, Prefix, prefix-refl, prefix-trans, prefix-length, prefix-at}
+use Rattle.system.proofs.Basics.{clash, last-or-before, Prefix, prefix-length, prefix-at}
 use Rattle.system.proofs.Lowest.{Lowest, Found, nowhere, at, lowest-found, lowest-is, none-lowest}
 use Rattle.system.proofs.Listing.{Listing, listing-starts, weaken, Grown, grown, listed-kept}
 
@@ -22,11 +22,11 @@ isHandling finished = false
 isHandling (telling γ) = false
 isHandling handling = true
 
-finished≢handling : finished ≡ handling → ⊥
+pub finished≢handling : finished ≡ handling → ⊥
 unfolding isHandling
 finished≢handling e = clash (ap isHandling e) refl
 
-telling≢handling : {γ : ℕ} → telling γ ≡ handling → ⊥
+pub telling≢handling : {γ : ℕ} → telling γ ≡ handling → ⊥
 unfolding isHandling
 telling≢handling e = clash (ap isHandling e) refl
 
@@ -132,6 +132,10 @@ module _ (S : System) where
       go : (turn S x ≡ handling) ⊎ Stopped x → runFrom S (suc k) (handle S x) ≡ step (runFrom S k (handle S x)) → runFrom S (suc (suc k)) x ≡ step (runFrom S (suc k) x)
       go (inl e) ih = runFrom-go (suc k) x e ∙ ih ∙ ap step (sym (runFrom-go k x e))
       go (inr ne) ih = runFrom-stay (suc (suc k)) x ne ∙ sym (step-stay x ne) ∙ ap step (sym (runFrom-stay (suc k) x ne))
+
+  pub run-begin : run S 0 ≡ begin S
+  unfolding run runFrom
+  run-begin = refl
 
   pub run-handle : (k : ℕ) → turn S (run S k) ≡ handling → run S (suc k) ≡ handle S (run S k)
   unfolding run

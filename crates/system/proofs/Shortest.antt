@@ -1,15 +1,15 @@
 -- Rows are listed at their least depth, so that the first telling row has a shortest telling word.
-use mathlib.Core.Path.{_≡_, refl, sym, _∙_, subst, ap}
-use mathlib.Core.Bool.{Bool, true, false}
-use mathlib.Core.List.{List, [], _∷_}
-use mathlib.Core.Logic.{_⊎_, inl, inr, ⊎-elim}
-use Prim.Native.Nat.{ℕ, zero, suc, _+_, _≤_, _<_}
-use native.Mathlib.Nat.{add-zero, add-suc, suc-add, zero-add}
+use mathlib.Core.Path.{_≡_, sym, subst, ap}
+use mathlib.Core.Bool.{true, false}
+use mathlib.Core.List.{List}
+use mathlib.Core.Logic.{_⊎_, inl, inr}
+use Prim.Native.Nat.{ℕ, suc, _+_, _≤_, _<_}
+use native.Mathlib.Nat.{add-zero, zero-add}
 use native.Mathlib.Omega.{arith}
 use lib.ListN.{length}
 use Rattle.system.specs.System.{System, Lawful, Row, startRow, nextRow, tells}
 use Rattle.system.specs.Words.{Word, end, then, follow, SilentBelow}
-use Rattle.system.specs.RowOrder.{Entry, entryAt, Run, current, telling, turn, depth, path, entering}
+use Rattle.system.specs.RowOrder.{Entry, Run, current, telling, turn, depth, path, entering}
 use Rattle.system.specs.Tables.{Listed}
 use Rattle.system.proofs.Basics.{lt-or-le}
 use Rattle.system.proofs.Lowest.{Lowest}

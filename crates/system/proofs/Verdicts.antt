@@ -2,17 +2,15 @@
 use mathlib.Core.Path.{_≡_, refl, sym, _∙_, subst, ap}
 use mathlib.Core.List.{List, [], _∷_, _++_}
 use mathlib.Core.Logic.{_⊎_, inl, inr}
-use Prim.Native.Nat.{ℕ, suc, _≤_, _<_}
-use native.Mathlib.Omega.{arith}
+use Prim.Native.Nat.{ℕ, suc, _<_}
 use lib.ListN.{length}
 use Rattle.system.specs.System.{System, Lawful}
 use Rattle.system.specs.Words.{Silent}
-use Rattle.system.specs.RowOrder.{Entry, Run, finished, telling, handling, turn, run, depth, path, entering, Answer, full, equal, different, answer, held}
+use Rattle.system.specs.RowOrder.{run, depth, path, entering, Answer, full, equal, different, answer, held}
 use Rattle.system.specs.Tables.{Closed, Sound, Listed}
 use Rattle.system.proofs.Basics.{length-snoc}
-use Rattle.system.proofs.Listing.{Listing}
 use Rattle.system.proofs.Runs.{Invariant, invariant, telling-turn}
-use Rattle.system.proofs.Lines.{Line, line-of}
+use Rattle.system.proofs.Lines.{line-of}
 use Rattle.system.proofs.Tables.{closed-silent, finished-closed, listing-sound, silent-never}
 use Rattle.system.proofs.Shortest.{Shortest, shortest}
 use Rattle.system.proofs.Answers.{Answered, is-full, is-equal, is-different, answered, short-stops, held-stopped}

@@ -2,7 +2,7 @@
 use mathlib.Core.Bool.{Bool, true, false, _&&_, _||_}
 use mathlib.Core.List.{List, [], _∷_, _++_}
 use mathlib.Core.Option.{Option, none, some}
-use Prim.Native.Nat.{ℕ, zero, suc}
+use Prim.Native.Nat.{ℕ, zero, suc, _<_}
 use lib.Dec.{eqb, ltb}
 use lib.ListN.{length, getD, take}
 use Rattle.system.specs.System.{System, Row, startRow, nextRow, tells}
@@ -90,6 +90,11 @@ module _ (S : System) where
 
   unfoldable pub run : ℕ → Run S
   run k = runFrom k begin
+
+  -- the row order needs more than n rows
+  pub record NeedsMore (n : ℕ) : Type 0 where
+    pub after : ℕ
+    pub more : n < length (run after .rows)
 
   -- A value is read off a row's line of parents: `first` at the starting row, `below` at each row under it.
   -- A parent comes before its row, so that i parents lead from row i to a starting row.
