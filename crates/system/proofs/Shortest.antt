@@ -15,7 +15,7 @@ use Rattle.system.proofs.Basics.{lt-or-le}
 use Rattle.system.proofs.Lowest.{Lowest}
 use Rattle.system.proofs.Following.{follow-small, follow-dead, dead-tells}
 use Rattle.system.proofs.Runs.{Invariant, Under, telling-turn}
-use Rattle.system.proofs.Lines.{Line, line-of, depth-start, depth-ordered, depth-near}
+use Rattle.system.proofs.Lines.{Line, line-of, depth-start, depth-ordered, depth-near, depth-band}
 
 module _ (S : System) where
   -- the row is listed at depth d at most
@@ -74,6 +74,10 @@ module _ (S : System) where
           shallow = omega (arith, depth-start S (I .listing) α h);
         })
         (omega arith))
+
+    -- the band: no row listed lies more than one deeper than the row to handle
+    pub band : x .handled < length (x .rows) → (i : ℕ) → i < length (x .rows) → depth S (x .rows) i ≤ suc (depth S (x .rows) (x .handled))
+    band h i l = depth-band S (I .listing) i (x .handled) l h (omega arith)
 
     -- rows less deep than the row to handle have been handled
     pub handled-below : x .handled < length (x .rows) → HandledBelow x (depth S (x .rows) (x .handled))

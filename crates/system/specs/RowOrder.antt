@@ -42,6 +42,7 @@ module _ (S : System) where
   starts zero = []
   starts (suc n) = starts n ++ (startEntry n ∷ [])
 
+  -- the same packet and the same state
   unfoldable pub sameRow : Row S → Row S → Bool
   sameRow a b = eqb (a .packet) (b .packet) && S .same (a .state) (b .state)
 
@@ -69,6 +70,7 @@ module _ (S : System) where
   abbrev pub current : Run S → Row S
   current x = entryAt (x .rows) (x .handled) .row
 
+  -- handling a row looks first whether it tells
   unfoldable pub turn : Run S → Turn
   turn x =
       elim (ltb (x .handled) (length (x .rows))) [
@@ -85,9 +87,11 @@ module _ (S : System) where
   runFrom zero x = x
   runFrom (suc k) x = elim (turn x) [ finished ↦ x | telling γ ↦ x | handling ↦ runFrom k (handle x) ]
 
+  -- the starting rows, none of them handled
   abbrev pub begin : Run S
   begin = record { rows = starts (S .packets); handled = 0 }
 
+  -- the row order after k rows, or where it ends before
   unfoldable pub run : ℕ → Run S
   run k = runFrom k begin
 
@@ -127,6 +131,7 @@ pub data Answer : Type 0 where
   different : ℕ → ℕ → List ℕ → Answer
 
 module _ (S : System) where
+  -- what a run that has stopped answers; one that goes on would need more rows
   unfoldable pub verdict : Run S → Answer
   verdict x =
       elim (turn S x) [
