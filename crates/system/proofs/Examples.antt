@@ -1,0 +1,67 @@
+-- The row order computes: a small system over two packets, whose laws hold. Packet 0 counts down from 2, packet 1 keeps the count; 0 is dead.
+-- Packet 1 tells where the count is t.
+use mathlib.Core.Path.{_≡_, refl, _∙_, ap}
+use mathlib.Core.Bool.{true, _&&_}
+use mathlib.Core.List.{List, [], _∷_, map}
+use Prim.Native.Nat.{ℕ, zero, suc}
+use lib.Dec.{eqb, eqb·zero-suc}
+use borrow.Author.Tests.{eqb-true, eq-eqb}
+use Rattle.system.specs.System.{System, Lawful}
+use Rattle.system.specs.RowOrder.{Entry, lowest, starts, sameRow, listed, append, appendNext, lowestTelling, turn, handle, runFrom, run, climbing, climb, depth, path, entering, answer, verdict, held, full, equal, different}
+
+count : ℕ → ℕ → ℕ
+count zero γ = 0
+count (suc s) zero = s
+count (suc s) (suc γ) = suc s
+
+toy : ℕ → System
+toy t =
+    record {
+      State = ℕ;
+      same = eqb;
+      packets = 2;
+      start = 2;
+      next = λ β s γ. count s γ;
+      dead = λ s. eqb s 0;
+      telling = λ β s γ. eqb s t && eqb γ 1;
+      valid = λ s. true;
+    }
+
+lawful : (t : ℕ) → Lawful (toy (suc t))
+unfolding toy count
+lawful t =
+    record {
+      same-refl = λ s. eq-eqb s s refl;
+      same-eq = eqb-true;
+      dead-silent = λ β s γ h l d. ap (λ n. eqb n (suc t) && eqb γ 1) (eqb-true s 0 d) ∙ ap (λ b. b && eqb γ 1) (eqb·zero-suc t);
+      dead-next = λ β s γ h l d. ap (λ n. eqb (count n γ) 0) (eqb-true s 0 d);
+      start-valid = refl;
+      next-valid = λ β s γ h l v. refl;
+    }
+
+-- packet, state and parent of each row
+table : (t : ℕ) → List (Entry (toy t)) → List (List ℕ)
+unfolding toy
+table t = map (λ e. e .row .packet ∷ e .row .state ∷ e .parent ∷ [])
+
+-- Nothing tells at 7: four rows, the last at depth 2.
+all-rows : table 7 (held (toy 7) 4) ≡ (0 ∷ 2 ∷ 0 ∷ []) ∷ (1 ∷ 2 ∷ 1 ∷ []) ∷ (0 ∷ 1 ∷ 0 ∷ []) ∷ (1 ∷ 1 ∷ 2 ∷ []) ∷ []
+unfolding count toy table lowest starts sameRow listed append appendNext lowestTelling turn handle runFrom run held
+all-rows = refl
+
+last-depth : depth (toy 7) (held (toy 7) 4) 3 ≡ 2
+unfolding count toy lowest starts sameRow listed append appendNext lowestTelling turn handle runFrom run held climbing climb depth
+last-depth = refl
+
+equal-with-64 : answer (toy 7) 64 ≡ equal 4
+unfolding count toy lowest starts sameRow listed append appendNext lowestTelling turn handle runFrom run answer verdict
+equal-with-64 = refl
+
+full-with-3 : answer (toy 7) 3 ≡ full
+unfolding count toy lowest starts sameRow listed append appendNext lowestTelling turn handle runFrom run answer
+full-with-3 = refl
+
+-- Packet 1 tells at 1: at row 2, entered by 0, after the packet 0.
+different-at-2 : answer (toy 1) 64 ≡ different 2 0 (0 ∷ 1 ∷ [])
+unfolding count toy lowest starts sameRow listed append appendNext lowestTelling turn handle runFrom run answer verdict climbing climb path entering
+different-at-2 = refl

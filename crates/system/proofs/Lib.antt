@@ -1,0 +1,14 @@
+pub mod Basics
+pub mod Lowest
+pub mod Climb
+pub mod Listing
+pub mod Runs
+pub mod Following
+pub mod Lines
+pub mod Tables
+pub mod Shortest
+pub mod Answers
+pub mod Verdicts
+pub mod Counting
+pub mod Maps
+pub mod Examples
