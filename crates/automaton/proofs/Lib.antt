@@ -1,1 +1,4 @@
+pub mod Tests
+pub mod Masks
+pub mod Words
 pub mod Examples
