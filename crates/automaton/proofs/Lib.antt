@@ -1,4 +1,5 @@
 pub mod Tests
 pub mod Masks
 pub mod Words
+pub mod Spines
 pub mod Examples
