@@ -2,4 +2,5 @@ pub mod Tests
 pub mod Masks
 pub mod Words
 pub mod Spines
+pub mod Fundamental
 pub mod Examples
