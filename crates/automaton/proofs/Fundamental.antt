@@ -9,7 +9,7 @@ use Rattle.automaton.specs.Remainder.{HasDup, DistinctLabels}
 use Rattle.automaton.proofs.Words.{Rel, Then, Star, done, more, Tr}
 use Rattle.automaton.proofs.Spines.{Onward, Meets, Rem, RemMeets, meets-has, rem-has, rem-meets-has}
 
-nil-split : {A : Type 0} (u v : List A) → [] ≡ u ++ v → (u ≡ []) × (v ≡ [])
+pub nil-split : {A : Type 0} (u v : List A) → [] ≡ u ++ v → (u ≡ []) × (v ≡ [])
 nil-split [] v e = (refl, sym e)
 nil-split (c ∷ u) v e = absurd (nil≢cons e)
 

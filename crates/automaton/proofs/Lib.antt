@@ -3,4 +3,6 @@ pub mod Masks
 pub mod Words
 pub mod Spines
 pub mod Fundamental
+pub mod Sets
+pub mod Flow
 pub mod Examples
