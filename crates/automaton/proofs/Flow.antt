@@ -24,7 +24,7 @@ use Rattle.automaton.proofs.Masks.{bit-zero}
 use Rattle.automaton.proofs.Words.{Acts, Tr, Star, done, more, Then}
 use Rattle.automaton.proofs.Spines.{Meets, Rem, RemMeets}
 use Rattle.automaton.proofs.Fundamental.{nil-split, Gives, through, after, Enters, straight, later, Out, gives-map, enters-map, gives-sum, enters-sum, gives-seq-nil, enters-seq, star-once, star-none, enters-star}
-use Rattle.automaton.proofs.Sets.{Fits, below, setOf-fits, union-fits, union-iff, same-set, start-iff, image-fits, image-iff, rounds-fits, round-iff, rounds-enough}
+use Rattle.automaton.proofs.Sets.{Fits, below, setOf-fits, union-fits, union-iff, same-set, start-fits, start-iff, image-fits, image-iff, rounds-fits, round-iff, rounds-enough}
 
 -- ---- changed packets are below N
 
@@ -64,14 +64,14 @@ module _ (sizes : List ℕ) (marks : Marks) (β : ℕ) where
   -- ---- sets stay below N
 
   pub flow-fits : (p : Policy) (X : PacketSet) → Fits sizes X → Fits sizes (flow sizes marks β p X)
-  unfolding flow start
+  unfolding flow
   flow-fits drop X h = pow-pos (product sizes)
   flow-fits id X h = h
   flow-fits (field a) X h = image-fits sizes a X
-  flow-fits (dup i) X h = setOf-fits sizes _
+  flow-fits (dup i) X h = start-fits sizes marks β i
   flow-fits (sum p q) X h = union-fits sizes (flow sizes marks β p X) (flow sizes marks β q X)
   flow-fits (seq p q) X h = flow-fits q (flow sizes marks β p X) (flow-fits p X h)
-  flow-fits (star p) X h = rounds-fits sizes (flow sizes marks β p) (flow-fits p) X h (product sizes)
+  flow-fits (star p) X h = rounds-fits sizes (flow sizes marks β p) (flow-fits p) X h _
 
   pub enter-fits : (p : Policy) (X : PacketSet) → Fits sizes X → (i : ℕ) → Fits sizes (enter sizes marks β p X i)
   unfolding enter
@@ -87,12 +87,16 @@ module _ (sizes : List ℕ) (marks : Marks) (β : ℕ) where
   enter-fits (seq p q) X h i = union-fits sizes (enter sizes marks β p X i) (enter sizes marks β q (flow sizes marks β p X) i)
   enter-fits (star p) X h i = enter-fits p (flow sizes marks β (star p) X) (flow-fits (star p) X h) i
 
-module _ (sizes : List ℕ) (marks : Marks) (β : ℕ) (inside : β < product sizes) where
+-- remainder j is marked, at a packet below N
+abbrev pub Marked : List ℕ → Marks → ℕ → ℕ → Type 0
+Marked sizes marks β j = T (marks j) × (β < product sizes)
+
+module _ (sizes : List ℕ) (marks : Marks) (β : ℕ) where
   abbrev P : Packets
   P = numbered sizes
 
   abbrev M : ℕ → Type 0
-  M j = T (marks j)
+  M = Marked sizes marks β
 
   abbrev In : PacketSet → ℕ → Type 0
   In X α = T (bit X α)
@@ -141,9 +145,10 @@ module _ (sizes : List ℕ) (marks : Marks) (β : ℕ) (inside : β < product si
         walk Z close (close (r .μ) (after j m (subst (λ x. Rem P p j β x (r .μ)) (k .0) (r .first)))) (r .second) (sym (k .1))
 
     star-exact : (γ : ℕ) → In (S (product sizes)) γ ↔ Out P M β (star p) (In X) γ
-    star-exact γ =
-        ( sound (product sizes) γ
-        , complete (S (product sizes)) (contains (product sizes)) (λ μ g. closed μ (exact (S (product sizes)) (fits (product sizes)) μ .1 g)) γ )
+    star-exact γ = (
+      sound (product sizes) γ,
+      complete (S (product sizes)) (contains (product sizes)) (λ μ g. closed μ (exact (S (product sizes)) (fits (product sizes)) μ .1 g)) γ,
+    )
 
   nothing : (γ : ℕ) → In 0 γ → ⊥
   nothing γ t = subst T (bit-zero γ) t
@@ -165,14 +170,15 @@ module _ (sizes : List ℕ) (marks : Marks) (β : ℕ) (inside : β < product si
     where
       e : In (image sizes a X) γ ↔ ((α : ℕ) × In X α × Acts P a α γ)
       e = image-iff sizes a (keeps sizes a f) X h γ
+
       back : Out P M β (field a) (In X) γ → In (image sizes a X) γ
       back (through α x t) = e .1 (α, x, t .1)
       back (after j m r) = absurd r
-  flow-iff (dup i) f X h γ = (λ t. let r = start-iff sizes marks β inside i γ .0 t in after i (r .0) (refl, refl, r .1), back)
+  flow-iff (dup i) f X h γ = (λ t. let r = start-iff sizes marks β i γ .0 t in after i (r .0) (refl, refl, r .1), back)
     where
       back : Out P M β (dup i) (In X) γ → In (start sizes marks β i) γ
       back (through α x t) = absurd (nil≢cons (t .0))
-      back (after j m r) = start-iff sizes marks β inside i γ .1 (subst M (r .0) m, r .2)
+      back (after j m r) = start-iff sizes marks β i γ .1 (subst M (r .0) m, r .2)
   flow-iff (sum p q) f X h γ =
       let e = union-iff sizes (flow sizes marks β p X) (flow sizes marks β q X) (flow-fits sizes marks β p X h) (flow-fits sizes marks β q X h) γ in
       let k = gives-sum P M β p q (In X) [] γ in
@@ -183,9 +189,10 @@ module _ (sizes : List ℕ) (marks : Marks) (β : ℕ) (inside : β < product si
       let Y = flow sizes marks β p X in
       let k = gives-seq-nil P M β p q (In X) γ in
       let a = flow-iff p (f .0) X h in
-      let b = flow-iff q (f .1) Y (flow-fits sizes marks β p X h) γ in
-      ( λ t. k .1 (gives-map P M β q (In Y) (Out P M β p (In X)) (λ α. a α .0) (b .0 t))
-      , λ g. b .1 (gives-map P M β q (Out P M β p (In X)) (In Y) (λ α. a α .1) (k .0 g)) )
+      let b = flow-iff q (f .1) Y (flow-fits sizes marks β p X h) γ in (
+        λ t. k .1 (gives-map P M β q (In Y) (Out P M β p (In X)) (λ α. a α .0) (b .0 t)),
+        λ g. b .1 (gives-map P M β q (Out P M β p (In X)) (In Y) (λ α. a α .1) (k .0 g)),
+      )
   flow-iff (star p) f X h γ = star-exact p (flow-iff p f) X h γ
 
   -- the packets that enter dup i, exactly
@@ -232,13 +239,29 @@ module _ (sizes : List ℕ) (marks : Marks) (β : ℕ) (inside : β < product si
       let k = enters-seq P M β p q (In X) i γ in
       let a = enter-iff p (f .0) X h i γ in
       let b = enter-iff q (f .1) Y hy i γ in
-      let c = flow-iff p (f .0) X h in
-      ( λ t. k .1 (⊎-map (a .0) (λ s. enters-map P M β q (In Y) (Out P M β p (In X)) (λ α. c α .0) (b .0 s)) (e .0 t))
-      , λ g. e .1 (⊎-map (a .1) (λ s. b .1 (enters-map P M β q (Out P M β p (In X)) (In Y) (λ α. c α .1) s)) (k .0 g)) )
+      let c = flow-iff p (f .0) X h in (
+        λ t. k .1 (⊎-map (a .0) (λ s. enters-map P M β q (In Y) (Out P M β p (In X)) (λ α. c α .0) (b .0 s)) (e .0 t)),
+        λ g. e .1 (⊎-map (a .1) (λ s. b .1 (enters-map P M β q (Out P M β p (In X)) (In Y) (λ α. c α .1) s)) (k .0 g)),
+      )
   enter-iff (star p) f X h i γ =
       let Y = flow sizes marks β (star p) X in
       let k = enters-star P M β p (In X) i γ in
       let b = enter-iff p f Y (flow-fits sizes marks β (star p) X h) i γ in
-      let c = flow-iff (star p) f X h in
-      ( λ t. k .1 (enters-map P M β p (In Y) (Out P M β (star p) (In X)) (λ α. c α .0) (b .0 t))
-      , λ g. b .1 (enters-map P M β p (Out P M β (star p) (In X)) (In Y) (λ α. c α .1) (k .0 g)) )
+      let c = flow-iff (star p) f X h in (
+        λ t. k .1 (enters-map P M β p (In Y) (Out P M β (star p) (In X)) (λ α. c α .0) (b .0 t)),
+        λ g. b .1 (enters-map P M β p (Out P M β (star p) (In X)) (In Y) (λ α. c α .1) (k .0 g)),
+      )
+
+  -- ---- laws of flow alone
+
+  pub flow-mono : (p : Policy) → InFields sizes p → (X Y : PacketSet) → Fits sizes X → Fits sizes Y → ((α : ℕ) → In X α → In Y α) → (γ : ℕ)
+      → In (flow sizes marks β p X) γ → In (flow sizes marks β p Y) γ
+  flow-mono p f X Y hx hy sub γ t = flow-iff p f Y hy γ .1 (gives-map P M β p (In X) (In Y) sub (flow-iff p f X hx γ .0 t))
+
+  -- a star's set is the only one within it that holds X and what the body makes of it
+  pub star-unique : (p : Policy) → InFields sizes p → (X Z : PacketSet) → Fits sizes X → Fits sizes Z → ((γ : ℕ) → In X γ → In Z γ)
+      → ((γ : ℕ) → In (flow sizes marks β p Z) γ → In Z γ) → ((γ : ℕ) → In Z γ → In (flow sizes marks β (star p) X) γ) → Z ≡ flow sizes marks β (star p) X
+  unfolding InFields
+  star-unique p f X Z hx hz has close within =
+      same-set sizes Z (flow sizes marks β (star p) X) hz (flow-fits sizes marks β (star p) X hx) within
+      (λ γ t. complete p (flow-iff p f) X hx Z has (λ μ g. close μ (flow-iff p f Z hz μ .1 g)) γ (flow-iff (star p) f X hx γ .0 t))

@@ -50,6 +50,7 @@ module _ (P : Packets) (M : ℕ → Type 0) (β : P .Packet) where
       there (through α x (inr t)) = inr (through α x t)
       there (after j m (inl t)) = inl (after j m t)
       there (after j m (inr t)) = inr (after j m t)
+
       back : Gives p X w δ ⊎ Gives q X w δ → Gives (sum p q) X w δ
       back (inl (through α x t)) = through α x (inl t)
       back (inl (after j m t)) = after j m (inl t)
@@ -65,6 +66,7 @@ module _ (P : Packets) (M : ℕ → Type 0) (β : P .Packet) where
       there (straight α x (inr t)) = inr (straight α x t)
       there (later j m (inl t)) = inl (later j m t)
       there (later j m (inr t)) = inr (later j m t)
+
       back : Enters p X i γ ⊎ Enters q X i γ → Enters (sum p q) X i γ
       back (inl (straight α x t)) = straight α x (inl t)
       back (inl (later j m t)) = later j m (inl t)
@@ -86,11 +88,13 @@ module _ (P : Packets) (M : ℕ → Type 0) (β : P .Packet) where
       cut A α f t =
           let e = nil-split (t .u) (t .v) (t .split) in
           through (t .μ) (f (t .μ) (subst (λ (x : List (P .Packet)). A α x (t .μ)) (e .0) (t .first)))
-            (subst (λ (x : List (P .Packet)). Tr P q (t .μ) x δ) (e .1) (t .second))
+          (subst (λ (x : List (P .Packet)). Tr P q (t .μ) x δ) (e .1) (t .second))
+
       there : Out (seq p q) X δ → Out q (Out p X) δ
       there (through α x t) = cut (Tr P p) α (λ μ h. through α x h) t
       there (after j m (inl t)) = cut (Rem P p j) β (λ μ h. after j m h) t
       there (after j m (inr r)) = after j m r
+
       back : Out q (Out p X) δ → Out (seq p q) X δ
       back (through μ g h) = seq-join p q X [] [] [] μ δ refl g h
       back (after j m r) = after j m (inr r)
@@ -109,18 +113,20 @@ module _ (P : Packets) (M : ℕ → Type 0) (β : P .Packet) where
       cut A α f [] v μ e a t = inr (through μ (f [] μ a) (subst (λ (x : List (P .Packet)). Tr P q μ x δ) (sym e) t))
       cut A α f (c ∷ u) v μ e a t =
           inl
-            (record
-            { u = u
-            ; v = v
-            ; μ = μ
-            ; split = tail-eq-of-cons-eq e
-            ; first = subst (λ (x : P .Packet). Gives p X (x ∷ u) μ) (sym (head-eq-of-cons-eq e)) (f (c ∷ u) μ a)
-            ; second = t
-            })
+          (record {
+            u = u;
+            v = v;
+            μ = μ;
+            split = tail-eq-of-cons-eq e;
+            first = subst (λ (x : P .Packet). Gives p X (x ∷ u) μ) (sym (head-eq-of-cons-eq e)) (f (c ∷ u) μ a);
+            second = t;
+          })
+
       there : Gives (seq p q) X (γ ∷ w) δ → Then P (Records p X γ) (Tr P q) β w δ ⊎ Gives q (Out p X) (γ ∷ w) δ
       there (through α x t) = cut (Tr P p) α (λ u μ h. through α x h) (t .u) (t .v) (t .μ) (t .split) (t .first) (t .second)
       there (after j m (inl t)) = cut (Rem P p j) β (λ u μ h. after j m h) (t .u) (t .v) (t .μ) (t .split) (t .first) (t .second)
       there (after j m (inr r)) = inr (after j m r)
+
       back : Then P (Records p X γ) (Tr P q) β w δ ⊎ Gives q (Out p X) (γ ∷ w) δ → Gives (seq p q) X (γ ∷ w) δ
       back (inl t) = seq-join p q X (γ ∷ w) (γ ∷ t .u) (t .v) (t .μ) δ (ap (λ (x : List (P .Packet)). γ ∷ x) (t .split)) (t .first) (t .second)
       back (inr (through μ g h)) = seq-join p q X (γ ∷ w) [] (γ ∷ w) μ δ refl g h
@@ -136,6 +142,7 @@ module _ (P : Packets) (M : ℕ → Type 0) (β : P .Packet) where
       there (later j m (inl (inl r))) = inl (later j m r)
       there (later j m (inl (inr h))) = inr (straight (h .0) (after j m (h .1)) (h .2))
       there (later j m (inr r)) = inr (later j m r)
+
       back : Enters p X i γ ⊎ Enters q (Out p X) i γ → Enters (seq p q) X i γ
       back (inl (straight α x h)) = straight α x (inl h)
       back (inl (later j m r)) = later j m (inl (inl r))
@@ -157,14 +164,14 @@ module _ (P : Packets) (M : ℕ → Type 0) (β : P .Packet) where
   star-join p X w u v μ δ e (through α x s) t = through α x (star-append (Tr P p) w v e s t)
   star-join p X w u v μ δ e (after j m r) t =
       after j m
-        (record
-        { u = r .u
-        ; v = r .v ++ v
-        ; μ = r .μ
-        ; split = e ∙ ap (λ x. x ++ v) (r .split) ∙ append-assoc (r .u) (r .v) v
-        ; first = r .first
-        ; second = star-append (Tr P p) (r .v ++ v) v refl (r .second) t
-        })
+      (record {
+        u = r .u;
+        v = r .v ++ v;
+        μ = r .μ;
+        split = e ∙ ap (λ x. x ++ v) (r .split) ∙ append-assoc (r .u) (r .v) v;
+        first = r .first;
+        second = star-append (Tr P p) (r .v ++ v) v refl (r .second) t;
+      })
 
   -- once more through the body
   pub star-once : (p : Policy) (X : Set₀) (w : List (P .Packet)) (δ : P .Packet) → Gives p (Out (star p) X) w δ → Gives (star p) X w δ
@@ -183,31 +190,36 @@ module _ (P : Packets) (M : ℕ → Type 0) (β : P .Packet) where
     where
       Found : Type 0
       Found = Then P (Records p (Out (star p) X) γ) (Star P (Tr P p)) β w δ
+
       found : (c : P .Packet) (u v : List (P .Packet)) (μ : P .Packet) → γ ∷ w ≡ c ∷ (u ++ v) → Gives p (Out (star p) X) (c ∷ u) μ → Star P (Tr P p) μ v δ
           → Found
       found c u v μ e g s =
-          record
-          { u = u
-          ; v = v
-          ; μ = μ
-          ; split = tail-eq-of-cons-eq e
-          ; first = subst (λ x. Gives p (Out (star p) X) (x ∷ u) μ) (sym (head-eq-of-cons-eq e)) g
-          ; second = s
+          record {
+            u = u;
+            v = v;
+            μ = μ;
+            split = tail-eq-of-cons-eq e;
+            first = subst (λ x. Gives p (Out (star p) X) (x ∷ u) μ) (sym (head-eq-of-cons-eq e)) g;
+            second = s;
           }
+
       walk : {α : P .Packet} {w′ : List (P .Packet)} {ε : P .Packet} → Out (star p) X α → Star P (Tr P p) α w′ ε → ε ≡ δ → γ ∷ w ≡ w′ → Found
       walk y (done n d) z e = absurd (cons≢nil (e ∙ n))
       walk {α} y (more [] v μ s h t) z e = walk (star-once p X [] μ (through α y h)) t z (e ∙ s)
       walk {α} y (more (c ∷ u) v μ s h t) z e = found c u v μ (e ∙ s) (through α y h) (subst (λ x. Star P (Tr P p) μ v x) z t)
+
       rest : (j : ℕ) → M j → (u v : List (P .Packet)) (μ : P .Packet) → γ ∷ w ≡ u ++ v → Rem P p j β u μ → Star P (Tr P p) μ v δ → Found
       rest j m [] v μ e r t = walk (star-once p X [] μ (after j m r)) t refl e
       rest j m (c ∷ u) v μ e r t = found c u v μ e (after j m r) t
+
       there : Gives (star p) X (γ ∷ w) δ → Found
       there (through α x s) = walk (star-none p X α x) s refl refl
       there (after j m r) = rest j m (r .u) (r .v) (r .μ) (r .split) (r .first) (r .second)
+
       back : Found → Gives (star p) X (γ ∷ w) δ
       back t =
           star-join p X (γ ∷ w) (γ ∷ t .u) (t .v) (t .μ) δ (ap (λ (x : List (P .Packet)). γ ∷ x) (t .split))
-            (star-once p X (γ ∷ t .u) (t .μ) (t .first)) (t .second)
+          (star-once p X (γ ∷ t .u) (t .μ) (t .first)) (t .second)
 
   pub enters-star : (p : Policy) (X : Set₀) (i : ℕ) (γ : P .Packet) → Enters (star p) X i γ ↔ Enters p (Out (star p) X) i γ
   unfolding Meets RemMeets Tr Rem
@@ -218,20 +230,22 @@ module _ (P : Packets) (M : ℕ → Type 0) (β : P .Packet) where
       there (later j m (inl r)) = later j m r
       there (later j m (inr h)) =
           straight (h .2 .0) (after j m (record { u = []; v = []; μ = h .0; split = refl; first = h .1; second = h .2 .1 })) (h .2 .2)
+
       back : Enters p (Out (star p) X) i γ → Enters (star p) X i γ
       back (straight μ (through α x s) h) = straight α x (μ, s, h)
       back (straight μ (after j m t) h) =
           let e = nil-split (t .u) (t .v) (t .split) in
           later j m
-            (inr
-              ( t .μ
-              , subst (λ x. Rem P p j β x (t .μ)) (e .0) (t .first)
-              , (μ, subst (λ x. Star P (Tr P p) (t .μ) x μ) (e .1) (t .second), h) ))
+          (inr (
+            t .μ,
+            subst (λ x. Rem P p j β x (t .μ)) (e .0) (t .first),
+            (μ, subst (λ x. Star P (Tr P p) (t .μ) x μ) (e .1) (t .second), h),
+          ))
       back (later j m r) = later j m (inl r)
 
   -- ---- the fundamental theorem, for the whole and the marked remainders at once
 
-  enters-has : (p : Policy) (X : Set₀) (i : ℕ) (γ : P .Packet) → Enters p X i γ → HasDup p i
+  pub enters-has : (p : Policy) (X : Set₀) (i : ℕ) (γ : P .Packet) → Enters p X i γ → HasDup p i
   enters-has p X i γ (straight α x h) = meets-has P p i α γ h
   enters-has p X i γ (later j m h) = rem-meets-has P p j i β γ h
 
@@ -251,6 +265,7 @@ module _ (P : Packets) (M : ℕ → Type 0) (β : P .Packet) where
     where
       Goal : Type 0
       Goal = (i : ℕ) × Enters (sum p q) X i γ × Rem P (sum p q) i γ w δ
+
       go : Gives p X (γ ∷ w) δ ⊎ Gives q X (γ ∷ w) δ → (Gives p X (γ ∷ w) δ → (i : ℕ) × Enters p X i γ × Rem P p i γ w δ)
           → (Gives q X (γ ∷ w) δ → (i : ℕ) × Enters q X i γ × Rem P q i γ w δ) → Goal
       go (inl h) f k = let r = f h in (r .0, enters-sum p q X (r .0) γ .1 (inl (r .1)), inl (r .2))
@@ -259,21 +274,24 @@ module _ (P : Packets) (M : ℕ → Type 0) (β : P .Packet) where
     where
       Goal : Type 0
       Goal = (i : ℕ) × Enters (seq p q) X i γ × Rem P (seq p q) i γ w δ
+
       go : Then P (Records p X γ) (Tr P q) β w δ ⊎ Gives q (Out p X) (γ ∷ w) δ
           → ((u : List (P .Packet)) (μ : P .Packet) → Gives p X (γ ∷ u) μ → (i : ℕ) × Enters p X i γ × Rem P p i γ u μ)
           → (Gives q (Out p X) (γ ∷ w) δ → (i : ℕ) × Enters q (Out p X) i γ × Rem P q i γ w δ) → Goal
       go (inl t) f k =
-          let r = f (t .u) (t .μ) (t .first) in
-          ( r .0
-          , enters-seq p q X (r .0) γ .1 (inl (r .1))
-          , inl (record { u = t .u; v = t .v; μ = t .μ; split = t .split; first = r .2; second = t .second }) )
+          let r = f (t .u) (t .μ) (t .first) in (
+            r .0,
+            enters-seq p q X (r .0) γ .1 (inl (r .1)),
+            inl (record { u = t .u; v = t .v; μ = t .μ; split = t .split; first = r .2; second = t .second }),
+          )
       go (inr h) f k = let r = k h in (r .0, enters-seq p q X (r .0) γ .1 (inr (r .1)), inr (r .2))
   first-dup (star p) X γ w δ g =
       let t = star-cons p X γ w δ .0 g in
-      let r = first-dup p (Out (star p) X) γ (t .u) (t .μ) (t .first) in
-      ( r .0
-      , enters-star p X (r .0) γ .1 (r .1)
-      , record { u = t .u; v = t .v; μ = t .μ; split = t .split; first = r .2; second = t .second } )
+      let r = first-dup p (Out (star p) X) γ (t .u) (t .μ) (t .first) in (
+        r .0,
+        enters-star p X (r .0) γ .1 (r .1),
+        record { u = t .u; v = t .v; μ = t .μ; split = t .split; first = r .2; second = t .second },
+      )
 
   pub dup-first : (p : Policy) → DistinctLabels p → (X : Set₀) (i : ℕ) (γ : P .Packet) (w : List (P .Packet)) (δ : P .Packet) → Enters p X i γ
       → Rem P p i γ w δ → Gives p X (γ ∷ w) δ
@@ -306,11 +324,11 @@ module _ (P : Packets) (M : ℕ → Type 0) (β : P .Packet) where
       go (inr h) (inr s) f k = inr (k h s)
   dup-first (star p) d X i γ w δ e t =
       star-cons p X γ w δ .1
-        (record
-        { u = t .u
-        ; v = t .v
-        ; μ = t .μ
-        ; split = t .split
-        ; first = dup-first p d (Out (star p) X) i γ (t .u) (t .μ) (enters-star p X i γ .0 e) (t .first)
-        ; second = t .second
-        })
+      (record {
+        u = t .u;
+        v = t .v;
+        μ = t .μ;
+        split = t .split;
+        first = dup-first p d (Out (star p) X) i γ (t .u) (t .μ) (enters-star p X i γ .0 e) (t .first);
+        second = t .second;
+      })

@@ -5,4 +5,5 @@ pub mod Spines
 pub mod Fundamental
 pub mod Sets
 pub mod Flow
+pub mod Laws
 pub mod Examples

@@ -37,8 +37,10 @@ bit-low n w i h = ap (λ (d : ℕ). eqb d 1) (digits n ∙ ap (λ (x : ℕ). x /
   where
     digits : (x : ℕ) → x / 2 ^ i % 2 ≡ x % 2 ^ (1 + i) / 2 ^ i
     digits x = sym (field x 1 i)
+
     sum-up : w - (1 + i) + (1 + i) ≡ w
     sum-up = omega arith
+
     cut : n % 2 ^ (1 + i) ≡ n % 2 ^ w % 2 ^ (1 + i)
     cut = sym (mod-mod-pow n (w - (1 + i)) (1 + i)) ∙ ap (λ (x : ℕ). n % 2 ^ x % 2 ^ (1 + i)) sum-up
 
@@ -62,6 +64,7 @@ bit-maskOf (suc w) f i h = go (eq-or-lt-of-le (le-of-suc-le-suc h)) (bit-maskOf 
   where
     top : bit (digit (f w) * 2 ^ w + maskOf w f) w ≡ f w
     top = ap (λ (x : ℕ). eqb (x % 2) 1) (high (digit (f w)) w (maskOf-lt w f)) ∙ digit-bit (f w)
+
     go : (i ≡ w) ⊎ (i < w) → (i < w → bit (maskOf w f) i ≡ f i) → bit (maskOf (suc w) f) i ≡ f i
     go (inl e) ih = rw (maskOf-suc w f, e) top
     go (inr l) ih = rw (maskOf-suc w f) (bit-low (digit (f w) * 2 ^ w + maskOf w f) w i l ∙ ap (λ (x : ℕ). bit x i) (low (digit (f w)) w (maskOf-lt w f)) ∙ ih l)

@@ -28,6 +28,7 @@ anyBelow-iff (suc n) test = (λ h. there (either (anyBelow n test) (test n) .0 h
     there : T (anyBelow n test) ⊎ T (test n) → (T (anyBelow n test) → (i : ℕ) × (i < n) × T (test i)) → (i : ℕ) × (i < suc n) × T (test i)
     there (inl h) f = let r = f h in (r .0, le-trans (r .1) (le-suc n), r .2)
     there (inr h) f = (n, le-refl (suc n), h)
+
     back : (h : (i : ℕ) × (i < suc n) × T (test i)) → (h .0 ≡ n) ⊎ (h .0 < n) → ((i : ℕ) × (i < n) × T (test i) → T (anyBelow n test)) → T (anyBelow n test || test n)
     back h (inl e) f = either (anyBelow n test) (test n) .1 (inr (subst (λ (k : ℕ). T (test k)) e (h .2)))
     back h (inr l) f = either (anyBelow n test) (test n) .1 (inl (f (h .0, l, h .2)))
@@ -46,10 +47,11 @@ module _ (sizes : List ℕ) where
 
   pub setOf-iff : (test : ℕ → Bool) (γ : ℕ) → T (bit (setOf sizes test) γ) ↔ ((γ < product sizes) × T (test γ))
   unfolding setOf
-  setOf-iff test γ =
-      ( λ t. let l = bit-below (product sizes) (maskOf (product sizes) test) γ (maskOf-lt (product sizes) test) t in
-          (l, subst T (bit-maskOf (product sizes) test γ l) t)
-      , λ h. subst T (sym (bit-maskOf (product sizes) test γ (h .0))) (h .1) )
+  setOf-iff test γ = (
+    λ t. let l = bit-below (product sizes) (maskOf (product sizes) test) γ (maskOf-lt (product sizes) test) t in
+        (l, subst T (bit-maskOf (product sizes) test γ l) t),
+    λ h. subst T (sym (bit-maskOf (product sizes) test γ (h .0))) (h .1),
+  )
 
   pub union-fits : (X Y : PacketSet) → Fits (union sizes X Y)
   unfolding union
@@ -57,9 +59,10 @@ module _ (sizes : List ℕ) where
 
   pub union-iff : (X Y : PacketSet) → Fits X → Fits Y → (γ : ℕ) → T (bit (union sizes X Y) γ) ↔ (T (bit X γ) ⊎ T (bit Y γ))
   unfolding union
-  union-iff X Y hx hy γ =
-      ( λ t. either (bit X γ) (bit Y γ) .0 (setOf-iff (λ γ. bit X γ || bit Y γ) γ .0 t .1)
-      , λ h. setOf-iff (λ γ. bit X γ || bit Y γ) γ .1 (bound h, either (bit X γ) (bit Y γ) .1 h) )
+  union-iff X Y hx hy γ = (
+    λ t. either (bit X γ) (bit Y γ) .0 (setOf-iff (λ γ. bit X γ || bit Y γ) γ .0 t .1),
+    λ h. setOf-iff (λ γ. bit X γ || bit Y γ) γ .1 (bound h, either (bit X γ) (bit Y γ) .1 h),
+  )
     where
       bound : T (bit X γ) ⊎ T (bit Y γ) → γ < product sizes
       bound (inl t) = below X hx γ t
@@ -69,12 +72,20 @@ module _ (sizes : List ℕ) where
   pub same-set : (X Y : PacketSet) → Fits X → Fits Y → ((γ : ℕ) → T (bit X γ) → T (bit Y γ)) → ((γ : ℕ) → T (bit Y γ) → T (bit X γ)) → X ≡ Y
   same-set X Y hx hy f g = same-bits (product sizes) X Y hx hy (λ γ l. same-test (bit X γ) (bit Y γ) (f γ) (g γ))
 
-  pub start-iff : (marks : Marks) (β : ℕ) → β < product sizes → (i γ : ℕ) → T (bit (start sizes marks β i) γ) ↔ (T (marks i) × (γ ≡ β))
+  pub start-fits : (marks : Marks) (β i : ℕ) → Fits (start sizes marks β i)
   unfolding start
-  start-iff marks β l i γ =
-      ( λ t. let h = both (marks i) (eqb γ β) .0 (setOf-iff (λ γ. marks i && eqb γ β) γ .0 t .1) in (h .0, eqb→eq γ β (h .1))
-      , λ h. setOf-iff (λ γ. marks i && eqb γ β) γ .1
-          (subst (λ x. x < product sizes) (sym (h .1)) l, both (marks i) (eqb γ β) .1 (h .0, eqb-true γ β (h .1))) )
+  start-fits marks β i = setOf-fits (λ γ. marks i && eqb γ β)
+
+  pub start-iff : (marks : Marks) (β i γ : ℕ) → T (bit (start sizes marks β i) γ) ↔ ((T (marks i) × (β < product sizes)) × (γ ≡ β))
+  unfolding start
+  start-iff marks β i γ = (
+    λ t. let s = setOf-iff (λ γ. marks i && eqb γ β) γ .0 t in
+        let h = both (marks i) (eqb γ β) .0 (s .1) in
+        let e = eqb→eq γ β (h .1) in
+        ((h .0, subst (λ x. x < product sizes) e (s .0)), e),
+    λ h. setOf-iff (λ γ. marks i && eqb γ β) γ .1
+        (subst (λ x. x < product sizes) (sym (h .1)) (h .0 .1), both (marks i) (eqb γ β) .1 (h .0 .0, eqb-true γ β (h .1))),
+  )
 
   takes-iff : (a : FieldAction) (α γ : ℕ) → T (takes sizes a α γ) ↔ Acts (numbered sizes) a α γ
   unfolding takes Acts
@@ -96,14 +107,16 @@ module _ (sizes : List ℕ) where
   unfolding image
   image-iff a keeps X hx γ =
       let outer = setOf-iff (λ γ. anyBelow (product sizes) (λ α. bit X α && takes sizes a α γ)) γ in
-      let inner = anyBelow-iff (product sizes) (λ α. bit X α && takes sizes a α γ) in
-      ( λ t. let r = inner .0 (outer .0 t .1) in
-          let h = both (bit X (r .0)) (takes sizes a (r .0) γ) .0 (r .2) in
-          (r .0, h .0, takes-iff a (r .0) γ .0 (h .1))
-      , λ h. let l = below X hx (h .0) (h .1) in
-          outer .1
-          ( keeps (h .0) γ l (h .2)
-          , inner .1 (h .0, l, both (bit X (h .0)) (takes sizes a (h .0) γ) .1 (h .1, takes-iff a (h .0) γ .1 (h .2))) ) )
+      let inner = anyBelow-iff (product sizes) (λ α. bit X α && takes sizes a α γ) in (
+        λ t. let r = inner .0 (outer .0 t .1) in
+            let h = both (bit X (r .0)) (takes sizes a (r .0) γ) .0 (r .2) in
+            (r .0, h .0, takes-iff a (r .0) γ .0 (h .1)),
+        λ h. let l = below X hx (h .0) (h .1) in
+            outer .1 (
+              keeps (h .0) γ l (h .2),
+              inner .1 (h .0, l, both (bit X (h .0)) (takes sizes a (h .0) γ) .1 (h .1, takes-iff a (h .0) γ .1 (h .2))),
+            ),
+      )
 
 -- ---- counting: N rounds suffice
 
@@ -150,11 +163,14 @@ more-or-same (suc n) X Y f = go (more-or-same n X Y f) (bit X n) (bit Y n) refl 
   where
     Goal : Type 0
     Goal = ((γ : ℕ) → γ < suc n → T (bit Y γ) → T (bit X γ)) ⊎ (count n X + one (bit X n) < count n Y + one (bit Y n))
+
     extend : ((γ : ℕ) → γ < n → T (bit Y γ) → T (bit X γ)) → (T (bit Y n) → T (bit X n)) → (γ : ℕ) → (γ ≡ n) ⊎ (γ < n) → T (bit Y γ) → T (bit X γ)
     extend h k γ (inl e) t = subst (λ x. T (bit X x)) (sym e) (k (subst (λ x. T (bit Y x)) e t))
     extend h k γ (inr l) t = h γ l t
+
     same : ((γ : ℕ) → γ < n → T (bit Y γ) → T (bit X γ)) → (T (bit Y n) → T (bit X n)) → Goal
     same h k = inl (λ γ l t. extend h k γ (eq-or-lt-of-le (le-of-suc-le-suc l)) t)
+
     go : ((γ : ℕ) → γ < n → T (bit Y γ) → T (bit X γ)) ⊎ (count n X < count n Y) → (a b : Bool) → bit X n ≡ a → bit Y n ≡ b → Goal
     go (inr l) a b ea eb = inr (omega (arith, one-le (bit X n) (bit Y n) (f n)))
     go (inl h) true b ea eb = same h (λ t. true-T ea)
@@ -184,8 +200,8 @@ module _ (sizes : List ℕ) (body : PacketSet → PacketSet) (fits : (Y : Packet
           → (rounds sizes (suc k) body X ≡ rounds sizes k body X) ⊎ (count (product sizes) (rounds sizes k body X) < count (product sizes) (rounds sizes (suc k) body X))
       go (inl h) =
           inl
-            (same-set sizes (rounds sizes (suc k) body X) (rounds sizes k body X) (rounds-fits (suc k)) (rounds-fits k)
-              (λ γ t. h γ (below sizes (rounds sizes (suc k) body X) (rounds-fits (suc k)) γ t) t) (λ γ t. round-iff k γ .1 (inl t)))
+          (same-set sizes (rounds sizes (suc k) body X) (rounds sizes k body X) (rounds-fits (suc k)) (rounds-fits k)
+          (λ γ t. h γ (below sizes (rounds sizes (suc k) body X) (rounds-fits (suc k)) γ t) t) (λ γ t. round-iff k γ .1 (inl t)))
       go (inr l) = inr l
 
   reach : (k : ℕ) → (rounds sizes (suc k) body X ≡ rounds sizes k body X) ⊎ (k < count (product sizes) (rounds sizes (suc k) body X))
@@ -210,7 +226,7 @@ module _ (sizes : List ℕ) (body : PacketSet → PacketSet) (fits : (Y : Packet
       → (rounds sizes (suc m) body X ≡ rounds sizes m body X) × (rounds sizes m body X ≡ rounds sizes k body X)
   still k e =
       le-ind (λ (m : ℕ). (rounds sizes (suc m) body X ≡ rounds sizes m body X) × (rounds sizes m body X ≡ rounds sizes k body X)) (e, refl)
-        (λ m l h. (stays m (h .0), h .0 ∙ h .1))
+      (λ m l h. (stays m (h .0), h .0 ∙ h .1))
 
   -- a loop that stops at the first round that adds nothing computes the same as N rounds
   pub rounds-stop : (k : ℕ) → rounds sizes (suc k) body X ≡ rounds sizes k body X → rounds sizes (product sizes) body X ≡ rounds sizes k body X

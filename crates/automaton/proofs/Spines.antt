@@ -35,12 +35,14 @@ module _ (P : Packets) where
   meets-iff (field a) i β γ = (λ h. h, λ h. h)
   meets-iff (dup j) i β γ = (λ h. h, λ h. h)
   meets-iff (sum p q) i β γ = (⊎-map (meets-iff p i β γ .0) (meets-iff q i β γ .0), ⊎-map (meets-iff p i β γ .1) (meets-iff q i β γ .1))
-  meets-iff (seq p q) i β γ =
-      ( ⊎-map (meets-iff p i β γ .0) (λ h. (h .0, traces-iff P p β [] (h .0) .0 (h .1), meets-iff q i (h .0) γ .0 (h .2)))
-      , ⊎-map (meets-iff p i β γ .1) (λ h. (h .0, traces-iff P p β [] (h .0) .1 (h .1), meets-iff q i (h .0) γ .1 (h .2))) )
-  meets-iff (star p) i β γ =
-      ( λ h. (h .0, traces-iff P (star p) β [] (h .0) .0 (h .1), meets-iff p i (h .0) γ .0 (h .2))
-      , λ h. (h .0, traces-iff P (star p) β [] (h .0) .1 (h .1), meets-iff p i (h .0) γ .1 (h .2)) )
+  meets-iff (seq p q) i β γ = (
+    ⊎-map (meets-iff p i β γ .0) (λ h. (h .0, traces-iff P p β [] (h .0) .0 (h .1), meets-iff q i (h .0) γ .0 (h .2))),
+    ⊎-map (meets-iff p i β γ .1) (λ h. (h .0, traces-iff P p β [] (h .0) .1 (h .1), meets-iff q i (h .0) γ .1 (h .2))),
+  )
+  meets-iff (star p) i β γ = (
+    λ h. (h .0, traces-iff P (star p) β [] (h .0) .0 (h .1), meets-iff p i (h .0) γ .0 (h .2)),
+    λ h. (h .0, traces-iff P (star p) β [] (h .0) .1 (h .1), meets-iff p i (h .0) γ .1 (h .2)),
+  )
 
   -- the words of what remains after dup i
   unfoldable pub Rem : Policy → ℕ → Rel P
@@ -101,6 +103,20 @@ module _ (P : Packets) where
   rem-meets-has (seq p q) j i β γ (inr h) = inr (rem-meets-has q j i β γ h)
   rem-meets-has (star p) j i β γ (inl h) = rem-meets-has p j i β γ h
   rem-meets-has (star p) j i β γ (inr h) = meets-has p i (h .2 .0) γ (h .2 .2)
+
+  pub rem-meets-of : (p : Policy) (j i : ℕ) (β γ : P .Packet) → RemMeets p j i β γ → HasDup p j
+  unfolding RemMeets HasDup
+  rem-meets-of drop j i β γ h = absurd h
+  rem-meets-of id j i β γ h = absurd h
+  rem-meets-of (field a) j i β γ h = absurd h
+  rem-meets-of (dup k) j i β γ h = absurd h
+  rem-meets-of (sum p q) j i β γ (inl h) = inl (rem-meets-of p j i β γ h)
+  rem-meets-of (sum p q) j i β γ (inr h) = inr (rem-meets-of q j i β γ h)
+  rem-meets-of (seq p q) j i β γ (inl (inl h)) = inl (rem-meets-of p j i β γ h)
+  rem-meets-of (seq p q) j i β γ (inl (inr h)) = inl (rem-has p j β [] (h .0) (h .1))
+  rem-meets-of (seq p q) j i β γ (inr h) = inr (rem-meets-of q j i β γ h)
+  rem-meets-of (star p) j i β γ (inl h) = rem-meets-of p j i β γ h
+  rem-meets-of (star p) j i β γ (inr h) = rem-has p j β [] (h .0) (h .1)
 
 -- ---- the right spine as a term
 
@@ -165,7 +181,7 @@ module _ (F : Policy → Type 0) (i : ℕ) where
   unfolding rightSpine DistinctLabels
   spine-seq p q d =
       let e = on-orElse F (followedBy (rightSpine p i) q) (rightSpine q i)
-          (λ a b. d .2 i (spine-has p i (some-followed (rightSpine p i) q a)) (spine-has q i b)) in
+      (λ a b. d .2 i (spine-has p i (some-followed (rightSpine p i) q a)) (spine-has q i b)) in
       let k = on-followed F (rightSpine p i) q in
       (λ h. ⊎-map (k .0) (λ x. x) (e .0 h), λ h. e .1 (⊎-map (k .1) (λ x. x) h))
 
@@ -206,19 +222,22 @@ module _ (P : Packets) where
       let e = spine-dup (λ r. Tr P r β w δ) i j in
       (λ h. let k = e .0 h in (k .0, k .1 .0, k .1 .1), λ h. e .1 (h .0, (h .1, h .2)))
   spine-words (sum p q) d i β w δ =
-      let e = spine-sum (λ r. Tr P r β w δ) i p q d in
-      ( λ h. ⊎-map (spine-words p (d .0) i β w δ .0) (spine-words q (d .1) i β w δ .0) (e .0 h)
-      , λ h. e .1 (⊎-map (spine-words p (d .0) i β w δ .1) (spine-words q (d .1) i β w δ .1) h) )
+      let e = spine-sum (λ r. Tr P r β w δ) i p q d in (
+        λ h. ⊎-map (spine-words p (d .0) i β w δ .0) (spine-words q (d .1) i β w δ .0) (e .0 h),
+        λ h. e .1 (⊎-map (spine-words p (d .0) i β w δ .1) (spine-words q (d .1) i β w δ .1) h),
+      )
   spine-words (seq p q) d i β w δ =
       let e = spine-seq (λ r. Tr P r β w δ) i p q d in
-      let k = spine-then (rightSpine p i) q β w δ in
-      ( λ h. ⊎-map (λ x. then-map (Tr P q) (λ b u m. spine-words p (d .0) i b u m .0) β w δ (k .0 x)) (spine-words q (d .1) i β w δ .0) (e .0 h)
-      , λ h. e .1 (⊎-map (λ x. k .1 (then-map (Tr P q) (λ b u m. spine-words p (d .0) i b u m .1) β w δ x)) (spine-words q (d .1) i β w δ .1) h) )
+      let k = spine-then (rightSpine p i) q β w δ in (
+        λ h. ⊎-map (λ x. then-map (Tr P q) (λ b u m. spine-words p (d .0) i b u m .0) β w δ (k .0 x)) (spine-words q (d .1) i β w δ .0) (e .0 h),
+        λ h. e .1 (⊎-map (λ x. k .1 (then-map (Tr P q) (λ b u m. spine-words p (d .0) i b u m .1) β w δ x)) (spine-words q (d .1) i β w δ .1) h),
+      )
   spine-words (star p) d i β w δ =
       let e = spine-star (λ r. Tr P r β w δ) i p in
-      let k = spine-then (rightSpine p i) (star p) β w δ in
-      ( λ h. then-map (Star P (Tr P p)) (λ b u m. spine-words p d i b u m .0) β w δ (k .0 (e .0 h))
-      , λ h. e .1 (k .1 (then-map (Star P (Tr P p)) (λ b u m. spine-words p d i b u m .1) β w δ h)) )
+      let k = spine-then (rightSpine p i) (star p) β w δ in (
+        λ h. then-map (Star P (Tr P p)) (λ b u m. spine-words p d i b u m .0) β w δ (k .0 (e .0 h)),
+        λ h. e .1 (k .1 (then-map (Star P (Tr P p)) (λ b u m. spine-words p d i b u m .1) β w δ h)),
+      )
 
   spine-onward : (o : Option Policy) (q : Policy) (i : ℕ) (β γ : P .Packet)
       → On (λ r. Meets P (seq r q) i β γ) o ↔ (On (λ r. Meets P r i β γ) o ⊎ Onward P (Spine o) (Meets P q i) β γ)
@@ -234,23 +253,26 @@ module _ (P : Packets) where
   spine-meets (field a) d j i β γ = (λ h. h, λ h. h)
   spine-meets (dup k) d j i β γ = let e = spine-dup (λ r. Meets P r i β γ) j k in (λ h. e .0 h .1, λ h. absurd h)
   spine-meets (sum p q) d j i β γ =
-      let e = spine-sum (λ r. Meets P r i β γ) j p q d in
-      ( λ h. ⊎-map (spine-meets p (d .0) j i β γ .0) (spine-meets q (d .1) j i β γ .0) (e .0 h)
-      , λ h. e .1 (⊎-map (spine-meets p (d .0) j i β γ .1) (spine-meets q (d .1) j i β γ .1) h) )
+      let e = spine-sum (λ r. Meets P r i β γ) j p q d in (
+        λ h. ⊎-map (spine-meets p (d .0) j i β γ .0) (spine-meets q (d .1) j i β γ .0) (e .0 h),
+        λ h. e .1 (⊎-map (spine-meets p (d .0) j i β γ .1) (spine-meets q (d .1) j i β γ .1) h),
+      )
   spine-meets (seq p q) d j i β γ =
       let e = spine-seq (λ r. Meets P r i β γ) j p q d in
       let k = spine-onward (rightSpine p j) q i β γ in
       let f = spine-meets p (d .0) j i β γ in
-      let g = spine-words p (d .0) j β [] in
-      ( λ h. ⊎-map (λ x. ⊎-map (f .0) (λ y. (y .0, g (y .0) .0 (y .1), y .2)) (k .0 x)) (spine-meets q (d .1) j i β γ .0) (e .0 h)
-      , λ h. e .1 (⊎-map (λ x. k .1 (⊎-map (f .1) (λ y. (y .0, g (y .0) .1 (y .1), y .2)) x)) (spine-meets q (d .1) j i β γ .1) h) )
+      let g = spine-words p (d .0) j β [] in (
+        λ h. ⊎-map (λ x. ⊎-map (f .0) (λ y. (y .0, g (y .0) .0 (y .1), y .2)) (k .0 x)) (spine-meets q (d .1) j i β γ .0) (e .0 h),
+        λ h. e .1 (⊎-map (λ x. k .1 (⊎-map (f .1) (λ y. (y .0, g (y .0) .1 (y .1), y .2)) x)) (spine-meets q (d .1) j i β γ .1) h),
+      )
   spine-meets (star p) d j i β γ =
       let e = spine-star (λ r. Meets P r i β γ) j p in
       let k = spine-onward (rightSpine p j) (star p) i β γ in
       let f = spine-meets p d j i β γ in
-      let g = spine-words p d j β [] in
-      ( λ h. ⊎-map (f .0) (λ y. (y .0, g (y .0) .0 (y .1), y .2)) (k .0 (e .0 h))
-      , λ h. e .1 (k .1 (⊎-map (f .1) (λ y. (y .0, g (y .0) .1 (y .1), y .2)) h)) )
+      let g = spine-words p d j β [] in (
+        λ h. ⊎-map (f .0) (λ y. (y .0, g (y .0) .0 (y .1), y .2)) (k .0 (e .0 h)),
+        λ h. e .1 (k .1 (⊎-map (f .1) (λ y. (y .0, g (y .0) .1 (y .1), y .2)) h)),
+      )
 
   -- in terms of the remainder
   on-remainder : (F : Policy → Type 0) → (F drop → ⊥) → (o : Option Policy) → F (Option·getD o drop) ↔ On F o

@@ -59,13 +59,13 @@ module _ (P : Packets) where
 
   holds-seq : {A B : Rel} {C D : TraceSet P} → Holds A C → Holds B D → Holds (Then A B) (Seq P C D)
   holds-seq f g α w δ t =
-      record
-      { a = t .u
-      ; β = t .μ
-      ; b = t .v ++ (δ ∷ [])
-      ; joined = last-eq (t .split) refl ∙ append-assoc (t .u) (t .v) (δ ∷ [])
-      ; first = f α (t .u) (t .μ) (t .first)
-      ; second = g (t .μ) (t .v) δ (t .second)
+      record {
+        a = t .u;
+        β = t .μ;
+        b = t .v ++ (δ ∷ []);
+        joined = last-eq (t .split) refl ∙ append-assoc (t .u) (t .v) (δ ∷ []);
+        first = f α (t .u) (t .μ) (t .first);
+        second = g (t .μ) (t .v) δ (t .second);
       }
 
   holds-star : {A : Rel} (C : TraceSet P) → Holds A C → Holds (Star A) (λ α t. (n : ℕ) × Power P C n α t)
@@ -100,11 +100,12 @@ module _ (P : Packets) where
       let r = f α (s .a ++ (s .β ∷ [])) (s .first) in
       let k = g (s .β) (s .b) (s .second) in
       let e = snoc-inj (s .a) (r .0) (r .2) in
-      let h : A α (s .a) (s .β) = subst₂ (A α) (sym (e .0)) (sym (e .1)) (r .3) in
-      ( s .a ++ k .0
-      , k .1
-      , s .joined ∙ ap (λ x. s .a ++ x) (k .2) ∙ sym (append-assoc (s .a) (k .0) (k .1 ∷ []))
-      , record { u = s .a; v = k .0; μ = s .β; split = refl; first = h; second = k .3 })
+      let h : A α (s .a) (s .β) = subst₂ (A α) (sym (e .0)) (sym (e .1)) (r .3) in (
+        s .a ++ k .0,
+        k .1,
+        s .joined ∙ ap (λ x. s .a ++ x) (k .2) ∙ sym (append-assoc (s .a) (k .0) (k .1 ∷ [])),
+        record { u = s .a; v = k .0; μ = s .β; split = refl; first = h; second = k .3 },
+      )
 
   from-power : {A : Rel} {C : TraceSet P} → From C A → (n : ℕ) → From (Power P C n) (Star A)
   unfolding Power

@@ -96,10 +96,6 @@ module _ (sizes : List ℕ) (p : Policy) where
   unfoldable pub StateTraces : Marks → ℕ → List ℕ → Type 0
   StateTraces marks β t = (i : ℕ) × T (marks i) × Traces (numbered sizes) (remainder p i) β t
 
-  -- the state at which a policy begins: only the whole policy is marked
-  unfoldable pub wholeOnly : Marks
-  wholeOnly i = eqb i 0
-
   -- the run of a trace from a state: along it by next, its last packet in the output
   unfoldable pub runs : ℕ → ℕ → ℕ → List ℕ → Bool
   runs dups m β [] = false
