@@ -1,30 +1,30 @@
 -- What flows through a policy and what enters its dups, exactly.
-use Prim.Native.Nat.{ℕ, zero, suc, _*_, _/_, _%_, _^_, _≤_, _<_, zero-le}
-use mathlib.Core.Bool.{Bool, true, false, _||_, cond}
+use Prim.Native.Nat.{ℕ, zero, suc, _*_, _%_, _<_}
+use mathlib.Core.Bool.{Bool, true, false, cond}
 use mathlib.Core.List.{List, [], _∷_, nil≢cons}
-use mathlib.Core.Logic.{_⊎_, inl, inr, ⊎-map, _↔_, Iff·trans}
-use mathlib.Core.Path.{_≡_, refl, sym, ap, _∙_, subst}
-use native.Mathlib.Nat.{mod-lt, div-lt-iff-lt-mul, not-suc-le-zero, mul-zero, mul-comm}
+use mathlib.Core.Logic.{_⊎_, inl, inr, ⊎-map, _↔_}
+use mathlib.Core.Path.{_≡_, refl, sym, _∙_, subst}
+use native.Mathlib.Nat.{mod-lt, div-lt-iff-lt-mul, not-suc-le-zero, mul-zero}
 use native.Mathlib.Omega.{arith}
 use lib.Arith.{digits-lt}
 use lib.Dec.{T, eqb, eqb→eq, leb, nleb→lt, not-T}
 use lib.ListN.{length, getD, set}
 use lib.Pow.{pow-pos}
-use Rattle.packet.specs.Packets.{valueAt, changed, valuesOf, numberOf}
+use Rattle.packet.specs.Packets.{changed, valuesOf, numberOf}
 use Rattle.packet.specs.Sizes.{product}
 use Rattle.policy.specs.declared.FieldAction.{FieldAction}
 use Rattle.policy.specs.declared.FieldAction.the-variants.{Equals, Differs, Set}
 use Rattle.policy.specs.Legality.{badField, fieldOf, valueOf, InFields}
 use Rattle.policy.specs.Meaning.{Packets, numbered}
 use Rattle.policy.specs.Tree.{Policy, drop, id, field, dup, sum, seq, star}
-use Rattle.automaton.specs.Mask.{bit, maskOf}
-use Rattle.automaton.specs.State.{Marks, PacketSet, setOf, union, image, rounds, start, flow, enter}
-use Rattle.automaton.proofs.Tests.{T-true, true-T, eqb-true, both, either}
+use Rattle.automaton.specs.Mask.{bit}
+use Rattle.automaton.specs.State.{Marks, PacketSet, image, rounds, passedOn, flow, enter}
+use Rattle.automaton.proofs.Tests.{eqb-true, either}
 use Rattle.automaton.proofs.Masks.{bit-zero}
-use Rattle.automaton.proofs.Words.{Acts, Tr, Star, done, more, Then}
+use Rattle.automaton.proofs.Words.{Acts, Tr, Star, done, more}
 use Rattle.automaton.proofs.Spines.{Meets, Rem, RemMeets}
-use Rattle.automaton.proofs.Fundamental.{nil-split, Gives, through, after, Enters, straight, later, Out, gives-map, enters-map, gives-sum, enters-sum, gives-seq-nil, enters-seq, star-once, star-none, enters-star}
-use Rattle.automaton.proofs.Sets.{Fits, below, setOf-fits, union-fits, union-iff, same-set, start-fits, start-iff, image-fits, image-iff, rounds-fits, round-iff, rounds-enough}
+use Rattle.automaton.proofs.Fundamental.{nil-split, through, after, Enters, straight, later, Out, gives-map, enters-map, gives-sum, enters-sum, gives-seq-nil, enters-seq, star-once, star-none, enters-star}
+use Rattle.automaton.proofs.Sets.{Fits, union-fits, union-iff, same-set, passedOn-fits, passedOn-iff, image-fits, image-iff, rounds-fits, round-iff, rounds-enough}
 
 -- ---- changed packets are below N
 
@@ -68,8 +68,8 @@ module _ (sizes : List ℕ) (marks : Marks) (β : ℕ) where
   flow-fits drop X h = pow-pos (product sizes)
   flow-fits id X h = h
   flow-fits (field a) X h = image-fits sizes a X
-  flow-fits (dup i) X h = start-fits sizes marks β i
-  flow-fits (sum p q) X h = union-fits sizes (flow sizes marks β p X) (flow sizes marks β q X)
+  flow-fits (dup i) X h = passedOn-fits sizes marks β i
+  flow-fits (sum p q) X h = union-fits sizes _ _
   flow-fits (seq p q) X h = flow-fits q (flow sizes marks β p X) (flow-fits p X h)
   flow-fits (star p) X h = rounds-fits sizes (flow sizes marks β p) (flow-fits p) X h _
 
@@ -83,8 +83,8 @@ module _ (sizes : List ℕ) (marks : Marks) (β : ℕ) where
       go : (b : Bool) → Fits sizes (cond b X 0)
       go true = h
       go false = pow-pos (product sizes)
-  enter-fits (sum p q) X h i = union-fits sizes (enter sizes marks β p X i) (enter sizes marks β q X i)
-  enter-fits (seq p q) X h i = union-fits sizes (enter sizes marks β p X i) (enter sizes marks β q (flow sizes marks β p X) i)
+  enter-fits (sum p q) X h i = union-fits sizes _ _
+  enter-fits (seq p q) X h i = union-fits sizes _ _
   enter-fits (star p) X h i = enter-fits p (flow sizes marks β (star p) X) (flow-fits (star p) X h) i
 
 -- remainder j is marked, at a packet below N
@@ -131,7 +131,7 @@ module _ (sizes : List ℕ) (marks : Marks) (β : ℕ) where
         go (inr h) f = star-once P M β p (In X) [] γ (gives-map P M β p (In (S k)) (Out P M β (star p) (In X)) f (exact (S k) (fits k) γ .0 h))
 
     -- a set that contains X and lets nothing new out of the body holds what comes out of the star
-    pub walk : (Z : PacketSet) → ((γ : ℕ) → Out P M β p (In Z) γ → In Z γ) → {α δ : ℕ} {w : List ℕ} → In Z α → Star P (Tr P p) α w δ → [] ≡ w → In Z δ
+    walk : (Z : PacketSet) → ((γ : ℕ) → Out P M β p (In Z) γ → In Z γ) → {α δ : ℕ} {w : List ℕ} → In Z α → Star P (Tr P p) α w δ → [] ≡ w → In Z δ
     walk Z close y (done n d) e = subst (λ x. In Z x) (sym d) y
     walk Z close {α} y (more u v μ s h t) e =
         let k = nil-split u v (e ∙ s) in
@@ -174,11 +174,11 @@ module _ (sizes : List ℕ) (marks : Marks) (β : ℕ) where
       back : Out P M β (field a) (In X) γ → In (image sizes a X) γ
       back (through α x t) = e .1 (α, x, t .1)
       back (after j m r) = absurd r
-  flow-iff (dup i) f X h γ = (λ t. let r = start-iff sizes marks β i γ .0 t in after i (r .0) (refl, refl, r .1), back)
+  flow-iff (dup i) f X h γ = (λ t. let r = passedOn-iff sizes marks β i γ .0 t in after i (r .0) (refl, refl, r .1), back)
     where
-      back : Out P M β (dup i) (In X) γ → In (start sizes marks β i) γ
+      back : Out P M β (dup i) (In X) γ → In (passedOn sizes marks β i) γ
       back (through α x t) = absurd (nil≢cons (t .0))
-      back (after j m r) = start-iff sizes marks β i γ .1 (subst M (r .0) m, r .2)
+      back (after j m r) = passedOn-iff sizes marks β i γ .1 (subst M (r .0) m, r .2)
   flow-iff (sum p q) f X h γ =
       let e = union-iff sizes (flow sizes marks β p X) (flow sizes marks β q X) (flow-fits sizes marks β p X h) (flow-fits sizes marks β q X h) γ in
       let k = gives-sum P M β p q (In X) [] γ in

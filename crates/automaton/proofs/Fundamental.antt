@@ -1,5 +1,5 @@
 -- The whole policy and its marked remainders together: what they give, which dups they enter, and how the one follows from the other.
-use Prim.Native.Nat.{ℕ, zero, suc}
+use Prim.Native.Nat.{ℕ}
 use mathlib.Core.List.{List, [], _∷_, _++_, append-assoc, append-nil, nil≢cons, cons≢nil, head-eq-of-cons-eq, tail-eq-of-cons-eq}
 use mathlib.Core.Logic.{_⊎_, inl, inr, _↔_}
 use mathlib.Core.Path.{_≡_, refl, sym, ap, ap₂, _∙_, subst}
@@ -7,7 +7,7 @@ use Rattle.policy.specs.Meaning.{Packets}
 use Rattle.policy.specs.Tree.{Policy, drop, id, field, dup, sum, seq, star}
 use Rattle.automaton.specs.Remainder.{HasDup, DistinctLabels}
 use Rattle.automaton.proofs.Words.{Rel, Then, Star, done, more, Tr}
-use Rattle.automaton.proofs.Spines.{Onward, Meets, Rem, RemMeets, meets-has, rem-has, rem-meets-has}
+use Rattle.automaton.proofs.Spines.{Meets, Rem, RemMeets, meets-has, rem-has, rem-meets-has}
 
 pub nil-split : {A : Type 0} (u v : List A) → [] ≡ u ++ v → (u ≡ []) × (v ≡ [])
 nil-split [] v e = (refl, sym e)

@@ -1,8 +1,7 @@
 -- Output and next say exactly what document 01 says of them, and the traces of a state follow from them.
-use Prim.Native.Nat.{ℕ, zero, suc, _^_, _≤_, _<_, zero-le, suc-le-suc}
-use mathlib.Core.Bool.{Bool, true, false}
+use Prim.Native.Nat.{ℕ, zero, suc, _^_, _<_, suc-le-suc}
 use mathlib.Core.List.{List, [], _∷_, _++_, List·Memᴰ, List·Memᴰ·not-nil, List·Memᴰ·cases-cons}
-use mathlib.Core.Logic.{_⊎_, inl, inr, _↔_, Iff·trans}
+use mathlib.Core.Logic.{_⊎_, inl, inr, _↔_}
 use mathlib.Core.Path.{_≡_, refl, sym, ap, _∙_, subst}
 use native.Mathlib.Nat.{not-suc-le-zero, zero-lt-suc}
 use native.Mathlib.Decide.{decLt}
@@ -15,13 +14,13 @@ use Rattle.policy.specs.Tree.{Policy}
 use Rattle.automaton.specs.Mask.{bit, maskOf}
 use Rattle.automaton.specs.Remainder.{remainder, HasDup, Evaluable}
 use Rattle.automaton.specs.Reaches.{Reaches}
-use Rattle.automaton.specs.State.{Marks, PacketSet, start, flow, enter, outputSet, output, next, outputMask, nextMask, StateTraces, runs, hasTrace}
-use Rattle.automaton.proofs.Tests.{true-T, same-test, T-false}
+use Rattle.automaton.specs.State.{Marks, PacketSet, passedOn, enter, outputSet, output, next, outputMask, nextMask, StateTraces, runs, hasTrace}
+use Rattle.automaton.proofs.Tests.{T-false}
 use Rattle.automaton.proofs.Masks.{maskOf-lt, bit-maskOf, bit-beyond, same-bits, bit-zero}
 use Rattle.automaton.proofs.Words.{Tr, traces-iff, not-empty}
 use Rattle.automaton.proofs.Spines.{Meets, Rem, meets-iff, rem-has, rem-meets-of, remainder-words, remainder-meets}
-use Rattle.automaton.proofs.Fundamental.{Gives, through, after, Enters, straight, later, Out, enters-has, first-dup, dup-first}
-use Rattle.automaton.proofs.Sets.{below, start-fits, start-iff}
+use Rattle.automaton.proofs.Fundamental.{Gives, through, after, Enters, straight, later, enters-has, first-dup, dup-first}
+use Rattle.automaton.proofs.Sets.{below, passedOn-fits, passedOn-iff}
 use Rattle.automaton.proofs.Flow.{Marked, flow-fits, enter-fits, flow-iff, enter-iff}
 
 split-last : (δ : ℕ) (t : List ℕ) → (w : List ℕ) × (ε : ℕ) × (δ ∷ t ≡ w ++ (ε ∷ []))
@@ -42,19 +41,19 @@ module _ (sizes : List ℕ) (dups : ℕ) (p : Policy) (ok : Evaluable sizes dups
 
     -- the packets that enter the root
     abbrev X : PacketSet
-    X = start sizes marks β 0
+    X = passedOn sizes marks β 0
 
     gives-iff : (w : List ℕ) (δ : ℕ) → ((β < product sizes) × StateTraces sizes p marks β (w ++ (δ ∷ []))) ↔ Gives P M β p (λ α. T (bit X α)) w δ
     unfolding StateTraces remainder
     gives-iff w δ = (λ h. there (h .0) (h .1 .0) (h .1 .1) (h .1 .2), back)
       where
         there : β < product sizes → (i : ℕ) → T (marks i) → Traces P (remainder p i) β (w ++ (δ ∷ [])) → Gives P M β p (λ α. T (bit X α)) w δ
-        there l zero m t = through β (start-iff sizes marks β 0 β .1 ((m, l), refl)) (traces-iff P p β w δ .0 t)
+        there l zero m t = through β (passedOn-iff sizes marks β 0 β .1 ((m, l), refl)) (traces-iff P p β w δ .0 t)
         there l (suc i) m t = after (suc i) (m, l) (remainder-words P p (ok .distinct) i β w δ .0 (traces-iff P (remainder p (suc i)) β w δ .0 t))
 
         back : Gives P M β p (λ α. T (bit X α)) w δ → (β < product sizes) × StateTraces sizes p marks β (w ++ (δ ∷ []))
         back (through α x t) =
-            let s = start-iff sizes marks β 0 α .0 x in
+            let s = passedOn-iff sizes marks β 0 α .0 x in
             (s .0 .1, (0, s .0 .0, traces-iff P p β w δ .1 (subst (λ y. Tr P p y w δ) (s .1) t)))
         back (after zero m r) = absurd (no-dup-zero (rem-has P p 0 β w δ r))
         back (after (suc i) m r) = (m .1, (suc i, m .0, traces-iff P (remainder p (suc i)) β w δ .1 (remainder-words P p (ok .distinct) i β w δ .1 r)))
@@ -62,13 +61,13 @@ module _ (sizes : List ℕ) (dups : ℕ) (p : Policy) (ok : Evaluable sizes dups
     output-exact : (γ : ℕ) → T (output sizes p marks β γ) ↔ ((β < product sizes) × StateTraces sizes p marks β (γ ∷ []))
     unfolding output outputSet
     output-exact γ =
-        let f = flow-iff sizes marks β p (ok .inFields) X (start-fits sizes marks β 0) γ in
+        let f = flow-iff sizes marks β p (ok .inFields) X (passedOn-fits sizes marks β 0) γ in
         let g = gives-iff [] γ in
         (λ t. g .1 (f .0 t), λ h. f .1 (g .0 h))
 
     enters-iff : (i γ : ℕ) → T (next sizes p marks β γ i) ↔ Enters P M β p (λ α. T (bit X α)) i γ
     unfolding next
-    enters-iff i γ = enter-iff sizes marks β p (ok .inFields) X (start-fits sizes marks β 0) i γ
+    enters-iff i γ = enter-iff sizes marks β p (ok .inFields) X (passedOn-fits sizes marks β 0) i γ
 
     next-exact : (γ i : ℕ) → T (next sizes p marks β γ i) ↔ ((β < product sizes) × ((j : ℕ) × T (marks j) × Reaches P (remainder p j) i β γ))
     unfolding remainder
@@ -76,14 +75,14 @@ module _ (sizes : List ℕ) (dups : ℕ) (p : Policy) (ok : Evaluable sizes dups
       where
         there : Enters P M β p (λ α. T (bit X α)) i γ → (β < product sizes) × ((j : ℕ) × T (marks j) × Reaches P (remainder p j) i β γ)
         there (straight α x h) =
-            let s = start-iff sizes marks β 0 α .0 x in
+            let s = passedOn-iff sizes marks β 0 α .0 x in
             (s .0 .1, (0, s .0 .0, meets-iff P p i β γ .1 (subst (λ y. Meets P p i y γ) (s .1) h)))
         there (later zero m r) = absurd (no-dup-zero (rem-meets-of P p 0 i β γ r))
         there (later (suc j) m r) =
             (m .1, (suc j, m .0, meets-iff P (remainder p (suc j)) i β γ .1 (remainder-meets P p (ok .distinct) j i β γ .1 r)))
 
         back : β < product sizes → (j : ℕ) → T (marks j) → Reaches P (remainder p j) i β γ → Enters P M β p (λ α. T (bit X α)) i γ
-        back l zero m h = straight β (start-iff sizes marks β 0 β .1 ((m, l), refl)) (meets-iff P p i β γ .0 h)
+        back l zero m h = straight β (passedOn-iff sizes marks β 0 β .1 ((m, l), refl)) (meets-iff P p i β γ .0 h)
         back l (suc j) m h = later (suc j) (m, l) (remainder-meets P p (ok .distinct) j i β γ .0 (meets-iff P (remainder p (suc j)) i β γ .0 h))
 
     -- the next state marks dups of the policy alone
@@ -93,11 +92,11 @@ module _ (sizes : List ℕ) (dups : ℕ) (p : Policy) (ok : Evaluable sizes dups
     -- packets of the output, and packets at which something is marked next, are below N
     pub output-below : (γ : ℕ) → T (output sizes p marks β γ) → γ < product sizes
     unfolding output outputSet
-    output-below γ t = below sizes (outputSet sizes p marks β) (flow-fits sizes marks β p X (start-fits sizes marks β 0)) γ t
+    output-below γ t = below sizes (outputSet sizes p marks β) (flow-fits sizes marks β p X (passedOn-fits sizes marks β 0)) γ t
 
     pub next-below : (γ i : ℕ) → T (next sizes p marks β γ i) → γ < product sizes
     unfolding next
-    next-below γ i t = below sizes (enter sizes marks β p X i) (enter-fits sizes marks β p X (start-fits sizes marks β 0) i) γ t
+    next-below γ i t = below sizes (enter sizes marks β p X i) (enter-fits sizes marks β p X (passedOn-fits sizes marks β 0) i) γ t
 
     more-exact : (γ : ℕ) (w : List ℕ) (ε : ℕ)
         → ((β < product sizes) × StateTraces sizes p marks β (γ ∷ (w ++ (ε ∷ [])))) ↔ StateTraces sizes p (next sizes p marks β γ) γ (w ++ (ε ∷ []))
@@ -179,7 +178,7 @@ module _ (sizes : List ℕ) (dups : ℕ) (p : Policy) (ok : Evaluable sizes dups
 
   pub outputMask-fits : (m β : ℕ) → outputMask sizes p m β < 2 ^ product sizes
   unfolding outputMask outputSet
-  outputMask-fits m β = flow-fits sizes (bit m) β p (start sizes (bit m) β 0) (start-fits sizes (bit m) β 0)
+  outputMask-fits m β = flow-fits sizes (bit m) β p (passedOn sizes (bit m) β 0) (passedOn-fits sizes (bit m) β 0)
 
   nothing : (i : ℕ) → T (bit 0 i) → ⊥
   nothing i t = subst T (bit-zero i) t

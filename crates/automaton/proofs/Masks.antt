@@ -3,12 +3,12 @@ use Prim.Native.Nat.{ℕ, zero, suc, _+_, _-_, _*_, _/_, _%_, _^_, _≤_, _<_, z
 use mathlib.Core.Bool.{Bool, true, false, cond}
 use mathlib.Core.Logic.{_⊎_, inl, inr}
 use mathlib.Core.Path.{_≡_, refl, sym, ap, ap₂, _∙_, subst}
-use native.Mathlib.Nat.{eq-or-lt-of-le, le-of-suc-le-suc, not-suc-le-zero, lt-of-lt-of-le, div-eq-of-lt, mod-eq-of-lt, mod-lt, add-comm, zero-lt-suc, pow-suc, mod-one, le-trans, le-suc, le-refl}
+use native.Mathlib.Nat.{eq-or-lt-of-le, le-of-suc-le-suc, not-suc-le-zero, lt-of-lt-of-le, div-eq-of-lt, mod-eq-of-lt, mod-lt, zero-lt-suc, mod-one, le-trans, le-suc, le-refl}
 use native.Mathlib.Decide.{decLt}
 use native.Mathlib.Numerals.{one-add}
 use native.Mathlib.Omega.{arith}
 use lib.Dec.{T, eqb}
-use lib.Pow.{pow-pos, pow-mono, high, low, field, mod-mod-pow, mod-pow-add, pow-add}
+use lib.Pow.{pow-pos, pow-mono, high, low, field, mod-mod-pow, mod-pow-add}
 use Rattle.automaton.specs.Mask.{bit, maskOf}
 
 -- a bit as a digit

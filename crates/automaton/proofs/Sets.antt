@@ -1,22 +1,21 @@
 -- Packet sets as masks: members of each set, and the rounds of a star.
-use Prim.Native.Nat.{ℕ, zero, suc, _+_, _*_, _/_, _%_, _^_, _≤_, _<_, zero-le, suc-le-suc}
+use Prim.Native.Nat.{ℕ, zero, suc, _+_, _^_, _≤_, _<_, zero-le, suc-le-suc}
 use mathlib.Core.Bool.{Bool, true, false, _&&_, _||_, not, cond}
-use mathlib.Core.List.{List, [], _∷_}
+use mathlib.Core.List.{List}
 use mathlib.Core.Logic.{_⊎_, inl, inr, ⊎-map, _↔_}
 use mathlib.Core.Path.{_≡_, refl, sym, ap, _∙_, subst}
 use native.Mathlib.Nat.{le-trans, le-refl, le-suc, eq-or-lt-of-le, le-of-suc-le-suc, not-suc-le-zero}
 use native.Mathlib.Decide.{le-ind, decLe}
 use native.Mathlib.Omega.{arith}
 use lib.Dec.{T, eqb, eqb→eq}
-use lib.Pow.{pow-pos}
 use Rattle.packet.specs.Packets.{valueAt, changed}
 use Rattle.packet.specs.Sizes.{product}
 use Rattle.policy.specs.declared.FieldAction.{FieldAction}
 use Rattle.policy.specs.declared.FieldAction.the-variants.{Equals, Differs, Set}
 use Rattle.policy.specs.Meaning.{numbered}
 use Rattle.automaton.specs.Mask.{bit, maskOf}
-use Rattle.automaton.specs.State.{Marks, PacketSet, anyBelow, setOf, union, takes, image, rounds, start}
-use Rattle.automaton.proofs.Tests.{T-true, true-T, eqb-true, same-test, both, either}
+use Rattle.automaton.specs.State.{Marks, PacketSet, anyBelow, setOf, union, takes, image, rounds, passedOn}
+use Rattle.automaton.proofs.Tests.{true-T, eqb-true, same-test, both, either}
 use Rattle.automaton.proofs.Masks.{maskOf-lt, bit-maskOf, same-bits, bit-below}
 use Rattle.automaton.proofs.Words.{Acts}
 
@@ -72,13 +71,13 @@ module _ (sizes : List ℕ) where
   pub same-set : (X Y : PacketSet) → Fits X → Fits Y → ((γ : ℕ) → T (bit X γ) → T (bit Y γ)) → ((γ : ℕ) → T (bit Y γ) → T (bit X γ)) → X ≡ Y
   same-set X Y hx hy f g = same-bits (product sizes) X Y hx hy (λ γ l. same-test (bit X γ) (bit Y γ) (f γ) (g γ))
 
-  pub start-fits : (marks : Marks) (β i : ℕ) → Fits (start sizes marks β i)
-  unfolding start
-  start-fits marks β i = setOf-fits (λ γ. marks i && eqb γ β)
+  pub passedOn-fits : (marks : Marks) (β i : ℕ) → Fits (passedOn sizes marks β i)
+  unfolding passedOn
+  passedOn-fits marks β i = setOf-fits (λ γ. marks i && eqb γ β)
 
-  pub start-iff : (marks : Marks) (β i γ : ℕ) → T (bit (start sizes marks β i) γ) ↔ ((T (marks i) × (β < product sizes)) × (γ ≡ β))
-  unfolding start
-  start-iff marks β i γ = (
+  pub passedOn-iff : (marks : Marks) (β i γ : ℕ) → T (bit (passedOn sizes marks β i) γ) ↔ ((T (marks i) × (β < product sizes)) × (γ ≡ β))
+  unfolding passedOn
+  passedOn-iff marks β i γ = (
     λ t. let s = setOf-iff (λ γ. marks i && eqb γ β) γ .0 t in
         let h = both (marks i) (eqb γ β) .0 (s .1) in
         let e = eqb→eq γ β (h .1) in

@@ -1,17 +1,17 @@
 -- Remainders and what they reach, as relations over the tree; they are the right spine's traces and what it reaches.
-use Prim.Native.Nat.{ℕ, zero, suc, _<_}
+use Prim.Native.Nat.{ℕ, suc}
 use mathlib.Core.Bool.{Bool, true, false, cond}
-use mathlib.Core.List.{List, [], _∷_, _++_}
+use mathlib.Core.List.{List, []}
 use mathlib.Core.Logic.{_⊎_, inl, inr, ⊎-map, ⊎-elim, _↔_, Iff·trans}
 use mathlib.Core.Option.{Option, none, some, IsSome, Option·getD}
-use mathlib.Core.Path.{_≡_, refl, sym, ap, _∙_, subst}
+use mathlib.Core.Path.{_≡_}
 use lib.Dec.{T, eqb, eqb→eq}
 use Rattle.policy.specs.Meaning.{Packets}
 use Rattle.policy.specs.Tree.{Policy, drop, id, field, dup, sum, seq, star}
 use Rattle.automaton.specs.Remainder.{orElse, followedBy, rightSpine, remainder, HasDup, DistinctLabels}
 use Rattle.automaton.specs.Reaches.{Passes, Reaches}
 use Rattle.automaton.proofs.Tests.{eqb-true}
-use Rattle.automaton.proofs.Words.{Rel, Then, Star, done, more, Tr, traces-iff}
+use Rattle.automaton.proofs.Words.{Rel, Then, Star, Tr, traces-iff}
 
 module _ (P : Packets) where
   -- A without recording, and then R

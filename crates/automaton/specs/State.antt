@@ -1,8 +1,7 @@
 -- Output and next of a state (document 01, "States and rows"), and the traces that a state has.
 use Prim.Native.Nat.{ℕ, zero, suc}
-use mathlib.Core.Bool.{Bool, true, false, _&&_, _||_, not, cond}
+use mathlib.Core.Bool.{Bool, false, _&&_, _||_, not, cond}
 use mathlib.Core.List.{List, [], _∷_}
-use mathlib.Core.Path.{_≡_}
 use lib.Dec.{T, eqb}
 use Rattle.packet.specs.Packets.{valueAt, changed}
 use Rattle.packet.specs.Sizes.{product}
@@ -49,8 +48,8 @@ module _ (sizes : List ℕ) where
   rounds (suc k) body X = union (rounds k body X) (body (rounds k body X))
 
   -- {β} if the remainder is marked, else nothing
-  unfoldable pub start : Marks → ℕ → ℕ → PacketSet
-  start marks β i = setOf (λ γ. marks i && eqb γ β)
+  unfoldable pub passedOn : Marks → ℕ → ℕ → PacketSet
+  passedOn marks β i = setOf (λ γ. marks i && eqb γ β)
 
   module _ (marks : Marks) (β : ℕ) where
     -- what comes out of p without having been recorded, when X enters p and each marked dup passes on β
@@ -58,7 +57,7 @@ module _ (sizes : List ℕ) where
     flow drop X = 0
     flow id X = X
     flow (field a) X = image a X
-    flow (dup i) X = start marks β i
+    flow (dup i) X = passedOn marks β i
     flow (sum p q) X = union (flow p X) (flow q X)
     flow (seq p q) X = flow q (flow p X)
     flow (star p) X = rounds (product sizes) (flow p) X
@@ -76,14 +75,14 @@ module _ (sizes : List ℕ) where
 module _ (sizes : List ℕ) (p : Policy) where
   -- the output of a state at packet β
   unfoldable pub outputSet : Marks → ℕ → PacketSet
-  outputSet marks β = flow sizes marks β p (start sizes marks β 0)
+  outputSet marks β = flow sizes marks β p (passedOn sizes marks β 0)
 
   unfoldable pub output : Marks → ℕ → ℕ → Bool
   output marks β γ = bit (outputSet marks β) γ
 
   -- next at γ: the dups that γ enters
   unfoldable pub next : Marks → ℕ → ℕ → Marks
-  next marks β γ i = bit (enter sizes marks β p (start sizes marks β 0) i) γ
+  next marks β γ i = bit (enter sizes marks β p (passedOn sizes marks β 0) i) γ
 
   -- the same of states as masks, for a policy with so many dups
   unfoldable pub outputMask : ℕ → ℕ → PacketSet
