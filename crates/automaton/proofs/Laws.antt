@@ -210,6 +210,10 @@ module _ (sizes : List ℕ) (dups : ℕ) (p : Policy) (ok : Evaluable sizes dups
       → StateTraces sizes p (bit m) β (γ ∷ δ ∷ t) ↔ StateTraces sizes p (bit (nextMask sizes p dups m β γ)) γ (δ ∷ t)
   nextMask-iff m β l γ δ t = let e = mask-exact m β γ δ t in (λ h. e .0 (l, h), λ h. e .1 h .1)
 
+  -- state 1 is within the bits 0 to dups
+  pub whole-lt : 1 < 2 ^ suc dups
+  whole-lt = omega (arith, pow-pos dups)
+
   -- state 1, where only the whole policy is marked, has the policy's traces
   pub whole-iff : (β : ℕ) (t : List ℕ) → StateTraces sizes p (bit 1) β t ↔ Traces P p β t
   unfolding StateTraces remainder bit

@@ -6,4 +6,5 @@ pub mod Fundamental
 pub mod Sets
 pub mod Flow
 pub mod Laws
+pub mod Trees
 pub mod Examples
