@@ -1,0 +1,112 @@
+-- Laws of masks, over any width.
+use Prim.Native.Nat.{ℕ, zero, suc, _+_, _-_, _*_, _/_, _%_, _^_, _≤_, _<_, zero-le}
+use mathlib.Core.Bool.{Bool, true, false, cond}
+use mathlib.Core.Logic.{_⊎_, inl, inr}
+use mathlib.Core.Path.{_≡_, refl, sym, ap, ap₂, _∙_, subst}
+use native.Mathlib.Nat.{eq-or-lt-of-le, le-of-suc-le-suc, not-suc-le-zero, lt-of-lt-of-le, div-eq-of-lt, mod-eq-of-lt, mod-lt, zero-lt-suc, mod-one, le-trans, le-suc, le-refl}
+use native.Mathlib.Decide.{decLt}
+use native.Mathlib.Numerals.{one-add}
+use native.Mathlib.Omega.{arith}
+use lib.Dec.{T, eqb}
+use lib.Pow.{pow-pos, pow-mono, high, low, field, mod-mod-pow, mod-pow-add}
+use Rattle.automaton.specs.Mask.{bit, maskOf}
+
+-- a bit as a digit
+digit : Bool → ℕ
+digit b = cond b 1 0
+
+digit-of : (d : ℕ) → d < 2 → digit (eqb d 1) ≡ d
+unfolding digit
+digit-of zero h = refl
+digit-of (suc zero) h = refl
+digit-of (suc (suc d)) h = omega arith
+
+pub maskOf-lt : (w : ℕ) (f : ℕ → Bool) → maskOf w f < 2 ^ w
+unfolding maskOf
+maskOf-lt zero f = omega arith
+maskOf-lt (suc w) f = go (f w) (maskOf-lt w f)
+  where
+    go : (b : Bool) → maskOf w f < 2 ^ w → maskOf w f + cond b (2 ^ w) 0 < 2 ^ suc w
+    go true h = omega arith
+    go false h = omega (arith, pow-pos w)
+
+-- bit i of a number depends on its digits up to i alone
+bit-low : (n w i : ℕ) → i < w → bit n i ≡ bit (n % 2 ^ w) i
+unfolding bit
+bit-low n w i h = ap (λ (d : ℕ). eqb d 1) (digits n ∙ ap (λ (x : ℕ). x / 2 ^ i) cut ∙ sym (digits (n % 2 ^ w)))
+  where
+    digits : (x : ℕ) → x / 2 ^ i % 2 ≡ x % 2 ^ (1 + i) / 2 ^ i
+    digits x = sym (field x 1 i)
+
+    sum-up : w - (1 + i) + (1 + i) ≡ w
+    sum-up = omega arith
+
+    cut : n % 2 ^ (1 + i) ≡ n % 2 ^ w % 2 ^ (1 + i)
+    cut = sym (mod-mod-pow n (w - (1 + i)) (1 + i)) ∙ ap (λ (x : ℕ). n % 2 ^ x % 2 ^ (1 + i)) sum-up
+
+maskOf-suc : (w : ℕ) (f : ℕ → Bool) → maskOf (suc w) f ≡ digit (f w) * 2 ^ w + maskOf w f
+unfolding maskOf digit
+maskOf-suc w f = go (f w)
+  where
+    go : (b : Bool) → maskOf w f + cond b (2 ^ w) 0 ≡ cond b 1 0 * 2 ^ w + maskOf w f
+    go true = omega arith
+    go false = omega arith
+
+digit-bit : (b : Bool) → eqb (digit b % 2) 1 ≡ b
+unfolding digit
+digit-bit true = refl
+digit-bit false = refl
+
+pub bit-maskOf : (w : ℕ) (f : ℕ → Bool) (i : ℕ) → i < w → bit (maskOf w f) i ≡ f i
+unfolding bit
+bit-maskOf zero f i h = absurd (not-suc-le-zero h)
+bit-maskOf (suc w) f i h = go (eq-or-lt-of-le (le-of-suc-le-suc h)) (bit-maskOf w f i)
+  where
+    top : bit (digit (f w) * 2 ^ w + maskOf w f) w ≡ f w
+    top = ap (λ (x : ℕ). eqb (x % 2) 1) (high (digit (f w)) w (maskOf-lt w f)) ∙ digit-bit (f w)
+
+    go : (i ≡ w) ⊎ (i < w) → (i < w → bit (maskOf w f) i ≡ f i) → bit (maskOf (suc w) f) i ≡ f i
+    go (inl e) ih = rw (maskOf-suc w f, e) top
+    go (inr l) ih = rw (maskOf-suc w f) (bit-low (digit (f w) * 2 ^ w + maskOf w f) w i l ∙ ap (λ (x : ℕ). bit x i) (low (digit (f w)) w (maskOf-lt w f)) ∙ ih l)
+
+-- the bits of a number make it again
+maskOf-bits : (w a : ℕ) → maskOf w (bit a) ≡ a % 2 ^ w
+unfolding maskOf bit
+maskOf-bits zero a = sym (mod-one a)
+maskOf-bits (suc w) a = maskOf-suc w (bit a) ∙ ap₂ (λ (x y : ℕ). x * 2 ^ w + y) top (maskOf-bits w a) ∙ sym (mod-pow-add a 1 w) ∙ ap (λ (k : ℕ). a % 2 ^ k) (one-add w)
+  where
+    top : digit (bit a w) ≡ a / 2 ^ w % 2
+    top = digit-of (a / 2 ^ w % 2) (mod-lt (a / 2 ^ w) (zero-lt-suc 1))
+
+-- a mask depends on the bits below its width alone
+pub maskOf-cong : (w : ℕ) (f g : ℕ → Bool) → ((i : ℕ) → i < w → f i ≡ g i) → maskOf w f ≡ maskOf w g
+unfolding maskOf
+maskOf-cong zero f g h = refl
+maskOf-cong (suc w) f g h =
+    ap₂ (λ (m : ℕ) (b : Bool). m + cond b (2 ^ w) 0) (maskOf-cong w f g (λ i l. h i (le-trans l (le-suc w)))) (h w (le-refl (suc w)))
+
+pub maskOf-bit : (w a : ℕ) → a < 2 ^ w → maskOf w (bit a) ≡ a
+maskOf-bit w a h = maskOf-bits w a ∙ mod-eq-of-lt h
+
+-- two numbers below 2 ^ w with the same bits below w are equal
+pub same-bits : (w a b : ℕ) → a < 2 ^ w → b < 2 ^ w → ((i : ℕ) → i < w → bit a i ≡ bit b i) → a ≡ b
+same-bits w a b ha hb h = sym (maskOf-bit w a ha) ∙ maskOf-cong w (bit a) (bit b) h ∙ maskOf-bit w b hb
+
+-- a number below 2 ^ w has no bit from w on
+pub bit-beyond : (w a i : ℕ) → a < 2 ^ w → w ≤ i → bit a i ≡ false
+unfolding bit
+bit-beyond w a i h l = ap (λ (x : ℕ). eqb (x % 2) 1) (div-eq-of-lt (lt-of-lt-of-le h (pow-mono l)))
+
+pub bit-below : (w a i : ℕ) → a < 2 ^ w → T (bit a i) → i < w
+bit-below w a i h t = go (decLt i w)
+  where
+    go : Dec (i < w) → i < w
+    go (yes l) = l
+    go (no n) = absurd (subst T (bit-beyond w a i h (nlt n)) t)
+      where
+        nlt : ¬ (i < w) → w ≤ i
+        nlt m = omega arith
+
+-- no bit of 0 is set
+pub bit-zero : (i : ℕ) → bit 0 i ≡ false
+bit-zero i = bit-beyond 0 0 i (pow-pos 0) zero-le

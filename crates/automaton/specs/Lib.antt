@@ -1,0 +1,4 @@
+pub mod Mask
+pub mod Remainder
+pub mod Reaches
+pub mod State
