@@ -3,3 +3,7 @@ pub mod Meaning
 pub mod NodeLists
 pub mod Legality
 pub mod NodesOfTree
+pub mod Each
+pub mod Visits
+pub mod Transport
+pub mod Folds

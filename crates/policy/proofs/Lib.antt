@@ -1,0 +1,14 @@
+pub mod LowestLaws
+pub mod EachLaws
+pub mod Trees
+pub mod VisitLaws
+pub mod LabelLaws
+pub mod TraceLaws
+pub mod Congruence
+pub mod TransportLaws
+pub mod Numbered
+pub mod FoldLaws
+pub mod Readings
+pub mod Legality
+pub mod Postfix
+pub mod Nodes

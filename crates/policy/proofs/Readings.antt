@@ -1,0 +1,67 @@
+-- Figure 1 read on small policies: what each clause must mean.
+use Prim.Native.Nat.{ℕ, zero, suc}
+use mathlib.Core.Bool.{Bool, true, false, not, true≢false, false≢true}
+use mathlib.Core.List.{List, [], _∷_, _++_}
+use mathlib.Core.Logic.{_⊎_, inl, inr, ⊎-elim, _↔_}
+use mathlib.Core.Path.{_≡_, refl, ap, ap₂, _∙_}
+use lib.Dec.{T}
+use Rattle.policy.specs.declared.FieldAction.the-variants.{Equals, Differs, Set}
+use Rattle.policy.specs.Tree.{Policy, field, dup, seq, star}
+use Rattle.policy.specs.Meaning.{Packets, ActionTraces, Seq, Power, Traces}
+use Rattle.policy.proofs.TraceLaws.{in-turn, snoc-injective}
+
+passes : (b : Bool) → T b ↔ (b ≡ true)
+passes true = (λ h. refl, λ h. tt)
+passes false = (λ h. absurd h, λ h. absurd (false≢true h))
+
+fails : (b : Bool) → T (not b) ↔ (b ≡ false)
+fails true = (λ h. absurd h, λ h. absurd (true≢false h))
+fails false = (λ h. refl, λ h. tt)
+
+module _ (P : Packets) (α : P .Packet) (t : List (P .Packet)) where
+  -- f=v: the packet itself where its field has the value
+  pub equals-reads : (f v : ℕ) → Traces P (field (Equals f v)) α t ↔ ((P .has f v α ≡ true) × (t ≡ α ∷ []))
+  unfolding Traces ActionTraces
+  equals-reads f v = (λ h. (passes (P .has f v α) .0 (h .0), h .1), λ h. (passes (P .has f v α) .1 (h .0), h .1))
+
+  -- f≠v: the packet itself where its field has another value
+  pub differs-reads : (f v : ℕ) → Traces P (field (Differs f v)) α t ↔ ((P .has f v α ≡ false) × (t ≡ α ∷ []))
+  unfolding Traces ActionTraces
+  differs-reads f v = (λ h. (fails (P .has f v α) .0 (h .0), h .1), λ h. (fails (P .has f v α) .1 (h .0), h .1))
+
+  -- dup;f←v: the packet, and then the changed packet
+  pub dup-then-set : (i f v : ℕ) → Traces P (seq (dup i) (field (Set f v))) α t ↔ (t ≡ α ∷ P .change f v α ∷ [])
+  unfolding Traces ActionTraces
+  dup-then-set i f v = (to, λ e. in-turn (α ∷ []) α (P .change f v α ∷ []) e refl refl)
+    where
+      to : Traces P (seq (dup i) (field (Set f v))) α t → t ≡ α ∷ P .change f v α ∷ []
+      to s =
+          let e = snoc-injective (s .a) (α ∷ []) (s .β) α (s .first) in
+          s .joined ∙ ap₂ _++_ (e .0) (s .second ∙ ap (λ (β : P .Packet). P .change f v β ∷ []) (e .1))
+
+  -- f←v;dup: the changed packet twice
+  pub set-then-dup : (i f v : ℕ) → Traces P (seq (field (Set f v)) (dup i)) α t ↔ (t ≡ P .change f v α ∷ P .change f v α ∷ [])
+  unfolding Traces ActionTraces
+  set-then-dup i f v = (to, λ e. in-turn [] (P .change f v α) (P .change f v α ∷ P .change f v α ∷ []) e refl refl)
+    where
+      to : Traces P (seq (field (Set f v)) (dup i)) α t → t ≡ P .change f v α ∷ P .change f v α ∷ []
+      to s =
+          let e = snoc-injective (s .a) [] (s .β) (P .change f v α) (s .first) in
+          s .joined ∙ ap₂ _++_ (e .0) (s .second ∙ ap (λ (β : P .Packet). β ∷ β ∷ []) (e .1))
+
+  -- p*: the packet itself, or p and then p*
+  pub star-reads : (p : Policy) → Traces P (star p) α t ↔ ((t ≡ α ∷ []) ⊎ Seq P (Traces P p) (Traces P (star p)) α t)
+  unfolding Traces Power
+  star-reads p = (
+    λ h. powers (h .0) (h .1),
+    ⊎-elim (λ e. (0, e)) (λ s. (suc (s .second .0), in-turn (s .a) (s .β) (s .b) (s .joined) (s .first) (s .second .1))),
+  )
+    where
+      powers : (n : ℕ) → Power P (Traces P p) n α t → (t ≡ α ∷ []) ⊎ Seq P (Traces P p) (Traces P (star p)) α t
+      powers zero h = inl h
+      powers (suc n) s = inr (in-turn (s .a) (s .β) (s .b) (s .joined) (s .first) (n, s .second))
+
+-- power 0 of a star
+pub star-unchanged : (P : Packets) (p : Policy) (α : P .Packet) → Traces P (star p) α (α ∷ [])
+unfolding Traces Power
+star-unchanged P p α = (0, refl)
