@@ -1,0 +1,5 @@
+pub mod Digits
+pub mod Search
+pub mod Loops
+pub mod Words
+pub mod Work
