@@ -2,4 +2,5 @@ pub mod Digits
 pub mod Search
 pub mod Loops
 pub mod Words
+pub mod Walk
 pub mod Work

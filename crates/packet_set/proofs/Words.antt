@@ -1,10 +1,9 @@
--- Laws of packet sets: what the word loops leave, membership, extensionality, the lowest member. Assumes nothing.
+-- Laws of packet sets: what the word loops leave, membership, extensionality. Assumes nothing.
 use Prim.Native.Nat.{ℕ, zero, suc, _+_, _*_, _/_, _%_, _^_, _-_, _≤_, _<_}
 use mathlib.Core.Path.{_≡_, refl, sym, ap, ap₂, _∙_, subst}
 use mathlib.Core.Bool.{Bool, true, false, not, xor, _&&_, _||_, true≢false}
 use mathlib.Core.Logic.{_≢_}
 use mathlib.Core.List.{List, [], _∷_}
-use mathlib.Core.Option.{Option, none, some}
 use native.Mathlib.Nat.{le-of-suc-le-suc, not-suc-le-zero, zero-lt-suc}
 use native.Mathlib.Decide.{ℕ-discrete, decLt}
 use native.Mathlib.Omega.{arith}
@@ -12,15 +11,10 @@ use lib.Dec.{eqb}
 use borrow.Author.Tests.{eq-eqb, ne-eqb}
 use lib.ListN.{length, getD, set, take, replicate}
 use lib.Seq.{ext-getD, getD-take, length-take-le, getD-set-same, getD-set-other}
-use lib.Count.{trailingZeros}
 use lib.Bits.{bitOr, bitAnd, bitXor}
 use Rattle.packet_set.specs.Bits.{bit, marked}
-use Rattle.packet_set.specs.Lowest.{lowest}
-use Rattle.packet_set.specs.Members.{member, wordsFor, emptySet, withPacket, wordwise, unionOf, without, differenceOf, exclusiveOrOf, lowestIn, isNone, lowestAnswer, isEmpty}
-use Rattle.packet_set.specs.declared.Lowest.{Lowest}
-use Rattle.packet_set.specs.declared.Lowest.the-variants.{At, Nothing}
+use Rattle.packet_set.specs.Members.{member, wordsFor, emptySet, withPacket, wordwise, unionOf, without, differenceOf, exclusiveOrOf}
 use Rattle.packet_set.proofs.Digits.{bit-or, bit-xor, bit-without, bit-of-zero, bit-marked, bits-same}
-use Rattle.packet_set.proofs.Search.{IsLowest, Found, lowest-is, lowest-only, trailing-lowest}
 
 -- ---- a word loop: f done below i, the first set's words from i on
 
@@ -142,59 +136,6 @@ words-same k a b la lb ha hb h =
     at : (i j : ℕ) → i < k → j < 32 → bit (getD a i 0) j ≡ bit (getD b i 0) j
     at i j l m =
         sym (member-in-word a i j m) ∙ h (i * 32 + j) (omega arith) ∙ member-in-word b i j m
-
--- ---- the lowest member
-
-module _ (s : List ℕ) where
-  zero-words : (i : ℕ) → ((j : ℕ) → j < i → getD s j 0 ≡ 0) → (γ : ℕ) → γ / 32 < i → member s γ ≡ false
-  unfolding member
-  zero-words i h γ l = ap (λ (x : ℕ). bit x (γ % 32)) (h (γ / 32) l) ∙ bit-of-zero (γ % 32)
-
-  pub lowest-nothing : (k : ℕ) → ((j : ℕ) → j < k → getD s j 0 ≡ 0) → lowestIn k s ≡ none
-  unfolding lowestIn
-  lowest-nothing k h = lowest-only (member s) (32 * k) none (λ γ l. zero-words k h γ (omega arith))
-
-  -- trailing zeros of the first word that is not 0
-  pub lowest-at : (k i : ℕ) → i < k → ((j : ℕ) → j < i → getD s j 0 ≡ 0) → 0 < getD s i 0 → getD s i 0 < 2 ^ 32
-      → lowestIn k s ≡ some (i * 32 + trailingZeros 32 (getD s i 0))
-  unfolding lowestIn
-  lowest-at k i l h p b = go (trailingZeros 32 (getD s i 0)) (trailing-lowest 32 (getD s i 0) b p)
-    where
-      go : (z : ℕ) → IsLowest (bit (getD s i 0)) 32 z → lowest (member s) (32 * k) ≡ some (i * 32 + z)
-      go z f =
-          let z< : z < 32 = f .below in
-          lowest-only (member s) (32 * k) (some (i * 32 + z))
-          (record { below = omega arith; passes = member-in-word s i z z< ∙ f .passes; first = λ γ m. earlier γ m (decLt (γ / 32) i) })
-        where
-          earlier : (γ : ℕ) → γ < i * 32 + z → Dec (γ / 32 < i) → member s γ ≡ false
-          earlier γ m (yes q) = zero-words i h γ q
-          earlier γ m (no q) =
-              let z< : z < 32 = f .below in
-              let e : γ ≡ i * 32 + (γ - i * 32) = omega arith in
-              ap (member s) e ∙ member-in-word s i (γ - i * 32) (omega arith) ∙ f .first (γ - i * 32) (omega arith)
-
-  -- empty: no member
-  pub empty-members : (k : ℕ) → isEmpty k s ≡ true → (γ : ℕ) → γ < 32 * k → member s γ ≡ false
-  unfolding isEmpty lowestIn
-  empty-members k = go (lowest (member s) (32 * k)) (lowest-is (member s) (32 * k))
-    where
-      go : (o : Option ℕ) → Found (member s) (32 * k) o → isNone o ≡ true → (γ : ℕ) → γ < 32 * k → member s γ ≡ false
-      go none f e = f
-      go (some γ) f e = absurd (true≢false (sym e))
-
-  pub members-empty : (k : ℕ) → ((γ : ℕ) → γ < 32 * k → member s γ ≡ false) → isEmpty k s ≡ true
-  unfolding isEmpty lowestIn
-  members-empty k h = ap isNone (lowest-only (member s) (32 * k) none h)
-
--- whether there is a member, read off the answer
-abbrev pub isNothing : Lowest → Bool
-isNothing Nothing = true
-isNothing (At γ) = false
-
-pub nothing-answer : (o : Option ℕ) → isNothing (lowestAnswer o) ≡ isNone o
-unfolding lowestAnswer
-nothing-answer none = refl
-nothing-answer (some γ) = refl
 
 -- the words that n packets need hold them, and 32 words hold 1,024
 pub words-hold : (n : ℕ) → n ≤ 32 * wordsFor n

@@ -1,14 +1,15 @@
 -- Laws of the work list's slots. Assumes nothing.
-use Prim.Native.Nat.{ℕ, zero, suc, _+_, _*_, _≤_, _<_}
+use Prim.Native.Nat.{ℕ, zero, suc, _+_, _*_, _/_, _%_, _≤_, _<_}
 use mathlib.Core.Path.{_≡_, refl, sym, ap, ap₂, _∙_, subst}
 use mathlib.Core.Logic.{_≢_, _⊎_, inl, inr, ⊎-elim}
 use mathlib.Core.List.{List, [], _∷_, _++_}
 use native.Mathlib.Nat.{not-suc-le-zero, le-of-suc-le-suc, eq-or-lt-of-le}
 use native.Mathlib.Decide.{decLt}
 use native.Mathlib.Omega.{arith}
-use lib.ListN.{length, getD, set, take, drop, length-drop}
+use lib.ListN.{length, getD, set, take, drop, length-drop, length-append, List·getD-append}
 use lib.Seq.{paste, paste-zero, paste-suc, length-paste, getD-set-same, getD-set-other, getD-drop, getD-take, ext-getD, length-take-le}
-use Rattle.packet_set.specs.Members.{emptySet}
+use Rattle.packet_set.specs.Bits.{bit}
+use Rattle.packet_set.specs.Members.{emptySet, member}
 use Rattle.packet_set.specs.Slots.{slotAt, withSlot}
 
 -- ---- the loops
@@ -98,3 +99,24 @@ module _ (k n : ℕ) (work s : List ℕ) (fits : 32 * n + k ≤ length work) (lo
       apart : (i : ℕ) → i < k → Dec (m < n) → (32 * m + i < 32 * n) ⊎ (32 * n + k ≤ 32 * m + i)
       apart i b (yes l) = inl (omega arith)
       apart i b (no l) = inr (omega arith)
+
+-- ---- what a slot holds
+
+pub length-slot : (k n : ℕ) (work : List ℕ) → k ≤ 32 → 32 * n + k ≤ length work → length (slotAt k n work) ≡ 32
+unfolding slotAt
+length-slot k n work l h =
+    length-append (take k (drop (32 * n) work)) (drop k emptySet)
+    ∙ ap₂ (λ (x y : ℕ). x + y) (length-take-le k (drop (32 * n) work) (omega (arith, length-drop (32 * n) work))) (length-drop k emptySet)
+    ∙ unfold emptySet in omega arith
+
+-- the first k words of a set hold its packets below 32 k
+pub member-first : (k : ℕ) (s : List ℕ) (γ : ℕ) → γ < 32 * k → k ≤ length s → member (take k s ++ drop k emptySet) γ ≡ member s γ
+unfolding member
+member-first k s γ l h =
+    ap (λ (x : ℕ). bit x (γ % 32))
+    (List·getD-append (take k s) (drop k emptySet) 0 (γ / 32) (omega (arith, length-take-le k s h)) ∙ getD-take k s (γ / 32) 0 (omega arith))
+
+pub member-slot : (k n : ℕ) (work : List ℕ) (γ : ℕ) → γ < 32 * k → 32 * n + k ≤ length work → member (slotAt k n work) γ ≡ bit (getD work (32 * n + γ / 32) 0) (γ % 32)
+unfolding slotAt
+member-slot k n work γ l h =
+    member-first k (drop (32 * n) work) γ l (omega (arith, length-drop (32 * n) work)) ∙ unfold member in ap (λ (x : ℕ). bit x (γ % 32)) (getD-drop (32 * n) work (γ / 32) 0)

@@ -1,10 +1,11 @@
 -- Sets of packets as 32 words of 32 bits. A set function works on the first k words and keeps the other words of its first set;
 -- k = wordsFor N words hold every packet below N.
 use Prim.Native.Nat.{ℕ, zero, suc, _+_, _*_, _/_, _%_, _^_}
-use mathlib.Core.Bool.{Bool, true, false}
+use mathlib.Core.Bool.{Bool, true, false, _&&_}
 use mathlib.Core.List.{List, [], _∷_}
 use mathlib.Core.Option.{Option, none, some}
 use lib.ListN.{getD, set, replicate}
+use lib.Dec.{leb}
 use lib.Bits.{bitOr, bitAnd, bitXor}
 use Rattle.packet_set.specs.Bits.{bit, marked}
 use Rattle.packet_set.specs.Lowest.{lowest}
@@ -46,9 +47,9 @@ differenceOf = wordwise without
 unfoldable pub exclusiveOrOf : ℕ → List ℕ → List ℕ → List ℕ
 exclusiveOrOf = wordwise bitXor
 
--- the lowest packet in the first k words
-unfoldable pub lowestIn : ℕ → List ℕ → Option ℕ
-lowestIn k s = lowest (member s) (32 * k)
+-- the lowest packet in the first k words that is not below `from`
+unfoldable pub lowestIn : ℕ → ℕ → List ℕ → Option ℕ
+lowestIn k from s = lowest (λ γ. leb from γ && member s γ) (32 * k)
 
 unfoldable pub lowestAnswer : Option ℕ → Lowest
 lowestAnswer none = Nothing
@@ -60,4 +61,4 @@ isNone (some γ) = false
 
 -- no packet is in the first k words
 unfoldable pub isEmpty : ℕ → List ℕ → Bool
-isEmpty k s = isNone (lowestIn k s)
+isEmpty k s = isNone (lowestIn k 0 s)

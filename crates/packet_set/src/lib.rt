@@ -124,12 +124,12 @@ pub enum Lowest {
     Nothing,
 }
 
-// Inner. The lowest packet in the first words: trailing zeros of the first word that is not 0.
-pub fn lowest_member(set: PacketSet, words: usize) -> Lowest
-    requires { ⌜ words ≤ 32 ⌝ }
-    ensures { λ r. ⌜ r ≡ lowestAnswer (lowestIn words set) ⌝ }
+// Inner. The lowest packet in the words from start on: trailing zeros of the first of them that is not 0.
+fn lowest_from(set: &[u32], start: usize, words: usize) -> Lowest
+    requires { ⌜ (words ≤ 32) × (words ≤ length (now set)) ⌝ }
+    ensures { λ r. ⌜ r ≡ lowestAnswer (lowestIn words (32 * start) (now (set .entry))) ⌝ }
 {
-    let mut i = 0;
+    let mut i = start;
     while i < words {
         let word = set[i];
         if word != 0 {
@@ -138,6 +138,31 @@ pub fn lowest_member(set: PacketSet, words: usize) -> Lowest
         i += 1;
     }
     Lowest::Nothing
+}
+
+// Inner. The lowest packet in the first words.
+pub fn lowest_member(set: PacketSet, words: usize) -> Lowest
+    requires { ⌜ words ≤ 32 ⌝ }
+    ensures { λ r. ⌜ r ≡ lowestAnswer (lowestIn words 0 set) ⌝ }
+{
+    lowest_from(&set, 0, words)
+}
+
+// Inner. The lowest packet in the first words that is not below `from`: to walk a set, or a slot where it lies.
+pub fn next_member(set: &[u32], from: u16, words: usize) -> Lowest
+    requires { ⌜ (words ≤ 32) × (words ≤ length (now set)) ⌝ }
+    ensures { λ r. ⌜ r ≡ lowestAnswer (lowestIn words from (now (set .entry))) ⌝ }
+{
+    let at = from as usize;
+    let start = at / 32;
+    if words <= start {
+        return Lowest::Nothing;
+    }
+    let rest = set[start] >> (from % 32);
+    if rest != 0 {
+        return Lowest::At(from + u32::trailing_zeros(rest) as u16);
+    }
+    lowest_from(set, start + 1, words)
 }
 
 // Inner. No packet is in the first words.

@@ -1,7 +1,7 @@
 -- `is_empty` meets its contract. Assumes nothing.
 use mathlib.Core.Path.{ap, sym, _∙_}
 use Rattle.packet_set.specs.Members.{isEmpty}
-use Rattle.packet_set.proofs.Words.{isNothing, nothing-answer}
+use Rattle.packet_set.proofs.Walk.{isNothing, nothing-answer}
 use borrow.Author.Needs.{needs}
 use Rattle.packet_set.proofs.is_empty.Statement.{statement}
 use Rattle.packet_set.proofs.is_empty.Tie as tie
