@@ -1,17 +1,16 @@
 -- Laws of packet sets: what the word loops leave, membership, extensionality. Assumes nothing.
-use Prim.Native.Nat.{ℕ, zero, suc, _+_, _*_, _/_, _%_, _^_, _-_, _≤_, _<_}
-use mathlib.Core.Path.{_≡_, refl, sym, ap, ap₂, _∙_, subst}
-use mathlib.Core.Bool.{Bool, true, false, not, xor, _&&_, _||_, true≢false}
-use mathlib.Core.Logic.{_≢_}
+use Prim.Native.Nat.{ℕ, zero, suc, _+_, _*_, _/_, _%_, _^_, _≤_, _<_}
+use mathlib.Core.Path.{_≡_, refl, sym, ap, ap₂, _∙_}
+use mathlib.Core.Bool.{Bool, true, false, not, xor, _&&_, _||_}
 use mathlib.Core.List.{List, [], _∷_}
-use native.Mathlib.Nat.{le-of-suc-le-suc, not-suc-le-zero, zero-lt-suc}
-use native.Mathlib.Decide.{ℕ-discrete, decLt}
+use native.Mathlib.Nat.{le-of-suc-le-suc, not-suc-le-zero}
+use native.Mathlib.Decide.{ℕ-discrete}
 use native.Mathlib.Omega.{arith}
 use lib.Dec.{eqb}
 use borrow.Author.Tests.{eq-eqb, ne-eqb}
 use lib.ListN.{length, getD, set, take, replicate}
 use lib.Seq.{ext-getD, getD-take, length-take-le, getD-set-same, getD-set-other}
-use lib.Bits.{bitOr, bitAnd, bitXor}
+use lib.Bits.{bitOr, bitXor}
 use Rattle.packet_set.specs.Bits.{bit, marked}
 use Rattle.packet_set.specs.Members.{member, wordsFor, emptySet, withPacket, wordwise, unionOf, without, differenceOf, exclusiveOrOf}
 use Rattle.packet_set.proofs.Digits.{bit-or, bit-xor, bit-without, bit-of-zero, bit-marked, bits-same}

@@ -1,13 +1,13 @@
 -- Laws of the work list's slots. Assumes nothing.
 use Prim.Native.Nat.{ℕ, zero, suc, _+_, _*_, _/_, _%_, _≤_, _<_}
-use mathlib.Core.Path.{_≡_, refl, sym, ap, ap₂, _∙_, subst}
+use mathlib.Core.Path.{_≡_, refl, sym, ap, ap₂, _∙_}
 use mathlib.Core.Logic.{_≢_, _⊎_, inl, inr, ⊎-elim}
 use mathlib.Core.List.{List, [], _∷_, _++_}
 use native.Mathlib.Nat.{not-suc-le-zero, le-of-suc-le-suc, eq-or-lt-of-le}
 use native.Mathlib.Decide.{decLt}
 use native.Mathlib.Omega.{arith}
 use lib.ListN.{length, getD, set, take, drop, length-drop, length-append, List·getD-append}
-use lib.Seq.{paste, paste-zero, paste-suc, length-paste, getD-set-same, getD-set-other, getD-drop, getD-take, ext-getD, length-take-le}
+use lib.Seq.{paste-zero, paste-suc, length-paste, getD-set-same, getD-set-other, getD-drop, getD-take, ext-getD, length-take-le}
 use Rattle.packet_set.specs.Bits.{bit}
 use Rattle.packet_set.specs.Members.{emptySet, member}
 use Rattle.packet_set.specs.Slots.{slotAt, withSlot}

@@ -1,6 +1,6 @@
 -- Sets of packets as 32 words of 32 bits. A set function works on the first k words and keeps the other words of its first set;
 -- k = wordsFor N words hold every packet below N.
-use Prim.Native.Nat.{ℕ, zero, suc, _+_, _*_, _/_, _%_, _^_}
+use Prim.Native.Nat.{ℕ, zero, suc, _+_, _*_, _/_, _%_}
 use mathlib.Core.Bool.{Bool, true, false, _&&_}
 use mathlib.Core.List.{List, [], _∷_}
 use mathlib.Core.Option.{Option, none, some}

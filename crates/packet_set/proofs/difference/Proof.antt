@@ -1,5 +1,5 @@
 -- `difference` meets its contract: each turn of the loop does one more word. Assumes nothing.
-use Prim.Native.Nat.{ℕ, _-_}
+use Prim.Native.Nat.{_-_}
 use borrow.Author.Needs.{needs}
 use Rattle.packet_set.specs.Members.{without, wordwise, differenceOf}
 use Rattle.packet_set.proofs.Loops.{Loop, none-done, one-done, all-done}

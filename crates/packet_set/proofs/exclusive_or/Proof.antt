@@ -1,5 +1,5 @@
 -- `exclusive_or` meets its contract: each turn of the loop does one more word. Assumes nothing.
-use Prim.Native.Nat.{ℕ, _-_}
+use Prim.Native.Nat.{_-_}
 use borrow.Author.Needs.{needs}
 use lib.Bits.{bitXor}
 use Rattle.packet_set.specs.Members.{wordwise, exclusiveOrOf}

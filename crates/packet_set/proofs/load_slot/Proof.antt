@@ -1,5 +1,5 @@
 -- `load_slot` meets its contract: each turn of the loop reads one more word. Assumes nothing.
-use Prim.Native.Nat.{ℕ, _-_}
+use Prim.Native.Nat.{_-_}
 use borrow.Author.Needs.{needs}
 use native.Mathlib.Omega.{arith}
 use Rattle.packet_set.specs.Members.{emptySet}

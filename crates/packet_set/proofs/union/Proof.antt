@@ -1,5 +1,5 @@
 -- `union` meets its contract: each turn of the loop does one more word. Assumes nothing.
-use Prim.Native.Nat.{ℕ, _-_}
+use Prim.Native.Nat.{_-_}
 use borrow.Author.Needs.{needs}
 use lib.Bits.{bitOr}
 use Rattle.packet_set.specs.Members.{wordwise, unionOf}
