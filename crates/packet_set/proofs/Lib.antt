@@ -1,0 +1,6 @@
+pub mod Digits
+pub mod Search
+pub mod Loops
+pub mod Words
+pub mod Walk
+pub mod Work

@@ -1,0 +1,4 @@
+pub mod Bits
+pub mod Lowest
+pub mod Members
+pub mod Slots
