@@ -7,7 +7,7 @@ use Rattle.packet.specs.Packets.{valueAt, changed, valuesOf, numberOf}
 use Rattle.packet.specs.Sizes.{product}
 use Rattle.policy.specs.declared.FieldAction.the-variants.{Equals, Set}
 use Rattle.policy.specs.Tree.{Policy, drop, id, field, dup, sum, seq, star}
-use Rattle.automaton.specs.Mask.{bit, maskOf}
+use Rattle.packet_set.specs.Bits.{bit, maskOf}
 use Rattle.automaton.specs.State.{anyBelow, setOf, union, takes, image, rounds, passedOn, flow, enter, outputSet, next, outputMask, nextMask, runs, hasTrace}
 
 -- the output of a state at β, then the next states at γ = 0 to n − 1

@@ -17,10 +17,10 @@ use Rattle.policy.specs.declared.FieldAction.the-variants.{Equals, Differs, Set
 use Rattle.policy.specs.Legality.{badField, fieldOf, valueOf, InFields}
 use Rattle.policy.specs.Meaning.{Packets, numbered}
 use Rattle.policy.specs.Tree.{Policy, drop, id, field, dup, sum, seq, star}
-use Rattle.automaton.specs.Mask.{bit}
+use Rattle.packet_set.specs.Bits.{bit}
 use Rattle.automaton.specs.State.{Marks, PacketSet, image, rounds, passedOn, flow, enter}
 use Rattle.automaton.proofs.Tests.{eqb-true, either}
-use Rattle.automaton.proofs.Masks.{bit-zero}
+use Rattle.packet_set.proofs.Digits.{bit-of-zero}
 use Rattle.automaton.proofs.Words.{Acts, Tr, Star, done, more}
 use Rattle.automaton.proofs.Spines.{Meets, Rem, RemMeets}
 use Rattle.automaton.proofs.Fundamental.{nil-split, through, after, Enters, straight, later, Out, gives-map, enters-map, gives-sum, enters-sum, gives-seq-nil, enters-seq, star-once, star-none, enters-star}
@@ -151,7 +151,7 @@ module _ (sizes : List ℕ) (marks : Marks) (β : ℕ) where
     )
 
   nothing : (γ : ℕ) → In 0 γ → ⊥
-  nothing γ t = subst T (bit-zero γ) t
+  nothing γ t = subst T (bit-of-zero γ) t
 
   -- the set that comes out of p, exactly
   pub flow-iff : (p : Policy) → InFields sizes p → (X : PacketSet) → Fits sizes X → (γ : ℕ) → In (flow sizes marks β p X) γ ↔ Out P M β p (In X) γ

@@ -11,12 +11,13 @@ use lib.Dec.{T, lit<}
 use Rattle.packet.specs.Sizes.{product}
 use Rattle.policy.specs.Meaning.{Packets, numbered, Traces}
 use Rattle.policy.specs.Tree.{Policy}
-use Rattle.automaton.specs.Mask.{bit, maskOf}
+use Rattle.packet_set.specs.Bits.{bit, maskOf}
 use Rattle.automaton.specs.Remainder.{remainder, HasDup, Evaluable}
 use Rattle.automaton.specs.Reaches.{Reaches}
 use Rattle.automaton.specs.State.{Marks, PacketSet, passedOn, enter, outputSet, output, next, outputMask, nextMask, StateTraces, runs, hasTrace}
 use Rattle.automaton.proofs.Tests.{T-false}
-use Rattle.automaton.proofs.Masks.{maskOf-lt, bit-maskOf, bit-beyond, same-bits, bit-zero}
+use Rattle.packet_set.proofs.Digits.{bit-high, bits-same, bit-of-zero}
+use Rattle.packet_set.proofs.Masks.{maskOf-lt, bit-maskOf}
 use Rattle.automaton.proofs.Words.{Tr, traces-iff, not-empty}
 use Rattle.automaton.proofs.Spines.{Meets, Rem, meets-iff, rem-has, rem-meets-of, remainder-words, remainder-meets}
 use Rattle.automaton.proofs.Fundamental.{Gives, through, after, Enters, straight, later, enters-has, first-dup, dup-first}
@@ -169,7 +170,7 @@ module _ (sizes : List ℕ) (dups : ℕ) (p : Policy) (ok : Evaluable sizes dups
       go : Dec (i < suc dups) → bit (maskOf (suc dups) (next sizes p (bit m) β γ)) i ≡ next sizes p (bit m) β γ i
       go (yes l) = bit-maskOf (suc dups) (next sizes p (bit m) β γ) i l
       go (no n) =
-          bit-beyond (suc dups) (nextMask sizes p dups m β γ) i (nextMask-lt m β γ) (omega arith)
+          bit-high (suc dups) (nextMask sizes p dups m β γ) i (nextMask-lt m β γ) (omega arith)
           ∙ sym (T-false (next sizes p (bit m) β γ i) (λ t. n (suc-le-suc (ok .upTo i (next-marks-dups (bit m) β γ i t)))))
 
   pub outputMask-bit : (m β γ : ℕ) → bit (outputMask sizes p m β) γ ≡ output sizes p (bit m) β γ
@@ -181,18 +182,18 @@ module _ (sizes : List ℕ) (dups : ℕ) (p : Policy) (ok : Evaluable sizes dups
   outputMask-fits m β = flow-fits sizes (bit m) β p (passedOn sizes (bit m) β 0) (passedOn-fits sizes (bit m) β 0)
 
   nothing : (i : ℕ) → T (bit 0 i) → ⊥
-  nothing i t = subst T (bit-zero i) t
+  nothing i t = subst T (bit-of-zero i) t
 
   -- the empty state stays empty and has no output
   pub dead-nextMask : (β γ : ℕ) → nextMask sizes p dups 0 β γ ≡ 0
   dead-nextMask β γ =
-      same-bits (suc dups) (nextMask sizes p dups 0 β γ) 0 (nextMask-lt 0 β γ) (pow-pos (suc dups))
-      (λ i l. nextMask-bit 0 β γ i ∙ T-false (next sizes p (bit 0) β γ i) (dead-next (bit 0) β nothing γ i) ∙ sym (bit-zero i))
+      bits-same (suc dups) (nextMask sizes p dups 0 β γ) 0 (nextMask-lt 0 β γ) (pow-pos (suc dups))
+      (λ i l. nextMask-bit 0 β γ i ∙ T-false (next sizes p (bit 0) β γ i) (dead-next (bit 0) β nothing γ i) ∙ sym (bit-of-zero i))
 
   pub dead-outputMask : (β : ℕ) → outputMask sizes p 0 β ≡ 0
   dead-outputMask β =
-      same-bits (product sizes) (outputMask sizes p 0 β) 0 (outputMask-fits 0 β) (pow-pos (product sizes))
-      (λ γ l. outputMask-bit 0 β γ ∙ T-false (output sizes p (bit 0) β γ) (dead-output (bit 0) β nothing γ) ∙ sym (bit-zero γ))
+      bits-same (product sizes) (outputMask sizes p 0 β) 0 (outputMask-fits 0 β) (pow-pos (product sizes))
+      (λ γ l. outputMask-bit 0 β γ ∙ T-false (output sizes p (bit 0) β γ) (dead-output (bit 0) β nothing γ) ∙ sym (bit-of-zero γ))
 
   pub outputMask-iff : (m β : ℕ) → β < product sizes → (γ : ℕ) → T (bit (outputMask sizes p m β) γ) ↔ StateTraces sizes p (bit m) β (γ ∷ [])
   unfolding outputMask output
@@ -221,7 +222,7 @@ module _ (sizes : List ℕ) (dups : ℕ) (p : Policy) (ok : Evaluable sizes dups
     where
       there : (i : ℕ) → T (bit 1 i) → Traces P (remainder p i) β t → Traces P p β t
       there zero m h = h
-      there (suc i) m h = absurd (subst T (bit-beyond 1 1 (suc i) (lit< tt) (zero-lt-suc i)) m)
+      there (suc i) m h = absurd (subst T (bit-high 1 1 (suc i) (lit< tt) (zero-lt-suc i)) m)
 
   -- a packet from which a next state has a trace is below N
   next-inside : (m β γ : ℕ) (t : List ℕ) → StateTraces sizes p (bit (nextMask sizes p dups m β γ)) γ t → γ < product sizes

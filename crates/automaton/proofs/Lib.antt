@@ -1,5 +1,4 @@
 pub mod Tests
-pub mod Masks
 pub mod Words
 pub mod Spines
 pub mod Fundamental

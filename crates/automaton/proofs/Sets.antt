@@ -13,10 +13,11 @@ use Rattle.packet.specs.Sizes.{product}
 use Rattle.policy.specs.declared.FieldAction.{FieldAction}
 use Rattle.policy.specs.declared.FieldAction.the-variants.{Equals, Differs, Set}
 use Rattle.policy.specs.Meaning.{numbered}
-use Rattle.automaton.specs.Mask.{bit, maskOf}
+use Rattle.packet_set.specs.Bits.{bit, maskOf}
 use Rattle.automaton.specs.State.{Marks, PacketSet, anyBelow, setOf, union, takes, image, rounds, passedOn}
 use Rattle.automaton.proofs.Tests.{true-T, eqb-true, same-test, both, either}
-use Rattle.automaton.proofs.Masks.{maskOf-lt, bit-maskOf, same-bits, bit-below}
+use Rattle.packet_set.proofs.Digits.{bits-same}
+use Rattle.packet_set.proofs.Masks.{maskOf-lt, bit-maskOf, bit-below}
 use Rattle.automaton.proofs.Words.{Acts}
 
 pub anyBelow-iff : (n : ℕ) (test : ℕ → Bool) → T (anyBelow n test) ↔ ((i : ℕ) × (i < n) × T (test i))
@@ -69,7 +70,7 @@ module _ (sizes : List ℕ) where
 
   -- two sets with the same members are one
   pub same-set : (X Y : PacketSet) → Fits X → Fits Y → ((γ : ℕ) → T (bit X γ) → T (bit Y γ)) → ((γ : ℕ) → T (bit Y γ) → T (bit X γ)) → X ≡ Y
-  same-set X Y hx hy f g = same-bits (product sizes) X Y hx hy (λ γ l. same-test (bit X γ) (bit Y γ) (f γ) (g γ))
+  same-set X Y hx hy f g = bits-same (product sizes) X Y hx hy (λ γ l. same-test (bit X γ) (bit Y γ) (f γ) (g γ))
 
   pub passedOn-fits : (marks : Marks) (β i : ℕ) → Fits (passedOn sizes marks β i)
   unfolding passedOn

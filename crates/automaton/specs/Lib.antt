@@ -1,4 +1,3 @@
-pub mod Mask
 pub mod Remainder
 pub mod Reaches
 pub mod State

@@ -9,7 +9,7 @@ use Rattle.policy.specs.declared.FieldAction.{FieldAction}
 use Rattle.policy.specs.declared.FieldAction.the-variants.{Equals, Differs, Set}
 use Rattle.policy.specs.Meaning.{numbered, Traces}
 use Rattle.policy.specs.Tree.{Policy, drop, id, field, dup, sum, seq, star}
-use Rattle.automaton.specs.Mask.{bit, maskOf}
+use Rattle.packet_set.specs.Bits.{bit, maskOf}
 use Rattle.automaton.specs.Remainder.{remainder}
 
 -- which remainders of a policy a state marks: 0 the whole policy, i what remains after dup i. A mask m marks by its bits: `bit m`

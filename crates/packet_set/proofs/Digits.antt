@@ -10,7 +10,7 @@ use borrow.Author.Tests.{ltb-true, lt-ltb, le-ltb}
 use lib.Arith.{lt-one, bin-ind}
 use lib.Pow.{pow-pos, pow-mono, shr-shr, shl-exact}
 use lib.Bits.{bitOr, bitAnd, bitXor, or-shr, or-mod, and-shr, and-mod, xor-shr, xor-mod, and-mask}
-use Rattle.packet_set.specs.Bits.{bit, marked, onlyBits, digit, ofBits}
+use Rattle.packet_set.specs.Bits.{bit, marked, onlyBits}
 use Rattle.packet_set.specs.Members.{without}
 
 -- ---- the lowest bit and the rest
@@ -130,33 +130,6 @@ bits-below zero m h = bin-ind (λ n. ((i : ℕ) → bit n i ≡ false) → n < 1
 bits-below (suc w) m h =
     let half : m / 2 < 2 ^ w = bits-below w (m / 2) (λ i l. sym (bit-suc m i) ∙ h (suc i) (omega arith)) in
     omega (arith, pow-suc 2 w)
-
--- a number by its bits
-digit-lt : (b : Bool) → digit b < 2
-digit-lt true = lit< tt
-digit-lt false = lit< tt
-
-pub of-bits-lt : (test : ℕ → Bool) (w : ℕ) → ofBits test w < 2 ^ w
-unfolding ofBits
-of-bits-lt test zero = lit< tt
-of-bits-lt test (suc w) = omega (arith, pow-suc 2 w, of-bits-lt (λ i. test (suc i)) w, digit-lt (test 0))
-
-pub bit-of-bits : (test : ℕ → Bool) (w i : ℕ) → i < w → bit (ofBits test w) i ≡ test i
-unfolding ofBits
-bit-of-bits test zero i l = absurd (not-suc-le-zero l)
-bit-of-bits test (suc w) zero l = bit-zero (ofBits test (suc w)) ∙ ap (λ (x : ℕ). eqb x 1) low ∙ back (test 0)
-  where
-    low : (ofBits (λ i. test (suc i)) w * 2 + digit (test 0)) % 2 ≡ digit (test 0)
-    low = omega (arith, digit-lt (test 0))
-
-    back : (b : Bool) → eqb (digit b) 1 ≡ b
-    back true = refl
-    back false = refl
-bit-of-bits test (suc w) (suc i) l =
-    bit-suc (ofBits test (suc w)) i ∙ ap (λ (x : ℕ). bit x i) half ∙ bit-of-bits (λ j. test (suc j)) w i (le-of-suc-le-suc l)
-  where
-    half : (ofBits (λ i. test (suc i)) w * 2 + digit (test 0)) / 2 ≡ ofBits (λ i. test (suc i)) w
-    half = omega (arith, digit-lt (test 0))
 
 -- only bits 0 to d: every bit above d is 0
 pub only-bits : (m d : ℕ) → onlyBits m d ≡ true → (i : ℕ) → d < i → bit m i ≡ false

@@ -4,3 +4,4 @@ pub mod Loops
 pub mod Words
 pub mod Walk
 pub mod Work
+pub mod Masks

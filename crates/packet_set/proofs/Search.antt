@@ -10,7 +10,7 @@ use native.Mathlib.Omega.{arith}
 use lib.Dec.{eqb}
 use lib.Count.{trailingZeros, under}
 use Rattle.packet_set.specs.Bits.{bit}
-use Rattle.packet_set.specs.Lowest.{orAt, lowest}
+use Rattle.packet.specs.Lowest.{orAt, lowest}
 use Rattle.packet_set.proofs.Digits.{bit-zero, bit-suc}
 
 -- i is the lowest number below n that passes

@@ -12,7 +12,7 @@ use lib.ListN.{length, getD}
 use lib.Count.{trailingZeros}
 use lib.Pow.{shr-le}
 use Rattle.packet_set.specs.Bits.{bit}
-use Rattle.packet_set.specs.Lowest.{lowest}
+use Rattle.packet.specs.Lowest.{lowest}
 use Rattle.packet_set.specs.Members.{member, exclusiveOrOf, lowestIn, isNone, lowestAnswer, isEmpty}
 use Rattle.packet_set.specs.declared.Lowest.{Lowest}
 use Rattle.packet_set.specs.declared.Lowest.the-variants.{At, Nothing}

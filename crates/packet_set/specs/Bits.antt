@@ -1,6 +1,6 @@
 -- Bits of a number, over any width: the marks of a state (document 01, "States and rows") and the packets of one word of a set.
-use Prim.Native.Nat.{ℕ, zero, suc, _+_, _*_, _/_, _%_, _^_}
-use mathlib.Core.Bool.{Bool, true, false}
+use Prim.Native.Nat.{ℕ, zero, suc, _+_, _/_, _%_, _^_}
+use mathlib.Core.Bool.{Bool, cond}
 use lib.Dec.{eqb, ltb}
 use lib.Bits.{bitOr}
 
@@ -20,11 +20,7 @@ marked m i = bitOr m (2 ^ i)
 unfoldable pub onlyBits : ℕ → ℕ → Bool
 onlyBits m d = ltb m (2 ^ suc d)
 
-abbrev pub digit : Bool → ℕ
-digit true = 1
-digit false = 0
-
--- the number whose bits below w are those that pass the test
-unfoldable pub ofBits : (ℕ → Bool) → ℕ → ℕ
-ofBits test zero = 0
-ofBits test (suc w) = ofBits (λ i. test (suc i)) w * 2 + digit (test 0)
+-- the number below 2 ^ w whose bits are those that pass the test
+unfoldable pub maskOf : ℕ → (ℕ → Bool) → ℕ
+maskOf zero test = 0
+maskOf (suc w) test = maskOf w test + cond (test w) (2 ^ w) 0

@@ -1,4 +1,3 @@
 pub mod Bits
-pub mod Lowest
 pub mod Members
 pub mod Slots

@@ -8,7 +8,7 @@ use lib.ListN.{getD, set, replicate}
 use lib.Dec.{leb}
 use lib.Bits.{bitOr, bitAnd, bitXor}
 use Rattle.packet_set.specs.Bits.{bit, marked}
-use Rattle.packet_set.specs.Lowest.{lowest}
+use Rattle.packet.specs.Lowest.{lowest}
 use Rattle.packet_set.specs.declared.Lowest.{Lowest}
 use Rattle.packet_set.specs.declared.Lowest.the-variants.{At, Nothing}
 

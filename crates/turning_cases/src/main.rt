@@ -42,7 +42,11 @@ fn one_case(input: &[u8], from: usize) -> usize {
     let mut list = [0u16; 16];
     let end = harness::scan_list(input, l.at, &mut list[..lent]);
     if call.value == 0 {
-        values(&sizes[..count], (packet.value % 65536) as u16, &mut list[..lent]);
+        values(
+            &sizes[..count],
+            (packet.value % 65536) as u16,
+            &mut list[..lent],
+        );
     } else {
         number(&sizes[..count], &list[..lent]);
     }

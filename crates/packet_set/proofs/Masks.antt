@@ -1,4 +1,5 @@
--- Laws of masks, over any width.
+-- A number by its bits, over any width.
+-- Assumes nothing.
 use Prim.Native.Nat.{ℕ, zero, suc, _+_, _-_, _*_, _/_, _%_, _^_, _≤_, _<_, zero-le}
 use mathlib.Core.Bool.{Bool, true, false, cond}
 use mathlib.Core.Logic.{_⊎_, inl, inr}
@@ -9,17 +10,12 @@ use native.Mathlib.Numerals.{one-add}
 use native.Mathlib.Omega.{arith}
 use lib.Dec.{T, eqb}
 use lib.Pow.{pow-pos, pow-mono, high, low, field, mod-mod-pow, mod-pow-add}
-use Rattle.automaton.specs.Mask.{bit, maskOf}
+use Rattle.packet_set.specs.Bits.{bit, maskOf}
+use Rattle.packet_set.proofs.Digits.{bit-high}
 
 -- a bit as a digit
 digit : Bool → ℕ
 digit b = cond b 1 0
-
-digit-of : (d : ℕ) → d < 2 → digit (eqb d 1) ≡ d
-unfolding digit
-digit-of zero h = refl
-digit-of (suc zero) h = refl
-digit-of (suc (suc d)) h = omega arith
 
 pub maskOf-lt : (w : ℕ) (f : ℕ → Bool) → maskOf w f < 2 ^ w
 unfolding maskOf
@@ -69,44 +65,12 @@ bit-maskOf (suc w) f i h = go (eq-or-lt-of-le (le-of-suc-le-suc h)) (bit-maskOf 
     go (inl e) ih = rw (maskOf-suc w f, e) top
     go (inr l) ih = rw (maskOf-suc w f) (bit-low (digit (f w) * 2 ^ w + maskOf w f) w i l ∙ ap (λ (x : ℕ). bit x i) (low (digit (f w)) w (maskOf-lt w f)) ∙ ih l)
 
--- the bits of a number make it again
-maskOf-bits : (w a : ℕ) → maskOf w (bit a) ≡ a % 2 ^ w
-unfolding maskOf bit
-maskOf-bits zero a = sym (mod-one a)
-maskOf-bits (suc w) a = maskOf-suc w (bit a) ∙ ap₂ (λ (x y : ℕ). x * 2 ^ w + y) top (maskOf-bits w a) ∙ sym (mod-pow-add a 1 w) ∙ ap (λ (k : ℕ). a % 2 ^ k) (one-add w)
-  where
-    top : digit (bit a w) ≡ a / 2 ^ w % 2
-    top = digit-of (a / 2 ^ w % 2) (mod-lt (a / 2 ^ w) (zero-lt-suc 1))
-
--- a mask depends on the bits below its width alone
-pub maskOf-cong : (w : ℕ) (f g : ℕ → Bool) → ((i : ℕ) → i < w → f i ≡ g i) → maskOf w f ≡ maskOf w g
-unfolding maskOf
-maskOf-cong zero f g h = refl
-maskOf-cong (suc w) f g h =
-    ap₂ (λ (m : ℕ) (b : Bool). m + cond b (2 ^ w) 0) (maskOf-cong w f g (λ i l. h i (le-trans l (le-suc w)))) (h w (le-refl (suc w)))
-
-pub maskOf-bit : (w a : ℕ) → a < 2 ^ w → maskOf w (bit a) ≡ a
-maskOf-bit w a h = maskOf-bits w a ∙ mod-eq-of-lt h
-
--- two numbers below 2 ^ w with the same bits below w are equal
-pub same-bits : (w a b : ℕ) → a < 2 ^ w → b < 2 ^ w → ((i : ℕ) → i < w → bit a i ≡ bit b i) → a ≡ b
-same-bits w a b ha hb h = sym (maskOf-bit w a ha) ∙ maskOf-cong w (bit a) (bit b) h ∙ maskOf-bit w b hb
-
--- a number below 2 ^ w has no bit from w on
-pub bit-beyond : (w a i : ℕ) → a < 2 ^ w → w ≤ i → bit a i ≡ false
-unfolding bit
-bit-beyond w a i h l = ap (λ (x : ℕ). eqb (x % 2) 1) (div-eq-of-lt (lt-of-lt-of-le h (pow-mono l)))
-
 pub bit-below : (w a i : ℕ) → a < 2 ^ w → T (bit a i) → i < w
 bit-below w a i h t = go (decLt i w)
   where
     go : Dec (i < w) → i < w
     go (yes l) = l
-    go (no n) = absurd (subst T (bit-beyond w a i h (nlt n)) t)
+    go (no n) = absurd (subst T (bit-high w a i h (nlt n)) t)
       where
         nlt : ¬ (i < w) → w ≤ i
         nlt m = omega arith
-
--- no bit of 0 is set
-pub bit-zero : (i : ℕ) → bit 0 i ≡ false
-bit-zero i = bit-beyond 0 0 i (pow-pos 0) zero-le
