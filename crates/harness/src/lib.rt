@@ -56,42 +56,37 @@ pub fn scan(input: &[u8], from: usize) -> Scanned {
     digits(input, next_digit(input, from))
 }
 
-// The next numbers, as many as the list has; the place behind them.
-pub fn scan_bytes(input: &[u8], from: usize, list: &mut [u8]) -> usize {
-    let mut at = from;
-    let mut i = 0;
-    while i < list.len() {
-        let s = scan(input, at);
-        list[i] = (s.value % 256) as u8;
-        at = s.at;
-        i += 1;
-    }
-    at
+// A short list of the input: its length, at most 16, then its numbers; and the place behind them.
+pub struct Short {
+    pub numbers: [u16; 16],
+    pub count: usize,
+    pub at: usize,
 }
 
-pub fn scan_list(input: &[u8], from: usize, list: &mut [u16]) -> usize {
-    let mut at = from;
-    let mut i = 0;
-    while i < list.len() {
-        let s = scan(input, at);
-        list[i] = (s.value % 65536) as u16;
-        at = s.at;
-        i += 1;
-    }
-    at
-}
-
-// A length of the input, at most `most`.
-pub fn scan_length(input: &[u8], from: usize, most: u32) -> Scanned
-    ensures { λ r. ⌜ r .value ≤ most ⌝ }
+pub fn scan_short(input: &[u8], from: usize) -> Short
+    ensures { λ r. ⌜ (r .count ≤ 16) × (16 ≡ length (r .numbers)) ⌝ }
 {
-    let s = scan(input, from);
-    if s.value <= most {
-        return s;
+    let wanted = scan(input, from);
+    let mut at = wanted.at;
+    let mut numbers = [0u16; 16];
+    let mut i: usize = 0;
+    while i < 16 {
+        if wanted.value <= i as u32 {
+            return Short {
+                numbers,
+                count: i,
+                at,
+            };
+        }
+        let s = scan(input, at);
+        numbers[i] = (s.value % 65536) as u16;
+        at = s.at;
+        i += 1;
     }
-    Scanned {
-        value: most,
-        at: s.at,
+    Short {
+        numbers,
+        count: 16,
+        at,
     }
 }
 

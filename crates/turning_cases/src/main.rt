@@ -32,25 +32,19 @@ fn number(sizes: &[u16], lent: &[u16]) {
 
 fn one_case(input: &[u8], from: usize) -> usize {
     let call = harness::scan(input, from);
-    let k = harness::scan_length(input, call.at, 16);
-    let count = k.value as usize;
-    let mut sizes = [0u16; 16];
-    let after_sizes = harness::scan_list(input, k.at, &mut sizes[..count]);
-    let packet = harness::scan(input, after_sizes);
-    let l = harness::scan_length(input, packet.at, 16);
-    let lent = l.value as usize;
-    let mut list = [0u16; 16];
-    let end = harness::scan_list(input, l.at, &mut list[..lent]);
+    let declared = harness::scan_short(input, call.at);
+    let packet = harness::scan(input, declared.at);
+    let lent = harness::scan_short(input, packet.at);
+    let sizes = declared.numbers;
+    let k = declared.count;
+    let mut list = lent.numbers;
+    let n = lent.count;
     if call.value == 0 {
-        values(
-            &sizes[..count],
-            (packet.value % 65536) as u16,
-            &mut list[..lent],
-        );
+        values(&sizes[..k], (packet.value % 65536) as u16, &mut list[..n]);
     } else {
-        number(&sizes[..count], &list[..lent]);
+        number(&sizes[..k], &list[..n]);
     }
-    end
+    lent.at
 }
 
 fn run(input: &[u8]) {
