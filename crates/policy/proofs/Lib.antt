@@ -12,3 +12,4 @@ pub mod Readings
 pub mod Legality
 pub mod Postfix
 pub mod Nodes
+pub mod ReadLaws

@@ -7,3 +7,4 @@ pub mod Each
 pub mod Visits
 pub mod Transport
 pub mod Folds
+pub mod AsLists
