@@ -1,1 +1,3 @@
 pub mod Sides
+pub mod Lawful
+pub mod Traces

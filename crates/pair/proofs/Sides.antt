@@ -2,7 +2,7 @@
 use Prim.Native.Nat.{ℕ}
 use mathlib.Core.Bool.{Bool, true, false, _&&_}
 use mathlib.Core.Logic.{_↔_}
-use mathlib.Core.Path.{_≡_, refl}
+use mathlib.Core.Path.{_≡_, refl, ap₂}
 use Rattle.system.proofs.Basics.{and-true}
 use Rattle.pair.specs.Sides.{Side, left, right, other, Pair, at, each, onBoth}
 
@@ -22,3 +22,8 @@ and-both p q = rw (p, q) refl
 pub true-onBoth : (test : Side → Bool) → ((s : Side) → test s ≡ true) → onBoth test ≡ true
 unfolding onBoth
 true-onBoth test f = and-both (f left) (f right)
+
+-- pairs that agree on each side
+pub same-pair : {A : Type 0} (x y : Pair A) → ((s : Side) → at s x ≡ at s y) → x ≡ y
+unfolding at
+same-pair {A} x y f = ap₂ (λ (a b : A). record { left = a; right = b }) (f left) (f right)

@@ -4,12 +4,17 @@ use mathlib.Core.Bool.{Bool, xor}
 use mathlib.Core.List.{List}
 use lib.Dec.{eqb, ltb}
 use Rattle.packet.specs.Sizes.{product}
+use Rattle.policy.specs.Meaning.{numbered, Traces}
 use Rattle.automaton.specs.Mask.{bit}
 use Rattle.automaton.specs.State.{outputMask, nextMask}
 use Rattle.system.specs.System.{System}
 use Rattle.pair.specs.Sides.{Side, left, right, Pair, at, each, onBoth, Labelled}
 
 module _ (sizes : List ℕ) (ps : Pair Labelled) where
+  -- t is a trace of the side's policy from α (Figure 1)
+  unfoldable pub SideTraces : Side → ℕ → List ℕ → Type 0
+  SideTraces s α t = Traces (numbered sizes) (at s ps .tree) α t
+
   -- the output of a side's state at packet β
   unfoldable pub outputAt : Side → ℕ → Pair ℕ → ℕ
   outputAt s β m = outputMask sizes (at s ps .tree) (at s m) β

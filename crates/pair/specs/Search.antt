@@ -1,14 +1,16 @@
 -- The search's answer, and what the row lists hold (document 01, "States and rows").
-use Prim.Native.Nat.{ℕ, pred}
+use Prim.Native.Nat.{ℕ, pred, _<_}
 use mathlib.Core.Bool.{cond, true, false}
 use mathlib.Core.List.{List, map}
+use mathlib.Core.Logic.{_↔_}
 use lib.Dec.{ltb}
 use lib.ListN.{length, getD}
+use Rattle.packet.specs.Sizes.{product}
 use Rattle.automaton.specs.Mask.{bit}
 use Rattle.system.specs.System.{Row}
 use Rattle.system.specs.RowOrder.{Entry, entryAt, Answer, full as moreRows, equal as allHandled, different as tellingRow, answer, held}
-use Rattle.pair.specs.Sides.{Side, left, right, Pair, Labelled}
-use Rattle.pair.specs.Pair.{outputAt, pairSystem}
+use Rattle.pair.specs.Sides.{Side, left, right, other, Pair, Labelled}
+use Rattle.pair.specs.Pair.{SideTraces, outputAt, pairSystem}
 
 -- Equal, with the row count; different, with the policy that has the trace, the entering packet and the trace;
 -- refusal 11, with the rows lent; refusal 12, with the length needed.
@@ -59,3 +61,10 @@ module _ (sizes : List ℕ) (ps : Pair Labelled) where
   -- what the row lists hold with so many rows lent
   unfoldable pub heldColumns : ℕ → Columns
   heldColumns rows = columnsOf (held (pairSystem sizes ps) rows)
+
+  -- The trace tells the two policies apart from α: the side's policy has it, the other has not, and no shorter trace tells the two apart from any packet.
+  pub record Distinguishes (s : Side) (α : ℕ) (trace : List ℕ) : Type 0 where
+    pub enters : α < product sizes
+    pub has : SideTraces sizes ps s α trace
+    pub lacks : SideTraces sizes ps (other s) α trace → ⊥
+    pub shortest : (β : ℕ) → β < product sizes → (t : List ℕ) → length t < length trace → SideTraces sizes ps left β t ↔ SideTraces sizes ps right β t
