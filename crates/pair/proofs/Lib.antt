@@ -1,3 +1,5 @@
 pub mod Sides
 pub mod Lawful
 pub mod Traces
+pub mod Verdicts
+pub mod TraceCheck

@@ -1,6 +1,6 @@
 -- Where a word leads in the system of two policies, in terms of Figure 1; nothing tells exactly when the traces are the same.
 use Prim.Native.Nat.{ℕ, zero, suc, _<_, _≤_}
-use mathlib.Core.Bool.{Bool, true, false, xor}
+use mathlib.Core.Bool.{Bool, true, false, xor, cond}
 use mathlib.Core.List.{List, [], _∷_, _++_, List·Memᴰ, List·Memᴰ·head, List·Memᴰ·tail, Memᴰ·append-left, Memᴰ·append-right}
 use mathlib.Core.Logic.{_⊎_, inl, inr, _↔_}
 use mathlib.Core.Path.{_≡_, refl, sym, _∙_, ap, ap₂, subst}
@@ -11,12 +11,12 @@ use Rattle.packet.specs.Sizes.{product}
 use Rattle.policy.specs.Meaning.{numbered, Traces, SameTraces, SameTracesBelow}
 use Rattle.automaton.specs.Mask.{bit}
 use Rattle.automaton.specs.State.{outputMask, nextMask, StateTraces}
-use Rattle.automaton.proofs.Tests.{T-true, true-T, same-test}
+use Rattle.automaton.proofs.Tests.{T-true, true-T, T-false, same-test}
 use Rattle.automaton.proofs.Words.{not-empty}
 use Rattle.automaton.proofs.Laws.{outputMask-iff, nextMask-iff, whole-iff, traces-below}
 use Rattle.system.specs.System.{Row, startRow, nextRow, tells}
 use Rattle.system.specs.Words.{Word, end, then, follow, SilentBelow, Silent}
-use Rattle.system.proofs.Basics.{length-snoc}
+use Rattle.system.proofs.Basics.{clash, length-snoc}
 use Rattle.system.proofs.Following.{follow-small}
 use Rattle.pair.specs.Sides.{Side, left, right, other, Pair, at, each, Labelled}
 use Rattle.pair.specs.Pair.{SideTraces, outputAt, nextAt, inOneOutput, pairSystem}
@@ -41,7 +41,27 @@ pub word-of : (n : ℕ) (t : List ℕ) → ((γ : ℕ) → List·Memᴰ γ t →
 word-of n [] f = end
 word-of n (γ ∷ t) f = then (f γ (List·Memᴰ·head refl)) (word-of n t (λ δ m. f δ (List·Memᴰ·tail m)))
 
+-- one side of the two passes, the left one if it does
+one-side : (test : Side → Bool) → xor (test left) (test right) ≡ true → T (test (cond (test left) left right)) × (T (test (other (cond (test left) left right))) → ⊥)
+unfolding xor other
+one-side test e = go (test left) (test right) refl refl e
+  where
+    go : (a b : Bool) → test left ≡ a → test right ≡ b → xor a b ≡ true → T (test (cond a left right)) × (T (test (other (cond a left right))) → ⊥)
+    go true true p q r = clash refl (sym r)
+    go true false p q r = (true-T p, λ t. subst T q t)
+    go false true p q r = (true-T q, λ t. subst T p t)
+    go false false p q r = clash refl (sym r)
+
+side-one : (test : Side → Bool) (s : Side) → T (test s) → (T (test (other s)) → ⊥) → xor (test left) (test right) ≡ true
+unfolding xor other
+side-one test left t f = ap₂ xor (T-true (test left) t) (T-false (test right) f)
+side-one test right t f = ap₂ xor (T-false (test left) f) (T-true (test right) t)
+
 module _ (sizes : List ℕ) (ps : Pair Labelled) where
+  -- the side's policy has the trace and the other has not
+  unfoldable pub Alone : Side → ℕ → List ℕ → Type 0
+  Alone s α t = SideTraces sizes ps s α t × (SideTraces sizes ps (other s) α t → ⊥)
+
   -- after the word w from α, γ is in the side's output
   unfoldable pub ends : Side → ℕ → List ℕ → ℕ → Bool
   ends s α w γ =
@@ -84,7 +104,22 @@ module _ (sizes : List ℕ) (ps : Pair Labelled) (ok : EvaluablePair sizes ps) w
       let k = subst (λ n. StateTraces sizes (at s ps .tree) (bit n) α (w ++ (γ ∷ [])) ↔ Traces (numbered sizes) (at s ps .tree) α (w ++ (γ ∷ []))) (sym (at-each (λ s. 1) s)) (whole-iff sizes (at s ps .dups) (at s ps .tree) (ok s) α (w ++ (γ ∷ []))) in
       (λ t. k .0 (e .0 t), λ t. e .1 (k .1 t))
 
-  -- γ tells after a word exactly when one policy alone has the word and γ as a trace: where it does not tell, both or neither have
+  -- γ tells after a word exactly when one policy alone has the word and γ as a trace: the one whose output γ is in
+  pub telling-after : (α : ℕ) → α < product sizes → {w : List ℕ} → Word (product sizes) w → (γ : ℕ)
+      → tells (pairSystem sizes ps) (follow (pairSystem sizes ps) (startRow (pairSystem sizes ps) α) w) γ ≡ true
+      → Alone sizes ps (cond (ends sizes ps left α w γ) left right) α (w ++ (γ ∷ []))
+  unfolding inOneOutput ends Alone
+  telling-after α h {w} v γ e =
+      let x = one-side (λ s. ends sizes ps s α w γ) e in
+      (output-after (cond (ends sizes ps left α w γ) left right) α h v γ .0 (x .0), λ t. x .1 (output-after (other (cond (ends sizes ps left α w γ) left right)) α h v γ .1 t))
+
+  pub alone-tells : (α : ℕ) → α < product sizes → {w : List ℕ} → Word (product sizes) w → (γ : ℕ)
+      → (s : Side) → Alone sizes ps s α (w ++ (γ ∷ []))
+      → tells (pairSystem sizes ps) (follow (pairSystem sizes ps) (startRow (pairSystem sizes ps) α) w) γ ≡ true
+  unfolding inOneOutput ends Alone
+  alone-tells α h {w} v γ s x = side-one (λ s. ends sizes ps s α w γ) s (output-after s α h v γ .1 (x .0)) (λ t. x .1 (output-after (other s) α h v γ .0 t))
+
+  -- where it does not tell, both or neither have
   pub silent-after : (α : ℕ) → α < product sizes → {w : List ℕ} → Word (product sizes) w → (γ : ℕ)
       → tells (pairSystem sizes ps) (follow (pairSystem sizes ps) (startRow (pairSystem sizes ps) α) w) γ ≡ false
       → (s z : Side) → SideTraces sizes ps s α (w ++ (γ ∷ [])) → SideTraces sizes ps z α (w ++ (γ ∷ []))
