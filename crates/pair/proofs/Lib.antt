@@ -3,3 +3,6 @@ pub mod Lawful
 pub mod Traces
 pub mod Verdicts
 pub mod TraceCheck
+pub mod Lowest
+pub mod Rules
+pub mod Evidence

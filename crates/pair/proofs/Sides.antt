@@ -1,10 +1,8 @@
 -- What holds on both sides.
-use Prim.Native.Nat.{ℕ}
-use mathlib.Core.Bool.{Bool, true, false, _&&_}
-use mathlib.Core.Logic.{_↔_}
+use mathlib.Core.Bool.{Bool, true, _&&_}
 use mathlib.Core.Path.{_≡_, refl, ap₂}
 use Rattle.system.proofs.Basics.{and-true}
-use Rattle.pair.specs.Sides.{Side, left, right, other, Pair, at, each, onBoth}
+use Rattle.pair.specs.Sides.{Side, left, right, Pair, at, each, onBoth}
 
 pub at-each : {A : Type 0} (f : Side → A) (s : Side) → at s (each f) ≡ f s
 unfolding at
@@ -16,7 +14,7 @@ unfolding onBoth
 onBoth-true test e left = and-true (test left) (test right) e .0
 onBoth-true test e right = and-true (test left) (test right) e .1
 
-and-both : {a b : Bool} → a ≡ true → b ≡ true → (a && b) ≡ true
+pub and-both : {a b : Bool} → a ≡ true → b ≡ true → (a && b) ≡ true
 and-both p q = rw (p, q) refl
 
 pub true-onBoth : (test : Side → Bool) → ((s : Side) → test s ≡ true) → onBoth test ≡ true

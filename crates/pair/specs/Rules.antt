@@ -35,6 +35,12 @@ unfoldable pub brokenAt : (ℕ → Checked) → Option ℕ → Checked
 brokenAt rule none = accepted
 brokenAt rule (some spot) = rule spot
 
+-- spot is the lowest below n at which a rule is broken
+pub record LowestBroken (Rule : ℕ → Type 0) (n spot : ℕ) : Type 0 where
+  pub inside : spot < n
+  pub broken : Rule spot → ⊥
+  pub before : (j : ℕ) → j < spot → Rule j
+
 module _ (S : System) (T : Table S) where
   -- the row stands in the table
   pub record Present (r : Row S) : Type 0 where
@@ -64,6 +70,24 @@ module _ (S : System) (T : Table S) where
     pub b : (α : ℕ) → α < S .packets → RuleB α
     pub c : (i : ℕ) → i < T .count → RuleC i
     pub d : (i : ℕ) → i < T .count → (γ : ℕ) → γ < S .packets → RuleD i γ
+
+  -- row i keeps rules (c) and (d)
+  pub record RowKeeps (i : ℕ) : Type 0 where
+    pub c : RuleC i
+    pub d : (γ : ℕ) → γ < S .packets → RuleD i γ
+
+  -- row i breaks (c), or keeps it and breaks (d), lowest at γ
+  pub data RowBreaks (i : ℕ) : Checked → Type 0 where
+    breaks-c : (RuleC i → ⊥) → RowBreaks i (ruleC i)
+    breaks-d : {γ : ℕ} → RuleC i → LowestBroken (RuleD i) (S .packets) γ → RowBreaks i (ruleD i γ)
+
+  -- What an answer says of the table: which rule is broken first and where, in document 01's order.
+  pub data Judged : Checked → Type 0 where
+    keeps : KeepsRules → Judged accepted
+    breaks-a : {i : ℕ} → LowestBroken RuleA (T .count) i → Judged (ruleA i)
+    breaks-b : {α : ℕ} → ((i : ℕ) → i < T .count → RuleA i) → LowestBroken RuleB (S .packets) α → Judged (ruleB α)
+    breaks-row : {x : Checked} → ((i : ℕ) → i < T .count → RuleA i) → ((α : ℕ) → α < S .packets → RuleB α)
+        → (i : ℕ) → i < T .count → ((j : ℕ) → j < i → RowKeeps j) → RowBreaks i x → Judged x
 
   unfoldable pub present : Row S → Bool
   present r = anyBelow (T .count) (λ i. sameRow S (T .row i) r)
