@@ -71,3 +71,97 @@ module _ (sizes : List ℕ) (ps : Pair Labelled) (ok : EvaluablePair sizes ps) w
         → InTable sizes ps packets lefts rights (r .packet) (r .state .left) (r .state .right)
     unfolding evidenceAnswer
     accepted-holds e k r l = row-present (r .packet) (r .state .left) (r .state .right) (accepted-contains (pairSystem sizes ps) (lawful sizes ps ok) (tableOf sizes ps packets lefts rights) e k r l)
+
+    -- the states of row i
+    abbrev statesAt : ℕ → Pair ℕ
+    statesAt i = record { left = getD lefts i 0; right = getD rights i 0 }
+
+    zero-both : (m : Pair ℕ) → (bothZero sizes ps m ≡ true) ↔ ((m .left ≡ 0) × (m .right ≡ 0))
+    unfolding bothZero at
+    zero-both m = (
+      λ e. (eqb-true (m .left) 0 (onBoth-true (λ s. eqb (at s m) 0) e left), eqb-true (m .right) 0 (onBoth-true (λ s. eqb (at s m) 0) e right)),
+      λ z. true-onBoth (λ s. eqb (at s m) 0) (zero z),
+    )
+      where
+        zero : (m .left ≡ 0) × (m .right ≡ 0) → (s : Side) → eqb (at s m) 0 ≡ true
+        zero z left = eq-eqb (m .left) 0 (z .0)
+        zero z right = eq-eqb (m .right) 0 (z .1)
+
+    bits-both : (m : Pair ℕ) → (bitsOfDups sizes ps m ≡ true) ↔ ((m .left < 2 ^ suc (ps .left .dups)) × (m .right < 2 ^ suc (ps .right .dups)))
+    unfolding bitsOfDups at
+    bits-both m = (
+      λ e. (ltb-true (m .left) _ (onBoth-true (λ s. ltb (at s m) (2 ^ suc (at s ps .dups))) e left), ltb-true (m .right) _ (onBoth-true (λ s. ltb (at s m) (2 ^ suc (at s ps .dups))) e right)),
+      λ z. true-onBoth (λ s. ltb (at s m) (2 ^ suc (at s ps .dups))) (within z),
+    )
+      where
+        within : (m .left < 2 ^ suc (ps .left .dups)) × (m .right < 2 ^ suc (ps .right .dups)) → (s : Side) → ltb (at s m) (2 ^ suc (at s ps .dups)) ≡ true
+        within z left = lt-ltb (m .left) _ (z .0)
+        within z right = lt-ltb (m .right) _ (z .1)
+
+    -- no packet is in exactly one of the two outputs: they are equal
+    outputs-equal : (β : ℕ) (m : Pair ℕ) → ((γ : ℕ) → γ < product sizes → inOneOutput sizes ps β m γ ≡ false)
+        ↔ (outputMask sizes (ps .left .tree) (m .left) β ≡ outputMask sizes (ps .right .tree) (m .right) β)
+    unfolding inOneOutput outputAt at
+    outputs-equal β m = (
+      λ f. same-bits (product sizes) _ _ (fits left) (fits right) (λ γ h. xor-false _ _ (f γ h)),
+      λ e γ h. xor-same _ _ (ap (λ x. bit x γ) e),
+    )
+      where
+        fits : (s : Side) → outputMask sizes (at s ps .tree) (at s m) β < 2 ^ product sizes
+        fits s = outputMask-fits sizes (at s ps .dups) (at s ps .tree) (ok s) (at s m) β
+
+    -- the rules of the system are document 01's
+    pub rules-iff : KeepsRules (pairSystem sizes ps) (tableOf sizes ps packets lefts rights) ↔ RowRules sizes ps packets lefts rights
+    unfolding RuleA RuleB RuleC RuleD nextAt at
+    rules-iff = (there, back)
+      where
+        there : KeepsRules (pairSystem sizes ps) (tableOf sizes ps packets lefts rights) → RowRules sizes ps packets lefts rights
+        there k =
+            record {
+              a = λ i h. let z = bits-both (statesAt i) .0 (k .a i h .1) in (k .a i h .0, z .0, z .1);
+              b = λ α h. row-present α 1 1 (k .b α h);
+              c = λ i h. outputs-equal (getD packets i 0) (statesAt i) .0 (k .c i h);
+              d = λ i h γ l. ⊎-elim (λ z. inr (zero-both _ .0 z)) (λ p. inl (row-present γ _ _ p)) (k .d i h γ l);
+            }
+
+        back : RowRules sizes ps packets lefts rights → KeepsRules (pairSystem sizes ps) (tableOf sizes ps packets lefts rights)
+        back k =
+            record {
+              a = λ i h. (k .a i h .0, bits-both (statesAt i) .1 (k .a i h .1, k .a i h .2));
+              b = λ α h. present-row α 1 1 (k .b α h);
+              c = λ i h. outputs-equal (getD packets i 0) (statesAt i) .1 (k .c i h);
+              d = λ i h γ l. ⊎-elim (λ p. inr (present-row γ _ _ p)) (λ z. inl (zero-both _ .1 z)) (k .d i h γ l);
+            }
+
+    -- accepted exactly when the rows keep all four row rules of document 01
+    pub evidence-iff : (evidenceAnswer sizes ps packets lefts rights ≡ accepted) ↔ RowRules sizes ps packets lefts rights
+    unfolding evidenceAnswer
+    evidence-iff =
+        let e = accepted-iff (pairSystem sizes ps) (lawful sizes ps ok) (tableOf sizes ps packets lefts rights) in
+        (λ x. rules-iff .0 (e .0 x), λ k. e .1 (rules-iff .1 k))
+
+  -- equal: the rows held are accepted
+  pub equal-accepted : (n c : ℕ) → answer (pairSystem sizes ps) n ≡ allHandled c
+      → evidenceAnswer sizes ps (heldColumns sizes ps n .packets) (heldColumns sizes ps n .lefts) (heldColumns sizes ps n .rights) ≡ accepted
+  unfolding evidenceAnswer heldColumns columnsOf
+  equal-accepted n c e =
+      let x = equal-is (pairSystem sizes ps) (lawful sizes ps ok) n c e in
+      accepted-iff (pairSystem sizes ps) (lawful sizes ps ok) _ .1
+      (listed-keeps (pairSystem sizes ps) (lawful sizes ps ok) _ (held (pairSystem sizes ps) n) (length-map (held (pairSystem sizes ps) n) (λ e. e .row .packet))
+      (λ i h j. record {
+        packet = column-at (λ e. e .row .packet) (held (pairSystem sizes ps) n) i 0 (startEntry (pairSystem sizes ps) 0) h j;
+        state = record {
+          left = column-at (λ e. e .row .state .left) (held (pairSystem sizes ps) n) i 0 (startEntry (pairSystem sizes ps) 0) h j;
+          right = column-at (λ e. e .row .state .right) (held (pairSystem sizes ps) n) i 0 (startEntry (pairSystem sizes ps) 0) h j;
+        };
+      })
+      (x .closed) (x .sound))
+
+  -- the same traces and a row order of at most n rows: that row order is a table that is accepted
+  pub row-order-accepted : (n : ℕ) → SameTracesBelow sizes (ps .left .tree) (ps .right .tree) → (NeedsMore (pairSystem sizes ps) n → ⊥)
+      → evidenceAnswer sizes ps (heldColumns sizes ps n .packets) (heldColumns sizes ps n .lefts) (heldColumns sizes ps n .rights) ≡ accepted
+  row-order-accepted n E few =
+      ⊎-elim
+      (λ e. absurd (few (full-iff (pairSystem sizes ps) n .0 e)))
+      (λ e. equal-accepted n (length (held (pairSystem sizes ps) n)) e)
+      (silent-is (pairSystem sizes ps) (lawful sizes ps ok) (silent-iff sizes ps ok .1 E) n)
