@@ -10,7 +10,7 @@ use Rattle.policy.specs.NodesOfTree.{entry, actionEntry, treeSize, entriesFrom,
 use Rattle.automaton.specs.Mask.{bit, maskOf}
 use Rattle.automaton.specs.State.{anyBelow, setOf, union, takes, image, rounds, passedOn, flow, enter, outputSet, next, outputMask, nextMask}
 use Rattle.system.specs.RowOrder.{lowest, starts, sameRow, listed, append, appendNext, lowestTelling, turn, handle, runFrom, run, climbing, climb, path, entering, verdict, answer, held}
-use Rattle.pair.specs.Sides.{at, onBoth, labelled, policies}
+use Rattle.pair.specs.Sides.{at, onBoth}
 use Rattle.pair.specs.Pair.{outputAt, nextAt, sameStates, bothZero, inOneOutput, bitsOfDups}
 use Rattle.pair.specs.Search.{lastOf, sideOf, reported, searchAnswer, columnsOf, heldColumns}
 use Rattle.pair.specs.Rules.{andThen, brokenAt, present, breaksA, breaksB, breaksD, checkRow, checkRows, checkRules}
@@ -18,5 +18,5 @@ use Rattle.pair.specs.Evidence.{evidenceAnswer}
 use Rattle.cases.specs.Cases.{Case, lent, outcome, given, cases}
 
 pub all-as-stated : map outcome cases ≡ map (λ (c : Case). c .stated) cases
-unfolding xor lowestPlace orAt valueAt changed valuesOf numberOf product nodeCount nodeOf nodeAt one isDup dupsBelow grow treeAt policyOf entry actionEntry treeSize entriesFrom listsOf nodesOf bit maskOf anyBelow setOf union takes image rounds passedOn flow enter outputSet next outputMask nextMask lowest starts sameRow listed append appendNext lowestTelling turn handle runFrom run climbing climb path entering verdict answer held at onBoth labelled policies outputAt nextAt sameStates bothZero inOneOutput bitsOfDups lastOf sideOf reported searchAnswer columnsOf heldColumns andThen brokenAt present breaksA breaksB breaksD checkRow checkRows checkRules evidenceAnswer lent outcome given cases
+unfolding xor lowestPlace orAt valueAt changed valuesOf numberOf product nodeCount nodeOf nodeAt one isDup dupsBelow grow treeAt policyOf entry actionEntry treeSize entriesFrom listsOf nodesOf bit maskOf anyBelow setOf union takes image rounds passedOn flow enter outputSet next outputMask nextMask lowest starts sameRow listed append appendNext lowestTelling turn handle runFrom run climbing climb path entering verdict answer held at onBoth outputAt nextAt sameStates bothZero inOneOutput bitsOfDups lastOf sideOf reported searchAnswer columnsOf heldColumns andThen brokenAt present breaksA breaksB breaksD checkRow checkRows checkRules evidenceAnswer lent outcome given cases
 all-as-stated = refl

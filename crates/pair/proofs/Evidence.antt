@@ -1,9 +1,9 @@
 -- The evidence checker's answer: exactly the four row rules, sound by Figure 1, and complete for the row order itself.
-use Prim.Native.Nat.{ℕ, zero, suc, _^_, _<_, _≤_}
-use mathlib.Core.Bool.{Bool, true, false}
+use Prim.Native.Nat.{ℕ, zero, suc, _^_, _<_}
+use mathlib.Core.Bool.{true, false}
 use mathlib.Core.List.{List, [], _∷_, map}
-use mathlib.Core.Logic.{_⊎_, inl, inr, ⊎-elim, _↔_}
-use mathlib.Core.Path.{_≡_, refl, sym, _∙_, ap, ap₂, subst}
+use mathlib.Core.Logic.{inl, inr, ⊎-elim, _↔_}
+use mathlib.Core.Path.{_≡_, refl, ap}
 use native.Mathlib.Nat.{not-suc-le-zero, le-of-suc-le-suc}
 use lib.Dec.{eqb, ltb}
 use lib.ListN.{length, getD, length-map}
@@ -11,23 +11,22 @@ use borrow.Author.Tests.{eqb-true, eq-eqb, ltb-true, lt-ltb}
 use Rattle.packet.specs.Sizes.{product}
 use Rattle.policy.specs.Meaning.{SameTracesBelow}
 use Rattle.automaton.specs.Mask.{bit}
-use Rattle.automaton.specs.State.{outputMask, nextMask}
+use Rattle.automaton.specs.State.{outputMask}
 use Rattle.automaton.proofs.Masks.{same-bits}
 use Rattle.automaton.proofs.Laws.{outputMask-fits}
-use Rattle.system.specs.System.{Row, startRow, nextRow}
-use Rattle.system.specs.RowOrder.{Entry, entryAt, startEntry, NeedsMore, run, answer, equal as allHandled, held}
-use Rattle.system.specs.Tables.{Closed, Sound, Listed}
+use Rattle.system.specs.System.{System, Row}
+use Rattle.system.specs.RowOrder.{startEntry, NeedsMore, run, answer, equal as allHandled, held}
+use Rattle.system.specs.Tables.{Listed}
 use Rattle.system.proofs.Answers.{full-iff}
-use Rattle.system.proofs.Verdicts.{IsEqual, equal-is, silent-is}
-use Rattle.pair.specs.Sides.{Side, left, right, Pair, at, each, onBoth, Labelled}
+use Rattle.system.proofs.Verdicts.{equal-is, silent-is}
+use Rattle.pair.specs.Sides.{Side, left, right, Pair, at, Labelled}
 use Rattle.pair.specs.Pair.{outputAt, nextAt, bothZero, inOneOutput, bitsOfDups, pairSystem}
-use Rattle.pair.specs.Search.{columnsOf, heldColumns, searchAnswer, equal}
-use Rattle.pair.specs.Rules.{Table, Checked, accepted, Present, RuleA, RuleB, RuleC, RuleD, KeepsRules, Judged}
+use Rattle.pair.specs.Search.{columnsOf, heldColumns}
+use Rattle.pair.specs.Rules.{accepted, Present, RuleA, RuleB, RuleC, RuleD, KeepsRules, Judged}
 use Rattle.pair.specs.Evidence.{tableOf, evidenceAnswer, InTable, RowRules}
 use Rattle.pair.proofs.Sides.{onBoth-true, true-onBoth}
 use Rattle.pair.proofs.Lawful.{EvaluablePair, lawful, xor-same}
 use Rattle.pair.proofs.Traces.{xor-false, silent-iff}
-use Rattle.pair.proofs.Verdicts.{equal-same, Searched, is-equal, searched}
 use Rattle.pair.proofs.Rules.{judged, accepted-iff, accepted-silent, accepted-contains, listed-keeps}
 
 -- an entry of a column
@@ -37,18 +36,21 @@ column-at f (x ∷ l) zero d e h = refl
 column-at f (x ∷ l) (suc i) d e h = column-at f l i d e (le-of-suc-le-suc h)
 
 module _ (sizes : List ℕ) (ps : Pair Labelled) (ok : EvaluablePair sizes ps) where
+  abbrev S : System
+  S = pairSystem sizes ps
+
   module _ (packets lefts rights : List ℕ) where
     -- the answer names the first broken rule and its spot
-    pub evidence-judged : Judged (pairSystem sizes ps) (tableOf sizes ps packets lefts rights) (evidenceAnswer sizes ps packets lefts rights)
+    pub evidence-judged : Judged S (tableOf sizes ps packets lefts rights) (evidenceAnswer sizes ps packets lefts rights)
     unfolding evidenceAnswer
-    evidence-judged = judged (pairSystem sizes ps) (lawful sizes ps ok) (tableOf sizes ps packets lefts rights)
+    evidence-judged = judged S (lawful sizes ps ok) (tableOf sizes ps packets lefts rights)
 
     -- accepted: the same traces from every packet
     pub accepted-same : evidenceAnswer sizes ps packets lefts rights ≡ accepted → SameTracesBelow sizes (ps .left .tree) (ps .right .tree)
     unfolding evidenceAnswer
-    accepted-same e = silent-iff sizes ps ok .0 (accepted-silent (pairSystem sizes ps) (lawful sizes ps ok) (tableOf sizes ps packets lefts rights) e)
+    accepted-same e = silent-iff sizes ps ok .0 (accepted-silent S (lawful sizes ps ok) (tableOf sizes ps packets lefts rights) e)
 
-    present-row : (α l r : ℕ) → InTable sizes ps packets lefts rights α l r → Present (pairSystem sizes ps) (tableOf sizes ps packets lefts rights) (record { packet = α; state = record { left = l; right = r } })
+    present-row : (α l r : ℕ) → InTable sizes ps packets lefts rights α l r → Present S (tableOf sizes ps packets lefts rights) (record { packet = α; state = record { left = l; right = r } })
     present-row α l r x =
         record {
           place = x .place;
@@ -56,7 +58,7 @@ module _ (sizes : List ℕ) (ps : Pair Labelled) (ok : EvaluablePair sizes ps) w
           there = λ i. record { packet = x .packet i; state = record { left = x .left i; right = x .right i } };
         }
 
-    row-present : (α l r : ℕ) → Present (pairSystem sizes ps) (tableOf sizes ps packets lefts rights) (record { packet = α; state = record { left = l; right = r } }) → InTable sizes ps packets lefts rights α l r
+    row-present : (α l r : ℕ) → Present S (tableOf sizes ps packets lefts rights) (record { packet = α; state = record { left = l; right = r } }) → InTable sizes ps packets lefts rights α l r
     row-present α l r x =
         record {
           place = x .place;
@@ -67,10 +69,10 @@ module _ (sizes : List ℕ) (ps : Pair Labelled) (ok : EvaluablePair sizes ps) w
         }
 
     -- accepted: each row of the row order is present
-    pub accepted-holds : evidenceAnswer sizes ps packets lefts rights ≡ accepted → (k : ℕ) (r : Row (pairSystem sizes ps)) → Listed (pairSystem sizes ps) (run (pairSystem sizes ps) k .rows) r
+    pub accepted-holds : evidenceAnswer sizes ps packets lefts rights ≡ accepted → (k : ℕ) (r : Row S) → Listed S (run S k .rows) r
         → InTable sizes ps packets lefts rights (r .packet) (r .state .left) (r .state .right)
     unfolding evidenceAnswer
-    accepted-holds e k r l = row-present (r .packet) (r .state .left) (r .state .right) (accepted-contains (pairSystem sizes ps) (lawful sizes ps ok) (tableOf sizes ps packets lefts rights) e k r l)
+    accepted-holds e k r l = row-present (r .packet) (r .state .left) (r .state .right) (accepted-contains S (lawful sizes ps ok) (tableOf sizes ps packets lefts rights) e k r l)
 
     -- the states of row i
     abbrev statesAt : ℕ → Pair ℕ
@@ -111,11 +113,11 @@ module _ (sizes : List ℕ) (ps : Pair Labelled) (ok : EvaluablePair sizes ps) w
         fits s = outputMask-fits sizes (at s ps .dups) (at s ps .tree) (ok s) (at s m) β
 
     -- the rules of the system are document 01's
-    pub rules-iff : KeepsRules (pairSystem sizes ps) (tableOf sizes ps packets lefts rights) ↔ RowRules sizes ps packets lefts rights
+    pub rules-iff : KeepsRules S (tableOf sizes ps packets lefts rights) ↔ RowRules sizes ps packets lefts rights
     unfolding RuleA RuleB RuleC RuleD nextAt at
     rules-iff = (there, back)
       where
-        there : KeepsRules (pairSystem sizes ps) (tableOf sizes ps packets lefts rights) → RowRules sizes ps packets lefts rights
+        there : KeepsRules S (tableOf sizes ps packets lefts rights) → RowRules sizes ps packets lefts rights
         there k =
             record {
               a = λ i h. let z = bits-both (statesAt i) .0 (k .a i h .1) in (k .a i h .0, z .0, z .1);
@@ -124,7 +126,7 @@ module _ (sizes : List ℕ) (ps : Pair Labelled) (ok : EvaluablePair sizes ps) w
               d = λ i h γ l. ⊎-elim (λ z. inr (zero-both _ .0 z)) (λ p. inl (row-present γ _ _ p)) (k .d i h γ l);
             }
 
-        back : RowRules sizes ps packets lefts rights → KeepsRules (pairSystem sizes ps) (tableOf sizes ps packets lefts rights)
+        back : RowRules sizes ps packets lefts rights → KeepsRules S (tableOf sizes ps packets lefts rights)
         back k =
             record {
               a = λ i h. (k .a i h .0, bits-both (statesAt i) .1 (k .a i h .1, k .a i h .2));
@@ -137,31 +139,31 @@ module _ (sizes : List ℕ) (ps : Pair Labelled) (ok : EvaluablePair sizes ps) w
     pub evidence-iff : (evidenceAnswer sizes ps packets lefts rights ≡ accepted) ↔ RowRules sizes ps packets lefts rights
     unfolding evidenceAnswer
     evidence-iff =
-        let e = accepted-iff (pairSystem sizes ps) (lawful sizes ps ok) (tableOf sizes ps packets lefts rights) in
+        let e = accepted-iff S (lawful sizes ps ok) (tableOf sizes ps packets lefts rights) in
         (λ x. rules-iff .0 (e .0 x), λ k. e .1 (rules-iff .1 k))
 
   -- equal: the rows held are accepted
-  pub equal-accepted : (n c : ℕ) → answer (pairSystem sizes ps) n ≡ allHandled c
+  pub equal-accepted : (n c : ℕ) → answer S n ≡ allHandled c
       → evidenceAnswer sizes ps (heldColumns sizes ps n .packets) (heldColumns sizes ps n .lefts) (heldColumns sizes ps n .rights) ≡ accepted
   unfolding evidenceAnswer heldColumns columnsOf
   equal-accepted n c e =
-      let x = equal-is (pairSystem sizes ps) (lawful sizes ps ok) n c e in
-      accepted-iff (pairSystem sizes ps) (lawful sizes ps ok) _ .1
-      (listed-keeps (pairSystem sizes ps) (lawful sizes ps ok) _ (held (pairSystem sizes ps) n) (length-map (held (pairSystem sizes ps) n) (λ e. e .row .packet))
+      let x = equal-is S (lawful sizes ps ok) n c e in
+      accepted-iff S (lawful sizes ps ok) _ .1
+      (listed-keeps S (lawful sizes ps ok) _ (held S n) (length-map (held S n) (λ e. e .row .packet))
       (λ i h j. record {
-        packet = column-at (λ e. e .row .packet) (held (pairSystem sizes ps) n) i 0 (startEntry (pairSystem sizes ps) 0) h j;
+        packet = column-at (λ e. e .row .packet) (held S n) i 0 (startEntry S 0) h j;
         state = record {
-          left = column-at (λ e. e .row .state .left) (held (pairSystem sizes ps) n) i 0 (startEntry (pairSystem sizes ps) 0) h j;
-          right = column-at (λ e. e .row .state .right) (held (pairSystem sizes ps) n) i 0 (startEntry (pairSystem sizes ps) 0) h j;
+          left = column-at (λ e. e .row .state .left) (held S n) i 0 (startEntry S 0) h j;
+          right = column-at (λ e. e .row .state .right) (held S n) i 0 (startEntry S 0) h j;
         };
       })
       (x .closed) (x .sound))
 
   -- the same traces and a row order of at most n rows: that row order is a table that is accepted
-  pub row-order-accepted : (n : ℕ) → SameTracesBelow sizes (ps .left .tree) (ps .right .tree) → (NeedsMore (pairSystem sizes ps) n → ⊥)
+  pub row-order-accepted : (n : ℕ) → SameTracesBelow sizes (ps .left .tree) (ps .right .tree) → (NeedsMore S n → ⊥)
       → evidenceAnswer sizes ps (heldColumns sizes ps n .packets) (heldColumns sizes ps n .lefts) (heldColumns sizes ps n .rights) ≡ accepted
   row-order-accepted n E few =
       ⊎-elim
-      (λ e. absurd (few (full-iff (pairSystem sizes ps) n .0 e)))
-      (λ e. equal-accepted n (length (held (pairSystem sizes ps) n)) e)
-      (silent-is (pairSystem sizes ps) (lawful sizes ps ok) (silent-iff sizes ps ok .1 E) n)
+      (λ e. absurd (few (full-iff S n .0 e)))
+      (λ e. equal-accepted n (length (held S n)) e)
+      (silent-is S (lawful sizes ps ok) (silent-iff sizes ps ok .1 E) n)

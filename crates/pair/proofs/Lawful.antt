@@ -1,10 +1,10 @@
 -- Two policies that can be evaluated are a lawful system.
 use Prim.Native.Nat.{ℕ, suc, _^_, _<_}
-use mathlib.Core.Bool.{Bool, true, false, xor, not, Bool·beq}
+use mathlib.Core.Bool.{Bool, true, false, xor}
 use mathlib.Core.List.{List}
-use mathlib.Core.Path.{_≡_, refl, sym, _∙_, ap, ap₂, subst}
-use lib.Dec.{eqb, ltb}
-use borrow.Author.Tests.{eqb-true, eq-eqb, ltb-true, lt-ltb}
+use mathlib.Core.Path.{_≡_, refl, sym, _∙_, ap, subst}
+use lib.Dec.{ltb}
+use borrow.Author.Tests.{eqb-true, eq-eqb, lt-ltb}
 use Rattle.policy.specs.NodeLists.{NodeLists}
 use Rattle.policy.specs.Legality.{Legal}
 use Rattle.automaton.specs.Mask.{bit}
@@ -14,7 +14,7 @@ use Rattle.automaton.proofs.Masks.{bit-zero}
 use Rattle.automaton.proofs.Laws.{nextMask-lt, dead-nextMask, dead-outputMask, whole-lt}
 use Rattle.automaton.proofs.Trees.{policy-evaluable}
 use Rattle.system.specs.System.{Lawful}
-use Rattle.pair.specs.Sides.{Side, left, right, Pair, at, each, onBoth, Labelled, labelled, policies}
+use Rattle.pair.specs.Sides.{Side, left, right, Pair, at, Labelled, policies}
 use Rattle.pair.specs.Pair.{outputAt, nextAt, sameStates, bothZero, inOneOutput, bitsOfDups, pairSystem}
 use Rattle.pair.proofs.Sides.{at-each, onBoth-true, true-onBoth, same-pair}
 
@@ -24,7 +24,7 @@ EvaluablePair sizes ps = (s : Side) → Evaluable sizes (at s ps .dups) (at s ps
 
 -- legal lists can be
 pub legal-pair : (sizes : List ℕ) (l r : NodeLists) → Legal sizes l → Legal sizes r → EvaluablePair sizes (policies l r)
-unfolding at policies labelled
+unfolding at
 legal-pair sizes l r a b left = policy-evaluable sizes l a
 legal-pair sizes l r a b right = policy-evaluable sizes r b
 

@@ -3,11 +3,12 @@ use Prim.Native.Nat.{ℕ, zero, suc, _<_}
 use mathlib.Core.Bool.{Bool, true, false}
 use mathlib.Core.Logic.{_↔_}
 use mathlib.Core.Option.{Option, none, some}
-use mathlib.Core.Path.{_≡_, refl, ap, _∙_, subst}
+use mathlib.Core.Path.{_≡_, refl, sym, ap, _∙_, subst}
 use Rattle.packet.specs.Lowest.{lowest, orAt}
+use Rattle.packet.proofs.Lowest.{none-lowest}
 use Rattle.system.specs.RowOrder.{lowest as lowestBelow}
 use Rattle.system.proofs.Basics.{clash}
-use Rattle.system.proofs.Lowest.{Lowest, Found, nowhere, at, lowest-found}
+use Rattle.system.proofs.Lowest.{Found, nowhere, at, lowest-found, lowest-is}
 use Rattle.pair.specs.Rules.{LowestBroken}
 
 pub lowest-same : (n : ℕ) (test : ℕ → Bool) → lowestBelow n test ≡ lowest test n
@@ -31,3 +32,15 @@ spotted Rule breaks f n = subst (Spotted Rule n) (lowest-same n breaks) (go (low
     go : {o : Option ℕ} → Found n breaks o → Spotted Rule n o
     go (nowhere g) = kept (λ i h. f i .0 (g i h))
     go (at l) = spot (record { inside = l .small; broken = λ r. clash (l .passes) (f _ .1 r); before = λ j h. f j .0 (l .least j h) })
+
+-- the lowest spot is the one that is found
+pub lowest-spot : (Rule : ℕ → Type 0) (breaks : ℕ → Bool) → ((i : ℕ) → (breaks i ≡ false) ↔ Rule i) → (n : ℕ) {i : ℕ} → LowestBroken Rule n i → lowest breaks n ≡ some i
+lowest-spot Rule breaks f n {i} l = sym (lowest-same n breaks) ∙ lowest-is (record { small = l .inside; passes = broken (breaks i) refl; least = λ j h. f j .1 (l .before j h) })
+  where
+    broken : (b : Bool) → breaks i ≡ b → breaks i ≡ true
+    broken true e = e
+    broken false e = absurd (l .broken (f i .0 e))
+
+-- where the rule is kept, none is found
+pub lowest-kept : (Rule : ℕ → Type 0) (breaks : ℕ → Bool) → ((i : ℕ) → (breaks i ≡ false) ↔ Rule i) → (n : ℕ) → ((i : ℕ) → i < n → Rule i) → lowest breaks n ≡ none
+lowest-kept Rule breaks f n k = none-lowest breaks n (λ i h. f i .1 (k i h))

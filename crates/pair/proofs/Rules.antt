@@ -1,10 +1,10 @@
 -- The row rules are checked exactly, and a table that keeps them shows that nothing tells.
 use Prim.Native.Nat.{ℕ, zero, suc, _<_}
-use mathlib.Core.Bool.{Bool, true, false, not, _&&_, _||_, or-true as or-any}
+use mathlib.Core.Bool.{Bool, true, false, not, _||_, or-true as or-any}
 use mathlib.Core.List.{List}
 use mathlib.Core.Logic.{_⊎_, inl, inr, ⊎-elim, _↔_}
-use mathlib.Core.Option.{Option, none, some}
-use mathlib.Core.Path.{_≡_, refl, sym, _∙_, ap, subst}
+use mathlib.Core.Option.{Option, none}
+use mathlib.Core.Path.{_≡_, refl, sym, _∙_, ap, ap₂, subst}
 use native.Mathlib.Nat.{not-suc-le-zero}
 use native.Mathlib.Omega.{arith}
 use lib.Dec.{T as Test, ltb}
@@ -18,13 +18,13 @@ use Rattle.system.specs.System.{System, Lawful, Row, startRow, nextRow, tells}
 use Rattle.system.specs.RowOrder.{Entry, entryAt, run, sameRow}
 use Rattle.system.specs.Tables.{Closed, Sound, Listed}
 use Rattle.system.specs.Words.{Silent}
-use Rattle.system.proofs.Basics.{clash, or-true, and-true, last-or-before}
+use Rattle.system.proofs.Basics.{or-true, and-true, last-or-before}
 use Rattle.system.proofs.Listing.{sameRow-true, sameRow-refl}
 use Rattle.system.proofs.Runs.{invariant}
 use Rattle.system.proofs.Tables.{closed-silent, closed-contains}
-use Rattle.pair.specs.Rules.{Table, Checked, accepted, ruleA, ruleB, ruleC, ruleD, andThen, brokenAt, Present, RuleA, RuleB, RuleC, RuleD, KeepsRules, LowestBroken, RowKeeps, RowBreaks, breaks-c, breaks-d, Judged, keeps, breaks-a, breaks-b, breaks-row, present, breaksA, breaksB, breaksD, checkRow, checkRows, checkRules}
+use Rattle.pair.specs.Rules.{Table, Checked, accepted, ruleA, ruleB, ruleC, ruleD, andThen, brokenAt, Present, RuleA, RuleB, RuleC, RuleD, KeepsRules, RowKeeps, RowBreaks, breaks-c, breaks-d, Judged, keeps, breaks-a, breaks-b, breaks-row, present, breaksA, breaksB, breaksD, checkRow, checkRows, checkRules}
 use Rattle.pair.proofs.Sides.{and-both}
-use Rattle.pair.proofs.Lowest.{Spotted, kept, spot, spotted}
+use Rattle.pair.proofs.Lowest.{Spotted, kept, spot, spotted, lowest-spot, lowest-kept}
 
 not-true-false : {b : Bool} → b ≡ true → not b ≡ false
 not-true-false e = ap not e
@@ -65,6 +65,9 @@ module _ (S : System) (L : Lawful S) (T : Table S) where
       back (inl d) = ap (λ b. b || present S T (nextRow S (T .row i) γ)) d
       back (inr p) = ap (λ b. S .dead (nextRow S (T .row i) γ .state) || b) (present-iff (nextRow S (T .row i) γ) .1 p) ∙ or-any (S .dead (nextRow S (T .row i) γ .state))
 
+  tells-iff : (i γ : ℕ) → (tells S (T .row i) γ ≡ false) ↔ (tells S (T .row i) γ ≡ false)
+  tells-iff i γ = (λ e. e, λ e. e)
+
   -- one row
   data RowJudged (i : ℕ) : Checked → Type 0 where
     row-keeps : RowKeeps S T i → RowJudged i accepted
@@ -72,7 +75,7 @@ module _ (S : System) (L : Lawful S) (T : Table S) where
 
   row-judged : (i : ℕ) → RowJudged i (checkRow S T i)
   unfolding checkRow andThen brokenAt RuleC
-  row-judged i = go (spotted (λ γ. tells S (T .row i) γ ≡ false) (tells S (T .row i)) (λ γ. (λ e. e, λ e. e)) (S .packets)) (spotted (RuleD S T i) (breaksD S T i) (ruleD-iff i) (S .packets))
+  row-judged i = go (spotted (λ γ. tells S (T .row i) γ ≡ false) (tells S (T .row i)) (tells-iff i) (S .packets)) (spotted (RuleD S T i) (breaksD S T i) (ruleD-iff i) (S .packets))
     where
       go : {o u : Option ℕ} → Spotted (λ γ. tells S (T .row i) γ ≡ false) (S .packets) o → Spotted (RuleD S T i) (S .packets) u
           → RowJudged i (andThen (brokenAt (λ γ. ruleC i) o) (brokenAt (ruleD i) u))
@@ -113,9 +116,59 @@ module _ (S : System) (L : Lawful S) (T : Table S) where
       go (kept a) (kept b) (rows-keep f) = keeps (record { a = a; b = b; c = λ i h. f i h .c; d = λ i h. f i h .d })
       go (kept a) (kept b) (rows-break i h f r) = breaks-row a b i h f r
 
+  -- what is said of a row is what its check answers
+  row-kept : (i : ℕ) → RowKeeps S T i → checkRow S T i ≡ accepted
+  unfolding checkRow andThen brokenAt RuleC
+  row-kept i k =
+      ap₂ (λ o u. andThen (brokenAt (λ γ. ruleC i) o) (brokenAt (ruleD i) u)) (lowest-kept (λ γ. tells S (T .row i) γ ≡ false) (tells S (T .row i)) (tells-iff i) (S .packets) (k .c)) (lowest-kept (RuleD S T i) (breaksD S T i) (ruleD-iff i) (S .packets) (k .d))
+
+  row-broken : {i : ℕ} {x : Checked} → RowBreaks S T i x → checkRow S T i ≡ x
+  unfolding checkRow andThen brokenAt RuleC
+  row-broken {i} (breaks-c f) = go (spotted (λ γ. tells S (T .row i) γ ≡ false) (tells S (T .row i)) (tells-iff i) (S .packets))
+    where
+      go : {o : Option ℕ} → Spotted (λ γ. tells S (T .row i) γ ≡ false) (S .packets) o → andThen (brokenAt (λ γ. ruleC i) o) (brokenAt (ruleD i) (lowest (breaksD S T i) (S .packets))) ≡ ruleC i
+      go (kept g) = absurd (f g)
+      go (spot l) = refl
+  row-broken {i} (breaks-d f l) =
+      ap₂ (λ o u. andThen (brokenAt (λ γ. ruleC i) o) (brokenAt (ruleD i) u)) (lowest-kept (λ γ. tells S (T .row i) γ ≡ false) (tells S (T .row i)) (tells-iff i) (S .packets) f) (lowest-spot (RuleD S T i) (breaksD S T i) (ruleD-iff i) (S .packets) l)
+
+  pub rows-kept : (n : ℕ) → ((i : ℕ) → i < n → RowKeeps S T i) → checkRows S T n ≡ accepted
+  unfolding checkRows andThen
+  rows-kept zero f = refl
+  rows-kept (suc n) f = ap₂ andThen (rows-kept n (λ i h. f i (omega arith))) (row-kept n (f n (omega arith)))
+
+  pub rows-broken : (n : ℕ) {i : ℕ} {x : Checked} → i < n → ((j : ℕ) → j < i → RowKeeps S T j) → RowBreaks S T i x → checkRows S T n ≡ x
+  unfolding checkRows andThen
+  rows-broken zero h f b = absurd (not-suc-le-zero h)
+  rows-broken (suc n) {i} {x} h f b = go (last-or-before h) (λ l. rows-broken n l f b)
+    where
+      go : (i < n) ⊎ (i ≡ n) → (i < n → checkRows S T n ≡ x) → andThen (checkRows S T n) (checkRow S T n) ≡ x
+      go (inl l) ih = ap (λ y. andThen y (checkRow S T n)) (ih l) ∙ broken-first b (checkRow S T n)
+      go (inr e) ih = ap₂ andThen (rows-kept n (λ j l. f j (omega arith))) (subst (λ k. checkRow S T k ≡ x) e (row-broken b))
+
+  -- nothing else can be said of a table than what the answer says
+  pub judged-is : {x : Checked} → Judged S T x → checkRules S T ≡ x
+  unfolding checkRules andThen brokenAt
+  judged-is {x} j = go j
+    where
+      all : Option ℕ → Option ℕ → Checked → Checked
+      all o u y = andThen (brokenAt ruleA o) (andThen (brokenAt ruleB u) y)
+
+      kept-a : ((i : ℕ) → i < T .count → RuleA S T i) → lowest (breaksA S T) (T .count) ≡ none
+      kept-a = lowest-kept (RuleA S T) (breaksA S T) ruleA-iff (T .count)
+
+      kept-b : ((α : ℕ) → α < S .packets → RuleB S T α) → lowest (breaksB S T) (S .packets) ≡ none
+      kept-b = lowest-kept (RuleB S T) (breaksB S T) ruleB-iff (S .packets)
+
+      go : {x : Checked} → Judged S T x → all (lowest (breaksA S T) (T .count)) (lowest (breaksB S T) (S .packets)) (checkRows S T (T .count)) ≡ x
+      go (keeps k) = ap₂ (λ o u. all o u (checkRows S T (T .count))) (kept-a (k .a)) (kept-b (k .b)) ∙ rows-kept (T .count) (λ i h. record { c = k .c i h; d = k .d i h })
+      go (breaks-a l) = ap (λ o. all o (lowest (breaksB S T) (S .packets)) (checkRows S T (T .count))) (lowest-spot (RuleA S T) (breaksA S T) ruleA-iff (T .count) l)
+      go (breaks-b a l) = ap₂ (λ o u. all o u (checkRows S T (T .count))) (kept-a a) (lowest-spot (RuleB S T) (breaksB S T) ruleB-iff (S .packets) l)
+      go (breaks-row a b i h f r) = ap₂ (λ o u. all o u (checkRows S T (T .count))) (kept-a a) (kept-b b) ∙ rows-broken (T .count) h f r
+
   -- accepted exactly when the four rules are kept
   pub accepted-iff : (checkRules S T ≡ accepted) ↔ KeepsRules S T
-  accepted-iff = (λ e. there (subst (Judged S T) e judged), λ k. back k judged)
+  accepted-iff = (λ e. there (subst (Judged S T) e judged), λ k. judged-is (keeps k))
     where
       never : {i : ℕ} → RowBreaks S T i accepted → ⊥
       never b = elim b [ ]
@@ -123,16 +176,6 @@ module _ (S : System) (L : Lawful S) (T : Table S) where
       there : Judged S T accepted → KeepsRules S T
       there (keeps k) = k
       there (breaks-row a b i h f r) = absurd (never r)
-
-      row : {i : ℕ} {x : Checked} → KeepsRules S T → i < T .count → RowBreaks S T i x → ⊥
-      row {i} k h (breaks-c f) = f (k .c i h)
-      row {i} k h (breaks-d f l) = l .broken (k .d i h _ (l .inside))
-
-      back : {x : Checked} → KeepsRules S T → Judged S T x → x ≡ accepted
-      back k (keeps q) = refl
-      back k (breaks-a l) = absurd (l .broken (k .a _ (l .inside)))
-      back k (breaks-b a l) = absurd (l .broken (k .b _ (l .inside)))
-      back k (breaks-row a b i h f r) = absurd (row k h r)
 
   -- rules (b), (c) and (d) make the table closed
   pub keeps-closed : KeepsRules S T → Closed S (Present S T)

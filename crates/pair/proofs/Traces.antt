@@ -1,24 +1,23 @@
 -- Where a word leads in the system of two policies, in terms of Figure 1; nothing tells exactly when the traces are the same.
-use Prim.Native.Nat.{ℕ, zero, suc, _<_, _≤_}
+use Prim.Native.Nat.{ℕ, _<_, _≤_}
 use mathlib.Core.Bool.{Bool, true, false, xor, cond}
 use mathlib.Core.List.{List, [], _∷_, _++_, List·Memᴰ, List·Memᴰ·head, List·Memᴰ·tail, Memᴰ·append-left, Memᴰ·append-right}
-use mathlib.Core.Logic.{_⊎_, inl, inr, _↔_}
-use mathlib.Core.Path.{_≡_, refl, sym, _∙_, ap, ap₂, subst}
+use mathlib.Core.Logic.{_↔_}
+use mathlib.Core.Path.{_≡_, refl, sym, ap, ap₂, subst}
 use native.Mathlib.Omega.{arith}
 use lib.Dec.{T}
 use lib.ListN.{length}
 use Rattle.packet.specs.Sizes.{product}
 use Rattle.policy.specs.Meaning.{numbered, Traces, SameTraces, SameTracesBelow}
 use Rattle.automaton.specs.Mask.{bit}
-use Rattle.automaton.specs.State.{outputMask, nextMask, StateTraces}
+use Rattle.automaton.specs.State.{StateTraces}
 use Rattle.automaton.proofs.Tests.{T-true, true-T, T-false, same-test}
 use Rattle.automaton.proofs.Words.{not-empty}
 use Rattle.automaton.proofs.Laws.{outputMask-iff, nextMask-iff, whole-iff, traces-below}
 use Rattle.system.specs.System.{Row, startRow, nextRow, tells}
 use Rattle.system.specs.Words.{Word, end, then, follow, SilentBelow, Silent}
 use Rattle.system.proofs.Basics.{clash, length-snoc}
-use Rattle.system.proofs.Following.{follow-small}
-use Rattle.pair.specs.Sides.{Side, left, right, other, Pair, at, each, Labelled}
+use Rattle.pair.specs.Sides.{Side, left, right, other, Pair, at, Labelled}
 use Rattle.pair.specs.Pair.{SideTraces, outputAt, nextAt, inOneOutput, pairSystem}
 use Rattle.pair.proofs.Sides.{at-each}
 use Rattle.pair.proofs.Lawful.{EvaluablePair, xor-same}

@@ -1,27 +1,25 @@
 -- What the search's answers say of the two policies, in terms of Figure 1, and when each comes.
 use Prim.Native.Nat.{ℕ, suc, pred, _<_, _≤_}
-use mathlib.Core.Bool.{Bool, true, false, cond}
+use mathlib.Core.Bool.{cond}
 use mathlib.Core.List.{List, [], _∷_, _++_}
 use mathlib.Core.Logic.{_⊎_, inl, inr, ⊎-elim, _↔_}
 use mathlib.Core.Path.{_≡_, refl, sym, _∙_, ap, subst}
 use native.Mathlib.Omega.{arith}
-use lib.Dec.{ltb}
 use lib.ListN.{length, getD}
 use lib.Seq.{getD-append-seam}
 use borrow.Author.Tests.{lt-ltb, le-ltb}
-use Rattle.packet.specs.Sizes.{product}
 use Rattle.policy.specs.Meaning.{SameTracesBelow}
-use Rattle.system.specs.System.{Lawful, Row, startRow}
+use Rattle.system.specs.System.{System, startRow}
 use Rattle.system.specs.Words.{follow}
-use Rattle.system.specs.RowOrder.{Answer, full as moreRows, equal as allHandled, different as tellingRow, entryAt, NeedsMore, run, path, answer, held}
+use Rattle.system.specs.RowOrder.{Answer, full as moreRows, equal as allHandled, different as tellingRow, entryAt, NeedsMore, path, answer, held}
 use Rattle.system.proofs.Basics.{lt-or-le, length-snoc}
 use Rattle.system.proofs.Runs.{invariant}
 use Rattle.system.proofs.Lines.{Line, line-of}
 use Rattle.system.proofs.Shortest.{Shortest}
 use Rattle.system.proofs.Answers.{Answered, is-different, answered, full-iff, short-stops, held-stopped}
-use Rattle.system.proofs.Verdicts.{IsEqual, IsDifferent, equal-is, different-is, silent-is}
-use Rattle.pair.specs.Sides.{Side, left, right, other, Pair, Labelled}
-use Rattle.pair.specs.Pair.{SideTraces, outputAt, pairSystem}
+use Rattle.system.proofs.Verdicts.{IsDifferent, equal-is, different-is, silent-is}
+use Rattle.pair.specs.Sides.{Side, left, right, Pair, Labelled}
+use Rattle.pair.specs.Pair.{pairSystem}
 use Rattle.pair.specs.Search.{SearchAnswer, equal, different, rowsFull, traceShort, lastOf, sideOf, reported, searchAnswer, Distinguishes}
 use Rattle.pair.proofs.Lawful.{EvaluablePair, lawful}
 use Rattle.pair.proofs.Traces.{ends, Alone, telling-after, silent-below-traces, silent-iff}
@@ -32,43 +30,46 @@ unfolding lastOf
 lastOf-snoc w γ = ap (λ n. getD (w ++ (γ ∷ [])) (pred n) 0) (length-snoc w γ) ∙ getD-append-seam w γ [] 0
 
 module _ (sizes : List ℕ) (ps : Pair Labelled) where
+  abbrev S : System
+  S = pairSystem sizes ps
+
   -- the policy that has the telling packet of row i
   sideAt : ℕ → ℕ → List ℕ → Side
-  sideAt n i t = sideOf sizes ps (entryAt (pairSystem sizes ps) (held (pairSystem sizes ps) n) i .row) (lastOf t)
+  sideAt n i t = sideOf sizes ps (entryAt S (held S n) i .row) (lastOf t)
 
-  pub search-full : (n m : ℕ) → answer (pairSystem sizes ps) n ≡ moreRows → searchAnswer sizes ps n m ≡ rowsFull n
+  pub search-full : (n m : ℕ) → answer S n ≡ moreRows → searchAnswer sizes ps n m ≡ rowsFull n
   unfolding searchAnswer
   search-full n m e = rw (e, searchAnswer)
 
-  pub search-equal : (n m c : ℕ) → answer (pairSystem sizes ps) n ≡ allHandled c → searchAnswer sizes ps n m ≡ equal c
+  pub search-equal : (n m c : ℕ) → answer S n ≡ allHandled c → searchAnswer sizes ps n m ≡ equal c
   unfolding searchAnswer
   search-equal n m c e = rw (e, searchAnswer)
 
-  search-reported : (n m i α : ℕ) (t : List ℕ) → answer (pairSystem sizes ps) n ≡ tellingRow i α t → searchAnswer sizes ps n m ≡ reported sizes ps m (sideAt n i t) α t
+  search-reported : (n m i α : ℕ) (t : List ℕ) → answer S n ≡ tellingRow i α t → searchAnswer sizes ps n m ≡ reported sizes ps m (sideAt n i t) α t
   unfolding searchAnswer sideAt
   search-reported n m i α t e = rw (e, searchAnswer)
 
-  pub search-short : (n m i α : ℕ) (t : List ℕ) → answer (pairSystem sizes ps) n ≡ tellingRow i α t → m < length t → searchAnswer sizes ps n m ≡ traceShort (length t)
+  pub search-short : (n m i α : ℕ) (t : List ℕ) → answer S n ≡ tellingRow i α t → m < length t → searchAnswer sizes ps n m ≡ traceShort (length t)
   unfolding reported
   search-short n m i α t e h = search-reported n m i α t e ∙ ap (λ b. cond b (traceShort (length t)) (different (sideAt n i t) α t)) (lt-ltb m (length t) h)
 
-  pub search-different : (n m i α : ℕ) (t : List ℕ) → answer (pairSystem sizes ps) n ≡ tellingRow i α t → length t ≤ m
-      → searchAnswer sizes ps n m ≡ different (sideOf sizes ps (entryAt (pairSystem sizes ps) (held (pairSystem sizes ps) n) i .row) (lastOf t)) α t
+  pub search-different : (n m i α : ℕ) (t : List ℕ) → answer S n ≡ tellingRow i α t → length t ≤ m
+      → searchAnswer sizes ps n m ≡ different (sideOf sizes ps (entryAt S (held S n) i .row) (lastOf t)) α t
   unfolding reported sideAt
   search-different n m i α t e h = search-reported n m i α t e ∙ ap (λ b. cond b (traceShort (length t)) (different (sideAt n i t) α t)) (le-ltb m (length t) h)
 
   -- What each answer says of the row order.
   pub data Searched (n m : ℕ) : SearchAnswer → Type 0 where
-    is-full : {k : ℕ} → answer (pairSystem sizes ps) n ≡ moreRows → n ≡ k → Searched n m (rowsFull k)
-    is-equal : {c : ℕ} → answer (pairSystem sizes ps) n ≡ allHandled c → Searched n m (equal c)
-    is-short : {k : ℕ} (i α : ℕ) (t : List ℕ) → answer (pairSystem sizes ps) n ≡ tellingRow i α t → m < length t → length t ≡ k → Searched n m (traceShort k)
-    is-telling : {s : Side} {α : ℕ} {t : List ℕ} (i : ℕ) → answer (pairSystem sizes ps) n ≡ tellingRow i α t → length t ≤ m
-        → sideOf sizes ps (entryAt (pairSystem sizes ps) (held (pairSystem sizes ps) n) i .row) (lastOf t) ≡ s → Searched n m (different s α t)
+    is-full : {k : ℕ} → answer S n ≡ moreRows → n ≡ k → Searched n m (rowsFull k)
+    is-equal : {c : ℕ} → answer S n ≡ allHandled c → Searched n m (equal c)
+    is-short : {k : ℕ} (i α : ℕ) (t : List ℕ) → answer S n ≡ tellingRow i α t → m < length t → length t ≡ k → Searched n m (traceShort k)
+    is-telling : {s : Side} {α : ℕ} {t : List ℕ} (i : ℕ) → answer S n ≡ tellingRow i α t → length t ≤ m
+        → sideOf sizes ps (entryAt S (held S n) i .row) (lastOf t) ≡ s → Searched n m (different s α t)
 
   pub searched : (n m : ℕ) → Searched n m (searchAnswer sizes ps n m)
-  searched n m = go (answer (pairSystem sizes ps) n) refl
+  searched n m = go (answer S n) refl
     where
-      go : (a : Answer) → answer (pairSystem sizes ps) n ≡ a → Searched n m (searchAnswer sizes ps n m)
+      go : (a : Answer) → answer S n ≡ a → Searched n m (searchAnswer sizes ps n m)
       go moreRows e = subst (Searched n m) (sym (search-full n m e)) (is-full e refl)
       go (allHandled c) e = subst (Searched n m) (sym (search-equal n m c e)) (is-equal e)
       go (tellingRow i α t) e = long (lt-or-le m (length t))
@@ -78,11 +79,11 @@ module _ (sizes : List ℕ) (ps : Pair Labelled) where
           long (inr h) = subst (Searched n m) (sym (search-different n m i α t e h)) (is-telling i e h refl)
 
   -- 11 exactly when the row order needs more rows than were lent; its place is the rows lent
-  pub full-exactly : (n m : ℕ) → (searchAnswer sizes ps n m ≡ rowsFull n) ↔ NeedsMore (pairSystem sizes ps) n
-  full-exactly n m = (λ e. there (subst (Searched n m) e (searched n m)), λ x. search-full n m (full-iff (pairSystem sizes ps) n .1 x))
+  pub full-exactly : (n m : ℕ) → (searchAnswer sizes ps n m ≡ rowsFull n) ↔ NeedsMore S n
+  full-exactly n m = (λ e. there (subst (Searched n m) e (searched n m)), λ x. search-full n m (full-iff S n .1 x))
     where
-      there : Searched n m (rowsFull n) → NeedsMore (pairSystem sizes ps) n
-      there (is-full e q) = full-iff (pairSystem sizes ps) n .0 e
+      there : Searched n m (rowsFull n) → NeedsMore S n
+      there (is-full e q) = full-iff S n .0 e
 
   pub full-place : (n m k : ℕ) → searchAnswer sizes ps n m ≡ rowsFull k → k ≡ n
   full-place n m k e = go (subst (Searched n m) e (searched n m))
@@ -105,37 +106,37 @@ module _ (sizes : List ℕ) (ps : Pair Labelled) where
     where
       there : Searched n m (traceShort k) → TooLong n m k
       there (is-short i α t e h q) =
-          record { side = sideOf sizes ps (entryAt (pairSystem sizes ps) (held (pairSystem sizes ps) n) i .row) (lastOf t); entering = α; trace = t; long = q; over = omega arith; otherwise = search-different n k i α t e (omega arith) }
+          record { side = sideOf sizes ps (entryAt S (held S n) i .row) (lastOf t); entering = α; trace = t; long = q; over = omega arith; otherwise = search-different n k i α t e (omega arith) }
 
       back : (x : TooLong n m k) → Searched n k (different (x .side) (x .entering) (x .trace)) → searchAnswer sizes ps n m ≡ traceShort k
       back x (is-telling i e h q) = search-short n m i (x .entering) (x .trace) e (omega (arith, x .long, x .over)) ∙ ap traceShort (x .long)
 
   module _ (ok : EvaluablePair sizes ps) where
     -- equal: the row count, and the same traces from every packet
-    pub equal-same : (n m c : ℕ) → searchAnswer sizes ps n m ≡ equal c → (length (held (pairSystem sizes ps) n) ≡ c) × SameTracesBelow sizes (ps .left .tree) (ps .right .tree)
+    pub equal-same : (n m c : ℕ) → searchAnswer sizes ps n m ≡ equal c → (length (held S n) ≡ c) × SameTracesBelow sizes (ps .left .tree) (ps .right .tree)
     equal-same n m c e = go (subst (Searched n m) e (searched n m))
       where
-        go : Searched n m (equal c) → (length (held (pairSystem sizes ps) n) ≡ c) × SameTracesBelow sizes (ps .left .tree) (ps .right .tree)
+        go : Searched n m (equal c) → (length (held S n) ≡ c) × SameTracesBelow sizes (ps .left .tree) (ps .right .tree)
         go (is-equal a) =
-            let x = equal-is (pairSystem sizes ps) (lawful sizes ps ok) n c a in
+            let x = equal-is S (lawful sizes ps ok) n c a in
             (x .whole, silent-iff sizes ps ok .0 (x .silent))
 
     -- the telling row is where its path leads
-    telling-leads : (n i α : ℕ) (t : List ℕ) → answer (pairSystem sizes ps) n ≡ tellingRow i α t
-        → follow (pairSystem sizes ps) (startRow (pairSystem sizes ps) α) (path (pairSystem sizes ps) (held (pairSystem sizes ps) n) i) ≡ entryAt (pairSystem sizes ps) (held (pairSystem sizes ps) n) i .row
-    telling-leads n i α t e = go (subst (Answered (pairSystem sizes ps) n) e (answered (pairSystem sizes ps) n))
+    telling-leads : (n i α : ℕ) (t : List ℕ) → answer S n ≡ tellingRow i α t
+        → follow S (startRow S α) (path S (held S n) i) ≡ entryAt S (held S n) i .row
+    telling-leads n i α t e = go (subst (Answered S n) e (answered S n))
       where
-        x : IsDifferent (pairSystem sizes ps) n i α t
-        x = different-is (pairSystem sizes ps) (lawful sizes ps ok) n i α t e
+        x : IsDifferent S n i α t
+        x = different-is S (lawful sizes ps ok) n i α t e
 
-        go : Answered (pairSystem sizes ps) n (tellingRow i α t)
-            → follow (pairSystem sizes ps) (startRow (pairSystem sizes ps) α) (path (pairSystem sizes ps) (held (pairSystem sizes ps) n) i) ≡ entryAt (pairSystem sizes ps) (held (pairSystem sizes ps) n) i .row
+        go : Answered S n (tellingRow i α t)
+            → follow S (startRow S α) (path S (held S n) i) ≡ entryAt S (held S n) i .row
         go (is-different γ h q a b c) =
-            subst (λ β. follow (pairSystem sizes ps) (startRow (pairSystem sizes ps) β) (path (pairSystem sizes ps) (held (pairSystem sizes ps) n) i) ≡ entryAt (pairSystem sizes ps) (held (pairSystem sizes ps) n) i .row) (x .enters)
-            (subst (λ es. i < length es → Line (pairSystem sizes ps) es i) (sym (held-stopped (pairSystem sizes ps) n (suc n) (short-stops (pairSystem sizes ps) n h) h)) (line-of (pairSystem sizes ps) (invariant (pairSystem sizes ps) (lawful sizes ps ok) (suc n) .listing) i) (x .inside) .leads)
+            subst (λ β. follow S (startRow S β) (path S (held S n) i) ≡ entryAt S (held S n) i .row) (x .enters)
+            (subst (λ es. i < length es → Line S es i) (sym (held-stopped S n (suc n) (short-stops S n h) h)) (line-of S (invariant S (lawful sizes ps ok) (suc n) .listing) i) (x .inside) .leads)
 
-    telling-distinguishes : (n i α : ℕ) (t : List ℕ) → answer (pairSystem sizes ps) n ≡ tellingRow i α t
-        → Distinguishes sizes ps (sideOf sizes ps (entryAt (pairSystem sizes ps) (held (pairSystem sizes ps) n) i .row) (lastOf t)) α t
+    telling-distinguishes : (n i α : ℕ) (t : List ℕ) → answer S n ≡ tellingRow i α t
+        → Distinguishes sizes ps (sideOf sizes ps (entryAt S (held S n) i .row) (lastOf t)) α t
     unfolding sideOf Alone ends
     telling-distinguishes n i α t e =
         record {
@@ -145,13 +146,13 @@ module _ (sizes : List ℕ) (ps : Pair Labelled) where
           shortest = λ β h u l. let f = silent-below-traces sizes ps ok (length w) (y .shortest) β h u (omega (arith, long)) in (f left right, f right left);
         }
       where
-        x : IsDifferent (pairSystem sizes ps) n i α t
-        x = different-is (pairSystem sizes ps) (lawful sizes ps ok) n i α t e
+        x : IsDifferent S n i α t
+        x = different-is S (lawful sizes ps ok) n i α t e
 
         w : List ℕ
-        w = path (pairSystem sizes ps) (held (pairSystem sizes ps) n) i
+        w = path S (held S n) i
 
-        y : Shortest (pairSystem sizes ps) α w (x .last)
+        y : Shortest S α w (x .last)
         y = x .shortest
 
         long : length t ≡ suc (length w)
@@ -160,11 +161,11 @@ module _ (sizes : List ℕ) (ps : Pair Labelled) where
         last : lastOf t ≡ x .last
         last = ap lastOf (sym (x .goes)) ∙ lastOf-snoc w (x .last)
 
-        alone : Alone sizes ps (sideOf sizes ps (entryAt (pairSystem sizes ps) (held (pairSystem sizes ps) n) i .row) (lastOf t)) α t
+        alone : Alone sizes ps (sideOf sizes ps (entryAt S (held S n) i .row) (lastOf t)) α t
         alone =
             subst (λ r. Alone sizes ps (sideOf sizes ps r (lastOf t)) α t) (telling-leads n i α t e)
-            (subst (λ γ. Alone sizes ps (sideOf sizes ps (follow (pairSystem sizes ps) (startRow (pairSystem sizes ps) α) w) γ) α t) (sym last)
-            (subst (λ u. Alone sizes ps (sideOf sizes ps (follow (pairSystem sizes ps) (startRow (pairSystem sizes ps) α) w) (x .last)) α u) (x .goes)
+            (subst (λ γ. Alone sizes ps (sideOf sizes ps (follow S (startRow S α) w) γ) α t) (sym last)
+            (subst (λ u. Alone sizes ps (sideOf sizes ps (follow S (startRow S α) w) (x .last)) α u) (x .goes)
             (telling-after sizes ps ok α (y .enters) (y .word) (x .last) (y .last-tells))))
 
     -- different: that policy alone has the trace, and no shorter trace tells the two apart from any packet
@@ -176,6 +177,6 @@ module _ (sizes : List ℕ) (ps : Pair Labelled) where
 
     -- the same traces from every packet: the answer is equal or full
     pub same-answer : SameTracesBelow sizes (ps .left .tree) (ps .right .tree) → (n m : ℕ)
-        → (searchAnswer sizes ps n m ≡ rowsFull n) ⊎ (searchAnswer sizes ps n m ≡ equal (length (held (pairSystem sizes ps) n)))
+        → (searchAnswer sizes ps n m ≡ rowsFull n) ⊎ (searchAnswer sizes ps n m ≡ equal (length (held S n)))
     same-answer E n m =
-        ⊎-elim (λ e. inl (search-full n m e)) (λ e. inr (search-equal n m _ e)) (silent-is (pairSystem sizes ps) (lawful sizes ps ok) (silent-iff sizes ps ok .1 E) n)
+        ⊎-elim (λ e. inl (search-full n m e)) (λ e. inr (search-equal n m _ e)) (silent-is S (lawful sizes ps ok) (silent-iff sizes ps ok .1 E) n)

@@ -1,6 +1,6 @@
 -- The search's answer, and what the row lists hold (document 01, "States and rows").
 use Prim.Native.Nat.{ℕ, pred, _<_}
-use mathlib.Core.Bool.{cond, true, false}
+use mathlib.Core.Bool.{cond}
 use mathlib.Core.List.{List, map}
 use mathlib.Core.Logic.{_↔_}
 use lib.Dec.{ltb}
@@ -8,7 +8,7 @@ use lib.ListN.{length, getD}
 use Rattle.packet.specs.Sizes.{product}
 use Rattle.automaton.specs.Mask.{bit}
 use Rattle.system.specs.System.{Row}
-use Rattle.system.specs.RowOrder.{Entry, entryAt, Answer, full as moreRows, equal as allHandled, different as tellingRow, answer, held}
+use Rattle.system.specs.RowOrder.{Entry, entryAt, full as moreRows, equal as allHandled, different as tellingRow, answer, held}
 use Rattle.pair.specs.Sides.{Side, left, right, other, Pair, Labelled}
 use Rattle.pair.specs.Pair.{SideTraces, outputAt, pairSystem}
 

@@ -33,8 +33,8 @@ pub record Labelled : Type 0 where
   pub dups : ℕ
 
 -- the policy of node lists
-unfoldable pub labelled : NodeLists → Labelled
+abbrev pub labelled : NodeLists → Labelled
 labelled L = record { tree = policyOf L; dups = dupsBelow L (nodeCount L) }
 
-unfoldable pub policies : NodeLists → NodeLists → Pair Labelled
+abbrev pub policies : NodeLists → NodeLists → Pair Labelled
 policies l r = record { left = labelled l; right = labelled r }
