@@ -50,7 +50,7 @@ module _ (sizes : List ℕ) (ps : Pair Labelled) (ok : EvaluablePair sizes ps) w
     unfolding evidenceAnswer
     accepted-same e = silent-iff sizes ps ok .0 (accepted-silent S (lawful sizes ps ok) (tableOf sizes ps packets lefts rights) e)
 
-    present-row : (α l r : ℕ) → InTable sizes ps packets lefts rights α l r → Present S (tableOf sizes ps packets lefts rights) (record { packet = α; state = record { left = l; right = r } })
+    present-row : (α l r : ℕ) → InTable packets lefts rights α l r → Present S (tableOf sizes ps packets lefts rights) (record { packet = α; state = record { left = l; right = r } })
     present-row α l r x =
         record {
           place = x .place;
@@ -58,7 +58,7 @@ module _ (sizes : List ℕ) (ps : Pair Labelled) (ok : EvaluablePair sizes ps) w
           there = λ i. record { packet = x .packet i; state = record { left = x .left i; right = x .right i } };
         }
 
-    row-present : (α l r : ℕ) → Present S (tableOf sizes ps packets lefts rights) (record { packet = α; state = record { left = l; right = r } }) → InTable sizes ps packets lefts rights α l r
+    row-present : (α l r : ℕ) → Present S (tableOf sizes ps packets lefts rights) (record { packet = α; state = record { left = l; right = r } }) → InTable packets lefts rights α l r
     row-present α l r x =
         record {
           place = x .place;
@@ -70,7 +70,7 @@ module _ (sizes : List ℕ) (ps : Pair Labelled) (ok : EvaluablePair sizes ps) w
 
     -- accepted: each row of the row order is present
     pub accepted-holds : evidenceAnswer sizes ps packets lefts rights ≡ accepted → (k : ℕ) (r : Row S) → Listed S (run S k .rows) r
-        → InTable sizes ps packets lefts rights (r .packet) (r .state .left) (r .state .right)
+        → InTable packets lefts rights (r .packet) (r .state .left) (r .state .right)
     unfolding evidenceAnswer
     accepted-holds e k r l = row-present (r .packet) (r .state .left) (r .state .right) (accepted-contains S (lawful sizes ps ok) (tableOf sizes ps packets lefts rights) e k r l)
 

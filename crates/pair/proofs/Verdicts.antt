@@ -3,7 +3,7 @@ use Prim.Native.Nat.{ℕ, suc, pred, _<_, _≤_}
 use mathlib.Core.Bool.{cond}
 use mathlib.Core.List.{List, [], _∷_, _++_}
 use mathlib.Core.Logic.{_⊎_, inl, inr, ⊎-elim, _↔_}
-use mathlib.Core.Path.{_≡_, refl, sym, _∙_, ap, subst}
+use mathlib.Core.Path.{_≡_, refl, sym, _∙_, ap, ap₂, subst}
 use native.Mathlib.Omega.{arith}
 use lib.ListN.{length, getD}
 use lib.Seq.{getD-append-seam}
@@ -11,12 +11,12 @@ use borrow.Author.Tests.{lt-ltb, le-ltb}
 use Rattle.policy.specs.Meaning.{SameTracesBelow}
 use Rattle.system.specs.System.{System, startRow}
 use Rattle.system.specs.Words.{follow}
-use Rattle.system.specs.RowOrder.{Answer, full as moreRows, equal as allHandled, different as tellingRow, entryAt, NeedsMore, path, answer, held}
+use Rattle.system.specs.RowOrder.{Answer, full as moreRows, equal as allHandled, different as tellingRow, entryAt, NeedsMore, finished, telling, turn, current, run, entering, path, answer, held}
 use Rattle.system.proofs.Basics.{lt-or-le, length-snoc}
-use Rattle.system.proofs.Runs.{invariant}
+use Rattle.system.proofs.Runs.{telling≢handling, invariant}
 use Rattle.system.proofs.Lines.{Line, line-of}
 use Rattle.system.proofs.Shortest.{Shortest}
-use Rattle.system.proofs.Answers.{Answered, is-different, answered, full-iff, short-stops, held-stopped}
+use Rattle.system.proofs.Answers.{Answered, is-different, answered, full-iff, short-stops, answer-finished, answer-telling, held-stopped}
 use Rattle.system.proofs.Verdicts.{IsDifferent, equal-is, different-is, silent-is}
 use Rattle.pair.specs.Sides.{Side, left, right, Pair, Labelled}
 use Rattle.pair.specs.Pair.{pairSystem}
@@ -45,7 +45,7 @@ module _ (sizes : List ℕ) (ps : Pair Labelled) where
   unfolding searchAnswer
   search-equal n m c e = rw (e, searchAnswer)
 
-  search-reported : (n m i α : ℕ) (t : List ℕ) → answer S n ≡ tellingRow i α t → searchAnswer sizes ps n m ≡ reported sizes ps m (sideAt n i t) α t
+  search-reported : (n m i α : ℕ) (t : List ℕ) → answer S n ≡ tellingRow i α t → searchAnswer sizes ps n m ≡ reported m (sideAt n i t) α t
   unfolding searchAnswer sideAt
   search-reported n m i α t e = rw (e, searchAnswer)
 
@@ -57,6 +57,18 @@ module _ (sizes : List ℕ) (ps : Pair Labelled) where
       → searchAnswer sizes ps n m ≡ different (sideOf sizes ps (entryAt S (held S n) i .row) (lastOf t)) α t
   unfolding reported sideAt
   search-different n m i α t e h = search-reported n m i α t e ∙ ap (λ b. cond b (traceShort (length t)) (different (sideAt n i t) α t)) (le-ltb m (length t) h)
+
+  -- a run that has stopped, with room for its rows
+  pub search-finished : (n m k : ℕ) → turn S (run S k) ≡ finished → length (run S k .rows) ≤ n → searchAnswer sizes ps n m ≡ equal (length (run S k .rows))
+  search-finished n m k e h = search-equal n m _ (answer-finished S n k e h)
+
+  pub search-telling : (n m k γ : ℕ) → turn S (run S k) ≡ telling γ → length (run S k .rows) ≤ n
+      → searchAnswer sizes ps n m ≡ reported m (sideOf sizes ps (current S (run S k)) γ) (entering S (run S k .rows) (run S k .handled)) (path S (run S k .rows) (run S k .handled) ++ (γ ∷ []))
+  unfolding sideAt
+  search-telling n m k γ e h =
+      search-reported n m _ _ _ (answer-telling S n k γ e h)
+      ∙ ap₂ (λ es δ. reported m (sideOf sizes ps (entryAt S es (run S k .handled) .row) δ) (entering S (run S k .rows) (run S k .handled)) (path S (run S k .rows) (run S k .handled) ++ (γ ∷ [])))
+      (held-stopped S n k (λ q. telling≢handling (sym e ∙ q)) h) (lastOf-snoc (path S (run S k .rows) (run S k .handled)) γ)
 
   -- What each answer says of the row order.
   pub data Searched (n m : ℕ) : SearchAnswer → Type 0 where

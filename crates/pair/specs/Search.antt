@@ -31,14 +31,14 @@ pub record Columns : Type 0 where
 unfoldable pub lastOf : List ℕ → ℕ
 lastOf t = getD t (pred (length t)) 0
 
+-- a different answer, where the trace list lent is long enough
+unfoldable pub reported : ℕ → Side → ℕ → List ℕ → SearchAnswer
+reported lent s α trace = cond (ltb lent (length trace)) (traceShort (length trace)) (different s α trace)
+
 module _ (sizes : List ℕ) (ps : Pair Labelled) where
   -- the policy in whose output the telling packet is
   unfoldable pub sideOf : Row (pairSystem sizes ps) → ℕ → Side
   sideOf r γ = cond (bit (outputAt sizes ps left (r .packet) (r .state)) γ) left right
-
-  -- a different answer, where the trace list lent is long enough
-  unfoldable pub reported : ℕ → Side → ℕ → List ℕ → SearchAnswer
-  reported lent s α trace = cond (ltb lent (length trace)) (traceShort (length trace)) (different s α trace)
 
   -- the search's answer with so many rows and so long a trace lent
   unfoldable pub searchAnswer : ℕ → ℕ → SearchAnswer
