@@ -3,7 +3,7 @@ use Prim.Native.Nat.{ℕ, zero, suc, _^_, _<_}
 use mathlib.Core.Bool.{true, false}
 use mathlib.Core.List.{List, [], _∷_, map}
 use mathlib.Core.Logic.{inl, inr, ⊎-elim, _↔_}
-use mathlib.Core.Path.{_≡_, refl, ap}
+use mathlib.Core.Path.{_≡_, refl, ap, subst}
 use native.Mathlib.Nat.{not-suc-le-zero, le-of-suc-le-suc}
 use lib.Dec.{eqb, ltb}
 use lib.ListN.{length, getD, length-map}
@@ -21,12 +21,13 @@ use Rattle.system.proofs.Answers.{full-iff}
 use Rattle.system.proofs.Verdicts.{equal-is, silent-is}
 use Rattle.pair.specs.Sides.{Side, left, right, Pair, at, Labelled}
 use Rattle.pair.specs.Pair.{outputAt, nextAt, bothZero, inOneOutput, bitsOfDups, pairSystem}
-use Rattle.pair.specs.Search.{columnsOf, heldColumns}
+use Rattle.pair.specs.Search.{equal, columnsOf, searchAnswer, heldColumns}
 use Rattle.pair.specs.Rules.{accepted, Present, RuleA, RuleB, RuleC, RuleD, KeepsRules, Judged}
 use Rattle.pair.specs.Evidence.{tableOf, evidenceAnswer, InTable, RowRules}
 use Rattle.pair.proofs.Sides.{onBoth-true, true-onBoth}
 use Rattle.pair.proofs.Lawful.{EvaluablePair, lawful, xor-same}
 use Rattle.pair.proofs.Traces.{xor-false, silent-iff}
+use Rattle.pair.proofs.Verdicts.{Searched, is-equal, searched}
 use Rattle.pair.proofs.Rules.{judged, accepted-iff, accepted-silent, accepted-contains, listed-keeps}
 
 -- an entry of a column
@@ -143,7 +144,7 @@ module _ (sizes : List ℕ) (ps : Pair Labelled) (ok : EvaluablePair sizes ps) w
         (λ x. rules-iff .0 (e .0 x), λ k. e .1 (rules-iff .1 k))
 
   -- equal: the rows held are accepted
-  pub equal-accepted : (n c : ℕ) → answer S n ≡ allHandled c
+  equal-accepted : (n c : ℕ) → answer S n ≡ allHandled c
       → evidenceAnswer sizes ps (heldColumns sizes ps n .packets) (heldColumns sizes ps n .lefts) (heldColumns sizes ps n .rights) ≡ accepted
   unfolding evidenceAnswer heldColumns columnsOf
   equal-accepted n c e =
@@ -158,6 +159,13 @@ module _ (sizes : List ℕ) (ps : Pair Labelled) (ok : EvaluablePair sizes ps) w
         };
       })
       (x .closed) (x .sound))
+
+  pub search-accepted : (n m c : ℕ) → searchAnswer sizes ps n m ≡ equal c
+      → evidenceAnswer sizes ps (heldColumns sizes ps n .packets) (heldColumns sizes ps n .lefts) (heldColumns sizes ps n .rights) ≡ accepted
+  search-accepted n m c e = go (subst (Searched sizes ps n m) e (searched sizes ps n m))
+    where
+      go : Searched sizes ps n m (equal c) → evidenceAnswer sizes ps (heldColumns sizes ps n .packets) (heldColumns sizes ps n .lefts) (heldColumns sizes ps n .rights) ≡ accepted
+      go (is-equal a) = equal-accepted n c a
 
   -- the same traces and a row order of at most n rows: that row order is a table that is accepted
   pub row-order-accepted : (n : ℕ) → SameTracesBelow sizes (ps .left .tree) (ps .right .tree) → (NeedsMore S n → ⊥)

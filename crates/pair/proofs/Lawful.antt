@@ -1,8 +1,8 @@
 -- Two policies that can be evaluated are a lawful system.
 use Prim.Native.Nat.{ℕ, suc, _^_, _<_}
-use mathlib.Core.Bool.{Bool, true, false, xor}
+use mathlib.Core.Bool.{Bool, true, false, xor, not, Bool·beq}
 use mathlib.Core.List.{List}
-use mathlib.Core.Path.{_≡_, refl, sym, _∙_, ap, subst}
+use mathlib.Core.Path.{_≡_, refl, sym, _∙_, ap, ap₂, subst}
 use lib.Dec.{ltb}
 use borrow.Author.Tests.{eqb-true, eq-eqb, lt-ltb}
 use Rattle.policy.specs.NodeLists.{NodeLists}
@@ -33,6 +33,10 @@ unfolding xor
 xor-same true b e = rw (sym e) refl
 xor-same false b e = rw (sym e) refl
 
+xor-none : {a b : Bool} → a ≡ false → b ≡ false → xor a b ≡ false
+unfolding xor
+xor-none p q = ap₂ (λ a b. not (Bool·beq a b)) p q
+
 module _ (sizes : List ℕ) (ps : Pair Labelled) (ok : EvaluablePair sizes ps) where
   -- a state 0 has no output and stays 0
   zero-output : (s : Side) (β : ℕ) (m : Pair ℕ) → at s m ≡ 0 → outputAt sizes ps s β m ≡ 0
@@ -53,7 +57,7 @@ module _ (sizes : List ℕ) (ps : Pair Labelled) (ok : EvaluablePair sizes ps) w
       record {
         same-refl = λ m. true-onBoth _ (λ s. eq-eqb (at s m) (at s m) refl);
         same-eq = λ m n e. same-pair m n (λ s. eqb-true (at s m) (at s n) (onBoth-true _ e s));
-        dead-silent = λ β m γ h l d. xor-same _ _ (no-bit left β m γ d ∙ sym (no-bit right β m γ d));
+        dead-silent = λ β m γ h l d. xor-none (no-bit _ β m γ d) (no-bit _ β m γ d);
         dead-next =
             λ β m γ h l d.
             true-onBoth _ (λ s. eq-eqb _ 0 (at-each (λ s. nextAt sizes ps s β m γ) s ∙ zero-next s β m γ (zero m d s)));

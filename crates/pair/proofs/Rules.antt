@@ -15,13 +15,14 @@ use Rattle.automaton.specs.State.{anyBelow}
 use Rattle.automaton.proofs.Tests.{T-true, true-T}
 use Rattle.automaton.proofs.Sets.{anyBelow-iff}
 use Rattle.system.specs.System.{System, Lawful, Row, startRow, nextRow, tells}
-use Rattle.system.specs.RowOrder.{Entry, entryAt, run, sameRow}
+use Rattle.system.specs.RowOrder.{Entry, entryAt, run, sameRow, answer, equal, held}
 use Rattle.system.specs.Tables.{Closed, Sound, Listed}
 use Rattle.system.specs.Words.{Silent}
 use Rattle.system.proofs.Basics.{or-true, and-true, last-or-before}
 use Rattle.system.proofs.Listing.{sameRow-true, sameRow-refl}
 use Rattle.system.proofs.Runs.{invariant}
 use Rattle.system.proofs.Tables.{closed-silent, closed-contains}
+use Rattle.system.proofs.Counting.{closed-answer}
 use Rattle.pair.specs.Rules.{Table, Checked, accepted, ruleA, ruleB, ruleC, ruleD, andThen, brokenAt, Present, RuleA, RuleB, RuleC, RuleD, KeepsRules, RowKeeps, RowBreaks, breaks-c, breaks-d, Judged, keeps, breaks-a, breaks-b, breaks-row, present, breaksA, breaksB, breaksD, checkRow, checkRows, checkRules}
 use Rattle.pair.proofs.Sides.{and-both}
 use Rattle.pair.proofs.Lowest.{Spotted, kept, spot, spotted, lowest-spot, lowest-kept}
@@ -193,6 +194,10 @@ module _ (S : System) (L : Lawful S) (T : Table S) where
 
   pub accepted-contains : checkRules S T ≡ accepted → (k : ℕ) (r : Row S) → Listed S (run S k .rows) r → Present S T r
   accepted-contains e k = closed-contains S (keeps-closed (accepted-iff .0 e)) (invariant S L k .listing)
+
+  -- with as many rows as an accepted table has, the search answers equal
+  pub accepted-enough : checkRules S T ≡ accepted → answer S (T .count) ≡ equal (length (held S (T .count)))
+  accepted-enough e = closed-answer S L (keeps-closed (accepted-iff .0 e)) (record { rowAt = T .row; placed = λ r p. (p .place, p .inside, p .there) })
 
   -- a table of listed rows that are closed and sound keeps the rules
   pub listed-keeps : (es : List (Entry S)) → T .count ≡ length es → ((i : ℕ) → i < length es → T .row i ≡ entryAt S es i .row)

@@ -49,14 +49,14 @@ module _ (sizes : List ℕ) (ps : Pair Labelled) where
   unfolding searchAnswer sideAt
   search-reported n m i α t e = rw (e, searchAnswer)
 
-  pub search-short : (n m i α : ℕ) (t : List ℕ) → answer S n ≡ tellingRow i α t → m < length t → searchAnswer sizes ps n m ≡ traceShort (length t)
-  unfolding reported
-  search-short n m i α t e h = search-reported n m i α t e ∙ ap (λ b. cond b (traceShort (length t)) (different (sideAt n i t) α t)) (lt-ltb m (length t) h)
-
   pub search-different : (n m i α : ℕ) (t : List ℕ) → answer S n ≡ tellingRow i α t → length t ≤ m
       → searchAnswer sizes ps n m ≡ different (sideOf sizes ps (entryAt S (held S n) i .row) (lastOf t)) α t
   unfolding reported sideAt
   search-different n m i α t e h = search-reported n m i α t e ∙ ap (λ b. cond b (traceShort (length t)) (different (sideAt n i t) α t)) (le-ltb m (length t) h)
+
+  pub search-short : (n m i α : ℕ) (t : List ℕ) → answer S n ≡ tellingRow i α t → m < length t → searchAnswer sizes ps n m ≡ traceShort (length t)
+  unfolding reported
+  search-short n m i α t e h = search-reported n m i α t e ∙ ap (λ b. cond b (traceShort (length t)) (different (sideAt n i t) α t)) (lt-ltb m (length t) h)
 
   -- a run that has stopped, with room for its rows
   pub search-finished : (n m k : ℕ) → turn S (run S k) ≡ finished → length (run S k .rows) ≤ n → searchAnswer sizes ps n m ≡ equal (length (run S k .rows))
