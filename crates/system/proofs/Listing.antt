@@ -107,7 +107,7 @@ module _ (S : System) where
         inside i h = subst (λ k. i < k) (length-starts (S .packets)) h
 
     -- "listed already" is what it says
-    sameRow-true : (a b : Row S) → sameRow S a b ≡ true → a ≡ b
+    pub sameRow-true : (a b : Row S) → sameRow S a b ≡ true → a ≡ b
     unfolding sameRow
     sameRow-true a b e = λ i. record { packet = p i; state = q i }
       where
@@ -117,7 +117,7 @@ module _ (S : System) where
         q : a .state ≡ b .state
         q = L .same-eq (a .state) (b .state) (and-true (eqb (a .packet) (b .packet)) (S .same (a .state) (b .state)) e .1)
 
-    sameRow-refl : (a : Row S) → sameRow S a a ≡ true
+    pub sameRow-refl : (a : Row S) → sameRow S a a ≡ true
     unfolding sameRow
     sameRow-refl a = rw (eq-eqb (a .packet) (a .packet) refl) (L .same-refl (a .state))
 
