@@ -1,25 +1,22 @@
 -- What flows through a policy and what enters its dups, exactly.
-use Prim.Native.Nat.{ℕ, zero, suc, _*_, _%_, _<_}
+use Prim.Native.Nat.{ℕ, zero, suc, _<_}
 use mathlib.Core.Bool.{Bool, true, false, cond}
-use mathlib.Core.List.{List, [], _∷_, nil≢cons}
+use mathlib.Core.List.{List, [], nil≢cons}
 use mathlib.Core.Logic.{_⊎_, inl, inr, ⊎-map, _↔_}
 use mathlib.Core.Path.{_≡_, refl, sym, _∙_, subst}
-use native.Mathlib.Nat.{mod-lt, div-lt-iff-lt-mul, not-suc-le-zero, mul-zero}
-use native.Mathlib.Omega.{arith}
-use lib.Arith.{digits-lt}
-use lib.Dec.{T, eqb, eqb→eq, leb, nleb→lt, not-T}
-use lib.ListN.{length, getD, set}
+use lib.Dec.{T, eqb, eqb→eq}
 use lib.Pow.{pow-pos}
-use Rattle.packet.specs.Packets.{changed, valuesOf, numberOf}
 use Rattle.packet.specs.Sizes.{product}
+use Rattle.packet.proofs.Packets.{changed-below}
 use Rattle.policy.specs.declared.FieldAction.{FieldAction}
 use Rattle.policy.specs.declared.FieldAction.the-variants.{Equals, Differs, Set}
 use Rattle.policy.specs.Legality.{badField, fieldOf, valueOf, InFields}
 use Rattle.policy.specs.Meaning.{Packets, numbered}
 use Rattle.policy.specs.Tree.{Policy, drop, id, field, dup, sum, seq, star}
+use Rattle.policy.proofs.Numbered.{value-below}
 use Rattle.packet_set.specs.Bits.{bit}
 use Rattle.automaton.specs.State.{Marks, PacketSet, image, rounds, passedOn, flow, enter}
-use Rattle.automaton.proofs.Tests.{eqb-true, either}
+use Rattle.automaton.proofs.Tests.{eqb-true}
 use Rattle.packet_set.proofs.Digits.{bit-of-zero}
 use Rattle.automaton.proofs.Words.{Acts, Tr, Star, done, more}
 use Rattle.automaton.proofs.Spines.{Meets, Rem, RemMeets}
@@ -28,37 +25,12 @@ use Rattle.automaton.proofs.Sets.{Fits, union-fits, union-iff, same-set
 
 -- ---- changed packets are below N
 
-positive : (s q α : ℕ) → α < s * q → 0 < q
-positive s zero α h = absurd (not-suc-le-zero (subst (λ x. α < x) (mul-zero s) h))
-positive s (suc q) α h = omega arith
-
-number-below : (sizes : List ℕ) (α : ℕ) → α < product sizes → numberOf sizes (valuesOf sizes α) < product sizes
-unfolding numberOf valuesOf product
-number-below [] α h = omega arith
-number-below (s ∷ ss) α h =
-    let c = positive s (product ss) α h in
-    digits-lt (div-lt-iff-lt-mul c .1 h) (number-below ss (α % product ss) (mod-lt α c))
-
-set-below : (sizes : List ℕ) (f v α : ℕ) → v < getD sizes f 0 → α < product sizes → numberOf sizes (set (valuesOf sizes α) f v) < product sizes
-unfolding numberOf valuesOf product
-set-below [] f v α l h = absurd (not-suc-le-zero l)
-set-below (s ∷ ss) zero v α l h =
-    let c = positive s (product ss) α h in
-    digits-lt l (number-below ss (α % product ss) (mod-lt α c))
-set-below (s ∷ ss) (suc f) v α l h =
-    let c = positive s (product ss) α h in
-    digits-lt (div-lt-iff-lt-mul c .1 h) (set-below ss f v (α % product ss) l (mod-lt α c))
-
-in-field : (sizes : List ℕ) (f v : ℕ) → badField sizes f v ≡ false → v < getD sizes f 0
-unfolding badField
-in-field sizes f v e = nleb→lt (getD sizes f 0) v (not-T (leb (getD sizes f 0) v) (λ t. subst T e (either (leb (length sizes) f) (leb (getD sizes f 0) v) .1 (inr t))))
-
 pub keeps : (sizes : List ℕ) (a : FieldAction) → badField sizes (fieldOf a) (valueOf a) ≡ false → (α γ : ℕ) → α < product sizes → Acts (numbered sizes) a α γ
     → γ < product sizes
-unfolding Acts fieldOf valueOf changed
+unfolding Acts fieldOf valueOf
 keeps sizes (Equals f v) e α γ l h = subst (λ x. x < product sizes) (sym (h .1)) l
 keeps sizes (Differs f v) e α γ l h = subst (λ x. x < product sizes) (sym (h .1)) l
-keeps sizes (Set f v) e α γ l h = subst (λ x. x < product sizes) (sym h) (set-below sizes f v α (in-field sizes f v e) l)
+keeps sizes (Set f v) e α γ l h = subst (λ x. x < product sizes) (sym h) (changed-below sizes f v α (value-below sizes f v e) l)
 
 module _ (sizes : List ℕ) (marks : Marks) (β : ℕ) where
   -- ---- sets stay below N

@@ -11,6 +11,7 @@ use lib.Dec.{T, lit<}
 use Rattle.packet.specs.Sizes.{product}
 use Rattle.policy.specs.Meaning.{Packets, numbered, Traces}
 use Rattle.policy.specs.Tree.{Policy}
+use Rattle.policy.proofs.TraceLaws.{traces-non-empty}
 use Rattle.packet_set.specs.Bits.{bit, maskOf}
 use Rattle.automaton.specs.Remainder.{remainder, HasDup, Evaluable}
 use Rattle.automaton.specs.Reaches.{Reaches}
@@ -18,13 +19,14 @@ use Rattle.automaton.specs.State.{Marks, PacketSet, passedOn, enter, out
 use Rattle.automaton.proofs.Tests.{T-false}
 use Rattle.packet_set.proofs.Digits.{bit-high, bits-same, bit-of-zero}
 use Rattle.packet_set.proofs.Masks.{maskOf-lt, bit-maskOf}
-use Rattle.automaton.proofs.Words.{Tr, traces-iff, not-empty}
+use Rattle.automaton.proofs.Words.{Tr, traces-iff}
 use Rattle.automaton.proofs.Spines.{Meets, Rem, meets-iff, rem-has, rem-meets-of, remainder-words, remainder-meets}
 use Rattle.automaton.proofs.Fundamental.{Gives, through, after, Enters, straight, later, enters-has, first-dup, dup-first}
 use Rattle.automaton.proofs.Sets.{below, passedOn-fits, passedOn-iff}
 use Rattle.automaton.proofs.Flow.{Marked, flow-fits, enter-fits, flow-iff, enter-iff}
 
-split-last : (δ : ℕ) (t : List ℕ) → (w : List ℕ) × (ε : ℕ) × (δ ∷ t ≡ w ++ (ε ∷ []))
+-- a trace has a last packet
+pub split-last : (δ : ℕ) (t : List ℕ) → (w : List ℕ) × (ε : ℕ) × (δ ∷ t ≡ w ++ (ε ∷ []))
 split-last δ [] = ([], δ, refl)
 split-last δ (c ∷ t) = let r = split-last c t in (δ ∷ r .0, r .1, ap (λ x. δ ∷ x) (r .2))
 
@@ -149,7 +151,7 @@ module _ (sizes : List ℕ) (dups : ℕ) (p : Policy) (ok : Evaluable sizes dups
   -- a state has no empty trace
   pub state-not-empty : (marks : Marks) (β : ℕ) → StateTraces sizes p marks β [] → ⊥
   unfolding StateTraces
-  state-not-empty marks β h = not-empty P (remainder p (h .0)) β (h .2)
+  state-not-empty marks β h = traces-non-empty P (remainder p (h .0)) β (h .2)
 
   -- a state that marks more has more traces
   pub state-map : (m m′ : Marks) → ((i : ℕ) → T (m i) → T (m′ i)) → (β : ℕ) (t : List ℕ) → StateTraces sizes p m β t → StateTraces sizes p m′ β t

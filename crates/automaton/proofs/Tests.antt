@@ -2,19 +2,9 @@
 use Prim.Native.Nat.{ℕ}
 use mathlib.Core.Bool.{Bool, true, false, _&&_, _||_}
 use mathlib.Core.Logic.{_⊎_, inl, inr, _↔_}
-use mathlib.Core.Path.{_≡_, refl, sym, subst}
+use mathlib.Core.Path.{_≡_, refl, subst}
 use lib.Dec.{T, eqb, eqb-refl}
-
-pub T-true : (b : Bool) → T b → b ≡ true
-T-true true t = refl
-T-true false t = absurd t
-
-pub true-T : {b : Bool} → b ≡ true → T b
-true-T e = subst T (sym e) tt
-
-pub T-false : (b : Bool) → (T b → ⊥) → b ≡ false
-T-false true f = absurd (f tt)
-T-false false f = refl
+pub use Rattle.packet.proofs.Tests.{T-true, true-T, T-false}
 
 pub eqb-true : (m n : ℕ) → m ≡ n → T (eqb m n)
 eqb-true m n e = subst (λ (k : ℕ). T (eqb m k)) e (eqb-refl m)

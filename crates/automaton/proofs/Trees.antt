@@ -1,16 +1,15 @@
 -- The tree of any node of well-formed lists can be evaluated: its tests are within the fields and its dups have different numbers.
-use Prim.Native.Nat.{ℕ, zero, suc, pred, _+_, _≤_, _<_}
+use Prim.Native.Nat.{ℕ, pred, _<_}
 use mathlib.Core.List.{List}
 use mathlib.Core.Logic.{inl, inr}
-use mathlib.Core.Path.{_≡_, sym}
+use mathlib.Core.Path.{sym}
 use native.Mathlib.Omega.{arith}
-use lib.Dec.{eqb}
 use Rattle.policy.specs.Legality.{occurrences, WellFormed, Legal}
 use Rattle.policy.specs.NodeLists.{NodeLists, nodeCount, dupsBelow, treeAt, policyOf}
 use Rattle.policy.specs.Tree.{Policy, drop, id, field, dup, sum, seq, star}
 use Rattle.policy.specs.Visits.{labels, Labelled}
 use Rattle.policy.proofs.EachLaws.{occurrences-append, one-same}
-use Rattle.policy.proofs.LabelLaws.{tree-labelled, Parts, labelled-sum, labelled-seq, labelled-star}
+use Rattle.policy.proofs.LabelLaws.{tree-labelled, labelled-sum, labelled-seq, labelled-star}
 use Rattle.policy.proofs.Trees.{tree-fields}
 use Rattle.automaton.specs.Remainder.{HasDup, DistinctLabels, Evaluable}
 

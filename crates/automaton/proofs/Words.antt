@@ -1,7 +1,7 @@
 -- Figure 1 with a trace's last packet apart: p has the trace w ++ [δ] from α.
 use Prim.Native.Nat.{ℕ, zero, suc}
 use mathlib.Core.Bool.{not}
-use mathlib.Core.List.{List, [], _∷_, _++_, append-assoc, concat-ne-nil, head-eq-of-cons-eq, tail-eq-of-cons-eq}
+use mathlib.Core.List.{List, [], _∷_, _++_, append-assoc}
 use mathlib.Core.Logic.{_⊎_, inl, inr, _↔_}
 use mathlib.Core.Path.{_≡_, refl, sym, ap, ap₂, _∙_, subst₂}
 use lib.Dec.{T}
@@ -9,12 +9,7 @@ use Rattle.policy.specs.declared.FieldAction.{FieldAction}
 use Rattle.policy.specs.declared.FieldAction.the-variants.{Equals, Differs, Set}
 use Rattle.policy.specs.Meaning.{Packets, TraceSet, ActionTraces, Seq, Power, Traces}
 use Rattle.policy.specs.Tree.{Policy, drop, id, field, dup, sum, seq, star}
-
-pub snoc-inj : {A : Type 0} {x y : A} (u v : List A) → u ++ (x ∷ []) ≡ v ++ (y ∷ []) → (u ≡ v) × (x ≡ y)
-snoc-inj [] [] e = (refl, head-eq-of-cons-eq e)
-snoc-inj {y} [] (b ∷ v) e = absurd (concat-ne-nil y v (sym (tail-eq-of-cons-eq e)))
-snoc-inj {x} (a ∷ u) [] e = absurd (concat-ne-nil x u (tail-eq-of-cons-eq e))
-snoc-inj (a ∷ u) (b ∷ v) e = let r = snoc-inj u v (tail-eq-of-cons-eq e) in (ap₂ (λ h t. h ∷ t) (head-eq-of-cons-eq e) (r .0), r .1)
+use Rattle.policy.proofs.TraceLaws.{snoc-injective}
 
 module _ (P : Packets) where
   -- from α, by a word w of recorded packets, to δ
@@ -99,7 +94,7 @@ module _ (P : Packets) where
   from-seq {A} {B} f g α t s =
       let r = f α (s .a ++ (s .β ∷ [])) (s .first) in
       let k = g (s .β) (s .b) (s .second) in
-      let e = snoc-inj (s .a) (r .0) (r .2) in
+      let e = snoc-injective (s .a) (r .0) _ _ (r .2) in
       let h : A α (s .a) (s .β) = subst₂ (A α) (sym (e .0)) (sym (e .1)) (r .3) in (
         s .a ++ k .0,
         k .1,
@@ -134,9 +129,6 @@ module _ (P : Packets) where
     where
       back : Traces P p α (w ++ (δ ∷ [])) → Tr p α w δ
       back h = let r = traces→tr p α (w ++ (δ ∷ [])) h in
-          let e = snoc-inj w (r .0) (r .2) in
+          let e = snoc-injective w (r .0) _ _ (r .2) in
           subst₂ (Tr p α) (sym (e .0)) (sym (e .1)) (r .3)
-
-  -- a trace is never empty
-  pub not-empty : (p : Policy) (α : P .Packet) → Traces P p α [] → ⊥
-  not-empty p α h = let r = traces→tr p α [] h in concat-ne-nil (r .1) (r .0) (sym (r .2))
+      -- a trace is never empty

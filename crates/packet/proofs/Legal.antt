@@ -3,34 +3,27 @@
 use Prim.Native.Nat.{ℕ, zero, suc, pred, _<_, _≤_, _-_, _*_, suc-le-suc}
 use native.Mathlib.Nat.{not-suc-le-zero, zero-mul, mul-zero, mul-comm, le-refl, le-trans, mul-pos}
 use native.Mathlib.Omega.{arith}
-use mathlib.Core.Bool.{Bool, true, false, _||_}
+use mathlib.Core.Bool.{false}
 use mathlib.Core.List.{List, [], _∷_}
-use mathlib.Core.Option.{Option, none, some}
+use mathlib.Core.Option.{some}
 use mathlib.Core.Path.{_≡_, refl, ap, sym, _∙_, subst}
-use borrow.Author.Tests.{eqb-false, ltb-false, ne-eqb, le-ltb}
+use borrow.Author.Tests.{eqb-false, ltb-false}
 use lib.Dec.{eqb, ltb}
 use lib.ListN.{length, getD, take, drop}
 use lib.Seq.{take-all, drop-length}
-use Rattle.packet.specs.declared.Tested.{Tested}
-use Rattle.packet.specs.declared.Tested.the-variants.{Passed, Refused}
+use Rattle.packet.specs.declared.Tested.the-variants.{Passed}
 use Rattle.packet.specs.Lowest.{lowest}
 use Rattle.packet.specs.Refusals.{refusedAt, atZero, firstOf}
 use Rattle.packet.specs.Sizes.{product, badCount, zeroSize, productOver, fieldsStage, productStage, LegalSizes}
 use Rattle.packet.specs.Packets.{stride}
-use Rattle.packet.proofs.Lowest.{lowest-none, none-lowest}
+use Rattle.packet.proofs.Tests.{or-false}
+use Rattle.packet.proofs.Lowest.{lowest-none}
 use Rattle.packet.proofs.Sizes.{product-from}
 use Rattle.packet.proofs.Stages.{firstOf-passed, refusedAt-passed, atPlace-none}
 
 -- the last running product is the product
 last-running : (sizes : List ℕ) → 0 < length sizes → product (take (suc (pred (length sizes))) sizes) ≡ product sizes
 last-running sizes h = ap product (take-all (suc (pred (length sizes))) sizes (omega arith))
-
-or-false : (a b : Bool) → (a || b) ≡ false → (a ≡ false) × (b ≡ false)
-or-false true b e = absurd (let z : _≡_ {A = ℕ} 0 1 = cc in no-equal z)
-  where
-    no-equal : _≡_ {A = ℕ} 0 1 → ⊥
-    no-equal z = omega arith
-or-false false b e = (refl, e)
 
 pub passed-legal : (sizes : List ℕ) → fieldsStage sizes ≡ Passed → productStage sizes ≡ Passed → LegalSizes sizes
 unfolding fieldsStage productStage badCount zeroSize productOver

@@ -1,3 +1,4 @@
+pub mod Tests
 pub mod Lowest
 pub mod Sizes
 pub mod Stages

@@ -1,6 +1,6 @@
 -- Numbers and values of packets: each turns into the other and back; a changed field reads back. Any sizes, no bound on N.
 -- Assumes nothing.
-use Prim.Native.Nat.{ℕ, zero, suc, _<_, _≤_, _+_, _-_, _*_, _/_, _%_}
+use Prim.Native.Nat.{ℕ, zero, suc, _<_, _+_, _*_, _/_, _%_}
 use native.Mathlib.Nat.{not-suc-le-zero, le-of-suc-le-suc, div-lt-iff-lt-mul, mod-lt, mod-eq-of-lt, div-add-mod', mul-zero, mul-assoc, add-comm, add-mul-div-right, add-mul-mod-self-right}
 use native.Mathlib.Omega.{arith}
 use mathlib.Core.List.{List, [], _∷_}

@@ -4,9 +4,9 @@ use Prim.Native.Nat.{ℕ, zero, suc, _<_, _≤_, _+_, _*_}
 use native.Mathlib.Nat.{not-suc-le-zero, le-of-suc-le-suc, mul-one, one-mul, mul-assoc, mul-le-mul}
 use native.Mathlib.Numerals.{add-one}
 use native.Mathlib.Omega.{arith}
-use mathlib.Core.Bool.{Bool, true, false}
+use mathlib.Core.Bool.{true≢false}
 use mathlib.Core.List.{List, [], _∷_}
-use mathlib.Core.Option.{Option, none, some}
+use mathlib.Core.Option.{Option, none}
 use mathlib.Core.Path.{_≡_, refl, ap, ap₂, sym, _∙_, subst}
 use borrow.Author.Tests.{lt-ltb, le-ltb}
 use lib.ListN.{length, getD, take, drop}
@@ -19,9 +19,6 @@ use Rattle.packet.specs.declared.Tested.the-variants.{Passed, Refused as
 use Rattle.packet.specs.declared.Counted.the-variants.{Packets, Refused}
 use Rattle.packet.specs.Sizes.{product, productOver, productStage, counted, packetCount}
 use Rattle.packet.proofs.Lowest.{lowest-more, lowest-found, lowest-none-whole}
-
-zero≢one : _≡_ {A = ℕ} 0 1 → ⊥
-zero≢one z = omega arith
 
 -- one field more
 pub product-more : (sizes : List ℕ) (i : ℕ) → i < length sizes → product (take (suc i) sizes) ≡ product (take i sizes) * getD sizes i 0
@@ -85,11 +82,11 @@ product-from sizes i h = ap product (drop-cons sizes i 0 h)
 pub counted-packets : (t : Tested) (n m : ℕ) → counted t n ≡ Packets m → (t ≡ Passed) × (m ≡ n)
 unfolding counted
 counted-packets Passed n m e = (refl, cc)
-counted-packets (Stopped r) n m e = absurd (let z : _≡_ {A = ℕ} 0 1 = cc in zero≢one z)
+counted-packets (Stopped r) n m e = absurd (true≢false (cc))
 
 pub counted-refused : (t : Tested) (n : ℕ) (r : Refusal) → counted t n ≡ Refused r → t ≡ Stopped r
 unfolding counted
-counted-refused Passed n r e = absurd (let z : _≡_ {A = ℕ} 0 1 = cc in zero≢one z)
+counted-refused Passed n r e = absurd (true≢false (cc))
 counted-refused (Stopped q) n r e = cc
 
 pub count-packets : (sizes : List ℕ) (n : ℕ) → packetCount sizes ≡ Packets n → (productStage sizes ≡ Passed) × (n ≡ product sizes)

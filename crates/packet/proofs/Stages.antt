@@ -1,11 +1,10 @@
 -- Stages of tests: the first that refuses is the answer.
 -- Assumes nothing.
 use Prim.Native.Nat.{ℕ, _<_, _≤_}
-use mathlib.Core.Bool.{Bool, true, false, _||_}
+use mathlib.Core.Bool.{Bool, true, false, _||_, true≢false}
 use mathlib.Core.List.{List, [], _∷_}
 use mathlib.Core.Option.{Option, none, some}
-use native.Mathlib.Omega.{arith}
-use mathlib.Core.Path.{_≡_, refl, ap, ap₂, _∙_}
+use mathlib.Core.Path.{_≡_, refl, ap, ap₂}
 use borrow.Author.Tests.{eq-eqb, ne-eqb, lt-ltb, le-ltb}
 use lib.ListN.{length}
 use Rattle.packet.specs.declared.Refusal.{Refusal}
@@ -33,11 +32,8 @@ firstOf-next t ts e = ap (λ (u : Tested). firstOf (u ∷ ts)) e
 
 -- ---- an order that passes: each of its tests passes
 
-zero≢one : _≡_ {A = ℕ} 0 1 → ⊥
-zero≢one z = omega arith
-
 passed≢refused : {r : Refusal} → Refused r ≡ Passed → ⊥
-passed≢refused {r} q = let z : _≡_ {A = ℕ} 0 1 = cc in zero≢one z
+passed≢refused q = true≢false (cc)
 
 pub firstOf-passed : (t : Tested) (ts : List Tested) → firstOf (t ∷ ts) ≡ Passed → (t ≡ Passed) × (firstOf ts ≡ Passed)
 unfolding firstOf
@@ -52,7 +48,7 @@ refusedAt-passed number side (some i) e = absurd (passed≢refused e)
 pub atPlace-none : (place : ℕ) (b : Bool) → atPlace place b ≡ none → b ≡ false
 unfolding atPlace
 atPlace-none place false e = refl
-atPlace-none place true e = let z : _≡_ {A = ℕ} 0 1 = cc in absurd (zero≢one z)
+atPlace-none place true e = absurd (true≢false (cc))
 
 -- ---- stage "fields"
 

@@ -1,5 +1,5 @@
 pub mod Digits
-pub mod Search
+pub mod Trailing
 pub mod Loops
 pub mod Words
 pub mod Walk

@@ -1,15 +1,14 @@
 -- A number by its bits, over any width.
 -- Assumes nothing.
-use Prim.Native.Nat.{ℕ, zero, suc, _+_, _-_, _*_, _/_, _%_, _^_, _≤_, _<_, zero-le}
+use Prim.Native.Nat.{ℕ, zero, suc, _+_, _-_, _*_, _/_, _%_, _^_, _≤_, _<_}
 use mathlib.Core.Bool.{Bool, true, false, cond}
 use mathlib.Core.Logic.{_⊎_, inl, inr}
-use mathlib.Core.Path.{_≡_, refl, sym, ap, ap₂, _∙_, subst}
-use native.Mathlib.Nat.{eq-or-lt-of-le, le-of-suc-le-suc, not-suc-le-zero, lt-of-lt-of-le, div-eq-of-lt, mod-eq-of-lt, mod-lt, zero-lt-suc, mod-one, le-trans, le-suc, le-refl}
+use mathlib.Core.Path.{_≡_, refl, sym, ap, _∙_, subst}
+use native.Mathlib.Nat.{eq-or-lt-of-le, le-of-suc-le-suc, not-suc-le-zero}
 use native.Mathlib.Decide.{decLt}
-use native.Mathlib.Numerals.{one-add}
 use native.Mathlib.Omega.{arith}
 use lib.Dec.{T, eqb}
-use lib.Pow.{pow-pos, pow-mono, high, low, field, mod-mod-pow, mod-pow-add}
+use lib.Pow.{pow-pos, high, low, field, mod-mod-pow}
 use Rattle.packet_set.specs.Bits.{bit, maskOf}
 use Rattle.packet_set.proofs.Digits.{bit-high}
 

@@ -1,7 +1,7 @@
 -- Laws of the lowest member of a set, from any packet on. Assumes nothing.
 use Prim.Native.Nat.{ℕ, _+_, _*_, _/_, _%_, _^_, _-_, _≤_, _<_}
 use mathlib.Core.Path.{_≡_, refl, sym, ap, _∙_}
-use mathlib.Core.Bool.{Bool, true, false, xor, _&&_, true≢false}
+use mathlib.Core.Bool.{Bool, true, false, _&&_, true≢false}
 use mathlib.Core.List.{List}
 use mathlib.Core.Option.{Option, none, some}
 use native.Mathlib.Decide.{decLt}
@@ -13,11 +13,13 @@ use lib.Count.{trailingZeros}
 use lib.Pow.{shr-le}
 use Rattle.packet_set.specs.Bits.{bit}
 use Rattle.packet.specs.Lowest.{lowest}
+use Rattle.packet.proofs.Tests.{xor-same, xor-false}
+use Rattle.packet.proofs.Lowest.{IsLowest, Found, lowest-is, lowest-only, lowest-same}
 use Rattle.packet_set.specs.Members.{member, exclusiveOrOf, lowestIn, isNone, lowestAnswer, isEmpty}
 use Rattle.packet_set.specs.declared.Lowest.{Lowest}
 use Rattle.packet_set.specs.declared.Lowest.the-variants.{At, Nothing}
 use Rattle.packet_set.proofs.Digits.{bit-of-zero, bit-high, bit-shift}
-use Rattle.packet_set.proofs.Search.{IsLowest, Found, lowest-is, lowest-only, lowest-same, trailing-lowest}
+use Rattle.packet_set.proofs.Trailing.{trailing-lowest}
 use Rattle.packet_set.proofs.Words.{member-in-word, member-exclusive-or}
 
 -- γ is the lowest packet in the first k words that is not below `from`
@@ -191,17 +193,7 @@ nothing-answer (some γ) = refl
 -- two sets with the same members: their exclusive or is empty
 module _ (k : ℕ) (a b : List ℕ) (long : k ≤ length a) where
   pub same-empty : ((γ : ℕ) → γ < 32 * k → member a γ ≡ member b γ) → isEmpty k (exclusiveOrOf k a b) ≡ true
-  same-empty h = members-empty (exclusiveOrOf k a b) k (λ γ l. member-exclusive-or k a b γ l long ∙ ap (λ (p : Bool). xor p (member b γ)) (h γ l) ∙ self (member b γ))
-    where
-      self : (p : Bool) → xor p p ≡ false
-      self true = unfold xor in refl
-      self false = unfold xor in refl
+  same-empty h = members-empty (exclusiveOrOf k a b) k (λ γ l. member-exclusive-or k a b γ l long ∙ xor-same _ _ (h γ l))
 
   pub empty-same : isEmpty k (exclusiveOrOf k a b) ≡ true → (γ : ℕ) → γ < 32 * k → member a γ ≡ member b γ
-  empty-same e γ l = back (member a γ) (member b γ) (sym (member-exclusive-or k a b γ l long) ∙ empty-members (exclusiveOrOf k a b) k e γ l)
-    where
-      back : (p q : Bool) → xor p q ≡ false → p ≡ q
-      back true true h = refl
-      back false false h = refl
-      back true false h = unfold xor in h
-      back false true h = sym (unfold xor in h)
+  empty-same e γ l = xor-false _ _ (sym (member-exclusive-or k a b γ l long) ∙ empty-members (exclusiveOrOf k a b) k e γ l)

@@ -1,19 +1,19 @@
 -- Laws of packet sets: what the word loops leave, membership, extensionality. Assumes nothing.
-use Prim.Native.Nat.{ℕ, zero, suc, _+_, _*_, _/_, _%_, _^_, _≤_, _<_}
+use Prim.Native.Nat.{ℕ, zero, suc, _+_, _*_, _/_, _%_, _≤_, _<_}
 use mathlib.Core.Path.{_≡_, refl, sym, ap, ap₂, _∙_}
-use mathlib.Core.Bool.{Bool, true, false, not, xor, _&&_, _||_}
+use mathlib.Core.Bool.{Bool, false, not, xor, _&&_, _||_, or-false}
 use mathlib.Core.List.{List, [], _∷_}
 use native.Mathlib.Nat.{le-of-suc-le-suc, not-suc-le-zero}
 use native.Mathlib.Decide.{ℕ-discrete}
 use native.Mathlib.Omega.{arith}
 use lib.Dec.{eqb}
 use borrow.Author.Tests.{eq-eqb, ne-eqb}
-use lib.ListN.{length, getD, set, take, replicate}
-use lib.Seq.{ext-getD, getD-take, length-take-le, getD-set-same, getD-set-other}
+use lib.ListN.{length, getD, set, replicate}
+use lib.Seq.{getD-set-same, getD-set-other}
 use lib.Bits.{bitOr, bitXor}
 use Rattle.packet_set.specs.Bits.{bit, marked}
 use Rattle.packet_set.specs.Members.{member, wordsFor, emptySet, withPacket, wordwise, unionOf, without, differenceOf, exclusiveOrOf}
-use Rattle.packet_set.proofs.Digits.{bit-or, bit-xor, bit-without, bit-of-zero, bit-marked, bits-same}
+use Rattle.packet_set.proofs.Digits.{bit-or, bit-xor, bit-without, bit-of-zero, bit-marked}
 
 -- ---- a word loop: f done below i, the first set's words from i on
 
@@ -33,15 +33,6 @@ module _ (f : ℕ → ℕ → ℕ) where
   wordwise-below (suc k) (x ∷ a) (y ∷ b) zero l h = refl
   wordwise-below (suc k) (x ∷ a) [] (suc i) l h = wordwise-below k a [] i (le-of-suc-le-suc l) (le-of-suc-le-suc h)
   wordwise-below (suc k) (x ∷ a) (y ∷ b) (suc i) l h = wordwise-below k a b i (le-of-suc-le-suc l) (le-of-suc-le-suc h)
-
-  pub wordwise-above : (k : ℕ) (a b : List ℕ) (i : ℕ) → k ≤ i → getD (wordwise f k a b) i 0 ≡ getD a i 0
-  unfolding wordwise
-  wordwise-above zero a b i l = refl
-  wordwise-above (suc k) [] b i l = refl
-  wordwise-above (suc k) (x ∷ a) [] zero l = absurd (not-suc-le-zero l)
-  wordwise-above (suc k) (x ∷ a) (y ∷ b) zero l = absurd (not-suc-le-zero l)
-  wordwise-above (suc k) (x ∷ a) [] (suc i) l = wordwise-above k a [] i (le-of-suc-le-suc l)
-  wordwise-above (suc k) (x ∷ a) (y ∷ b) (suc i) l = wordwise-above k a b i (le-of-suc-le-suc l)
 
   -- a turn of the loop
   wordwise-more : (i : ℕ) (a b : List ℕ) → set (wordwise f i a b) i (f (getD (wordwise f i a b) i 0) (getD b i 0)) ≡ wordwise f (suc i) a b
@@ -97,10 +88,6 @@ member-with s β γ h = go (ℕ-discrete (γ / 32) (β / 32))
     w : ℕ
     w = getD s (β / 32) 0
 
-    or-false : (p q : Bool) → q ≡ false → p ≡ p || q
-    or-false true q e = refl
-    or-false false q e = sym e
-
     go : Dec (γ / 32 ≡ β / 32) → bit (getD (set s (β / 32) (marked w (β % 32))) (γ / 32) 0) (γ % 32) ≡ bit (getD s (γ / 32) 0) (γ % 32) || eqb γ β
     go (yes e) =
         ap (λ (x : ℕ). bit (getD (set s (β / 32) (marked w (β % 32))) x 0) (γ % 32)) e
@@ -113,9 +100,7 @@ member-with s β γ h = go (ℕ-discrete (γ / 32) (β / 32))
         same (no q) = ne-eqb (γ % 32) (β % 32) (λ r. q (omega arith)) ∙ sym (ne-eqb γ β q)
     go (no e) =
         ap (λ (x : ℕ). bit x (γ % 32)) (getD-set-other s (β / 32) (γ / 32) (marked w (β % 32)) 0 e)
-        ∙ or-false (bit (getD s (γ / 32) 0) (γ % 32)) (eqb γ β) (ne-eqb γ β (λ q. e (ap (λ (x : ℕ). x / 32) q)))
-
--- ---- the members determine the words
+        ∙ sym (ap (λ (q : Bool). bit (getD s (γ / 32) 0) (γ % 32) || q) (ne-eqb γ β (λ q. e (ap (λ (x : ℕ). x / 32) q))) ∙ or-false (bit (getD s (γ / 32) 0) (γ % 32)))
 
 -- word i holds the packets from 32 i on
 pub member-in-word : (s : List ℕ) (i j : ℕ) → j < 32 → member s (i * 32 + j) ≡ bit (getD s i 0) j
@@ -124,17 +109,6 @@ member-in-word s i j h =
     let q : (i * 32 + j) / 32 ≡ i = omega arith in
     let r : (i * 32 + j) % 32 ≡ j = omega arith in
     ap₂ (λ (x y : ℕ). bit (getD s x 0) y) q r
-
-pub words-same : (k : ℕ) (a b : List ℕ) → k ≤ length a → k ≤ length b → ((i : ℕ) → i < k → getD a i 0 < 2 ^ 32) → ((i : ℕ) → i < k → getD b i 0 < 2 ^ 32)
-    → ((γ : ℕ) → γ < 32 * k → member a γ ≡ member b γ) → take k a ≡ take k b
-words-same k a b la lb ha hb h =
-    ext-getD 0 (take k a) (take k b) (length-take-le k a la ∙ sym (length-take-le k b lb)) λ i l.
-    let l′ : i < k = omega (arith, length-take-le k a la) in
-    getD-take k a i 0 l′ ∙ bits-same 32 (getD a i 0) (getD b i 0) (ha i l′) (hb i l′) (λ j m. at i j l′ m) ∙ sym (getD-take k b i 0 l′)
-  where
-    at : (i j : ℕ) → i < k → j < 32 → bit (getD a i 0) j ≡ bit (getD b i 0) j
-    at i j l m =
-        sym (member-in-word a i j m) ∙ h (i * 32 + j) (omega arith) ∙ member-in-word b i j m
 
 -- the words that n packets need hold them, and 32 words hold 1,024
 pub words-hold : (n : ℕ) → n ≤ 32 * wordsFor n

@@ -9,6 +9,7 @@ use lib.Dec.{eqb, ltb}
 use lib.ListN.{length, getD, length-map}
 use borrow.Author.Tests.{eqb-true, eq-eqb, ltb-true, lt-ltb}
 use Rattle.packet.specs.Sizes.{product}
+use Rattle.packet.proofs.Tests.{xor-same, xor-false}
 use Rattle.policy.specs.Meaning.{SameTracesBelow}
 use Rattle.packet_set.specs.Bits.{bit}
 use Rattle.automaton.specs.State.{outputMask}
@@ -25,8 +26,8 @@ use Rattle.pair.specs.Search.{equal, columnsOf, searchAnswer, heldColumn
 use Rattle.pair.specs.Rules.{accepted, Present, RuleA, RuleB, RuleC, RuleD, KeepsRules, Judged}
 use Rattle.pair.specs.Evidence.{tableOf, evidenceAnswer, InTable, RowRules}
 use Rattle.pair.proofs.Sides.{onBoth-true, true-onBoth}
-use Rattle.pair.proofs.Lawful.{EvaluablePair, lawful, xor-same}
-use Rattle.pair.proofs.Traces.{xor-false, silent-iff}
+use Rattle.pair.proofs.Lawful.{EvaluablePair, lawful}
+use Rattle.pair.proofs.Traces.{silent-iff}
 use Rattle.pair.proofs.Verdicts.{Searched, is-equal, searched}
 use Rattle.pair.proofs.Rules.{judged, accepted-iff, accepted-silent, accepted-contains, listed-keeps}
 

@@ -28,11 +28,6 @@ unfolding at
 legal-pair sizes l r a b left = policy-evaluable sizes l a
 legal-pair sizes l r a b right = policy-evaluable sizes r b
 
-pub xor-same : (a b : Bool) → a ≡ b → xor a b ≡ false
-unfolding xor
-xor-same true b e = rw (sym e) refl
-xor-same false b e = rw (sym e) refl
-
 xor-none : {a b : Bool} → a ≡ false → b ≡ false → xor a b ≡ false
 unfolding xor
 xor-none p q = ap₂ (λ a b. not (Bool·beq a b)) p q

@@ -8,32 +8,20 @@ use native.Mathlib.Omega.{arith}
 use lib.Dec.{T}
 use lib.ListN.{length}
 use Rattle.packet.specs.Sizes.{product}
+use Rattle.packet.proofs.Tests.{clash, xor-same, xor-false, T-true, true-T, T-false}
 use Rattle.policy.specs.Meaning.{numbered, Traces, SameTraces, SameTracesBelow}
+use Rattle.policy.proofs.TraceLaws.{traces-non-empty}
 use Rattle.packet_set.specs.Bits.{bit}
 use Rattle.automaton.specs.State.{StateTraces}
-use Rattle.automaton.proofs.Tests.{T-true, true-T, T-false, same-test}
-use Rattle.automaton.proofs.Words.{not-empty}
-use Rattle.automaton.proofs.Laws.{outputMask-iff, nextMask-iff, whole-iff, traces-below}
+use Rattle.automaton.proofs.Tests.{same-test}
+use Rattle.automaton.proofs.Laws.{split-last, outputMask-iff, nextMask-iff, whole-iff, traces-below}
 use Rattle.system.specs.System.{Row, startRow, nextRow, tells}
 use Rattle.system.specs.Words.{Word, end, then, follow, SilentBelow, Silent}
-use Rattle.system.proofs.Basics.{clash, length-snoc}
+use Rattle.system.proofs.Basics.{length-snoc}
 use Rattle.pair.specs.Sides.{Side, left, right, other, Pair, at, Labelled}
 use Rattle.pair.specs.Pair.{SideTraces, outputAt, nextAt, inOneOutput, pairSystem}
 use Rattle.pair.proofs.Sides.{at-each}
-use Rattle.pair.proofs.Lawful.{EvaluablePair, xor-same}
-
--- a trace has a last packet
-pub split-last : (δ : ℕ) (t : List ℕ) → (w : List ℕ) × (ε : ℕ) × (δ ∷ t ≡ w ++ (ε ∷ []))
-split-last δ [] = ([], δ, refl)
-split-last δ (c ∷ t) = let r = split-last c t in (δ ∷ r .0, r .1, ap (λ x. δ ∷ x) (r .2))
-
--- xor tells two tests apart
-pub xor-false : (a b : Bool) → xor a b ≡ false → a ≡ b
-unfolding xor
-xor-false true true e = refl
-xor-false true false e = e
-xor-false false true e = sym e
-xor-false false false e = refl
+use Rattle.pair.proofs.Lawful.{EvaluablePair}
 
 -- a list of packets below n is a word
 pub word-of : (n : ℕ) (t : List ℕ) → ((γ : ℕ) → List·Memᴰ γ t → γ < n) → Word n t
@@ -144,7 +132,7 @@ module _ (sizes : List ℕ) (ps : Pair Labelled) (ok : EvaluablePair sizes ps) w
   pub silent-below-traces : (d : ℕ) → SilentBelow (pairSystem sizes ps) d → (α : ℕ) → α < product sizes → (t : List ℕ) → length t ≤ d
       → (s z : Side) → SideTraces sizes ps s α t → SideTraces sizes ps z α t
   unfolding SideTraces
-  silent-below-traces d Q α h [] l s z t = absurd (not-empty (numbered sizes) (at s ps .tree) α t)
+  silent-below-traces d Q α h [] l s z t = absurd (traces-non-empty (numbered sizes) (at s ps .tree) α t)
   silent-below-traces d Q α h (δ ∷ u) l s z t = go (split-last δ u)
     where
       go : (w : List ℕ) × (ε : ℕ) × (δ ∷ u ≡ w ++ (ε ∷ [])) → SideTraces sizes ps z α (δ ∷ u)

@@ -1,6 +1,6 @@
 -- Each element of a list, and how often a number stands in one.
 use Prim.Native.Nat.{ℕ, zero, suc, _+_, _<_}
-use mathlib.Core.Bool.{Bool, true, false, _||_, true≢false}
+use mathlib.Core.Bool.{false}
 use mathlib.Core.List.{List, [], _∷_, _++_}
 use mathlib.Core.Logic.{_↔_}
 use mathlib.Core.Path.{_≡_, refl, sym}
@@ -9,6 +9,7 @@ use native.Mathlib.Omega.{arith}
 use lib.Dec.{eqb, leb}
 use lib.ListN.{getD}
 use borrow.Author.Tests.{leb-false, lt-leb, eq-eqb, ne-eqb}
+pub use Rattle.packet.proofs.Tests.{or-false}
 use Rattle.policy.specs.Each.{Each}
 use Rattle.policy.specs.NodeLists.{one}
 use Rattle.policy.specs.Legality.{someNotBelow, occurrences}
@@ -46,11 +47,6 @@ pub each-swap : {A B : Type 0} (R : A → B → Type 0) (xs : List A) (ys : List
 unfolding Each
 each-swap R [] ys e = each-all (λ y. Unit) ys (λ y. tt)
 each-swap R (x ∷ xs) ys e = each-both (R x) (λ y. Each (λ z. R z y) xs) ys (e .0) (each-swap R xs ys (e .1))
-
--- either test of two
-pub or-false : (a b : Bool) → (a || b) ≡ false → (a ≡ false) × (b ≡ false)
-or-false true b e = absurd (true≢false e)
-or-false false b e = (refl, e)
 
 pub below-each : (i : ℕ) (cs : List ℕ) → (someNotBelow i cs ≡ false) ↔ Each (λ c. c < i) cs
 unfolding someNotBelow Each

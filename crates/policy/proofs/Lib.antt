@@ -1,4 +1,3 @@
-pub mod LowestLaws
 pub mod EachLaws
 pub mod Trees
 pub mod VisitLaws

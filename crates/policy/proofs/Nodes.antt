@@ -163,7 +163,6 @@ record EachKind (P : Entry → Type 0) : Type 0 where
   star : (c : ℕ) → P (entry 8 c 0)
 
 every-action : (H : FieldAction → Type 0) → ((a : FieldAction) → H a) → (p : Policy) → EachAction H p
-unfolding EachAction
 every-action H f drop = tt
 every-action H f id = tt
 every-action H f (field a) = f a
@@ -178,7 +177,7 @@ each-two P xs ys x e f h = each-append P (xs ++ ys) (x ∷ []) .1 (each-append P
 
 entries-each : (P : Entry → Type 0) → EachKind P → (base : ℕ) (p : Policy) → EachAction (λ a. P (actionEntry a)) p
     → Each P (entriesFrom base p)
-unfolding EachAction Each entriesFrom
+unfolding Each entriesFrom
 entries-each P k base drop h = (k .drop, tt)
 entries-each P k base id h = (k .id, tt)
 entries-each P k base (field a) h = (h, tt)

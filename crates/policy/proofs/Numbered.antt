@@ -33,7 +33,7 @@ module _ (sizes : List ℕ) where
 
   -- what holds of each action that names a field and a value of it
   pub each-action : (H : FieldAction → Type 0) → ((a : FieldAction) → Named a → H a) → (p : Policy) → InFields sizes p → EachAction H p
-  unfolding EachAction InFields
+  unfolding InFields
   each-action H f drop i = tt
   each-action H f id i = tt
   each-action H f (field a) i = f a i
@@ -42,7 +42,7 @@ module _ (sizes : List ℕ) where
   each-action H f (seq p q) i = (each-action H f p (i .0), each-action H f q (i .1))
   each-action H f (star p) i = each-action H f p i
 
-  value-below : (f v : ℕ) → badField sizes f v ≡ false → v < getD sizes f 0
+  pub value-below : (f v : ℕ) → badField sizes f v ≡ false → v < getD sizes f 0
   unfolding badField
   value-below f v e = leb-false (getD sizes f 0) v (or-false (leb (length sizes) f) (leb (getD sizes f 0) v) e .1)
 

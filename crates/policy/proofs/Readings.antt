@@ -1,18 +1,15 @@
 -- Figure 1 read on small policies: what each clause must mean.
 use Prim.Native.Nat.{ℕ, zero, suc}
-use mathlib.Core.Bool.{Bool, true, false, not, true≢false, false≢true}
+use mathlib.Core.Bool.{Bool, true, false, not, true≢false}
 use mathlib.Core.List.{List, [], _∷_, _++_}
 use mathlib.Core.Logic.{_⊎_, inl, inr, ⊎-elim, _↔_}
 use mathlib.Core.Path.{_≡_, refl, ap, ap₂, _∙_}
 use lib.Dec.{T}
+use Rattle.packet.proofs.Tests.{T-true, true-T}
 use Rattle.policy.specs.declared.FieldAction.the-variants.{Equals, Differs, Set}
 use Rattle.policy.specs.Tree.{Policy, field, dup, seq, star}
 use Rattle.policy.specs.Meaning.{Packets, ActionTraces, Seq, Power, Traces}
 use Rattle.policy.proofs.TraceLaws.{in-turn, snoc-injective}
-
-passes : (b : Bool) → T b ↔ (b ≡ true)
-passes true = (λ h. refl, λ h. tt)
-passes false = (λ h. absurd h, λ h. absurd (false≢true h))
 
 fails : (b : Bool) → T (not b) ↔ (b ≡ false)
 fails true = (λ h. absurd h, λ h. absurd (true≢false h))
@@ -22,7 +19,7 @@ module _ (P : Packets) (α : P .Packet) (t : List (P .Packet)) where
   -- f=v: the packet itself where its field has the value
   pub equals-reads : (f v : ℕ) → Traces P (field (Equals f v)) α t ↔ ((P .has f v α ≡ true) × (t ≡ α ∷ []))
   unfolding Traces ActionTraces
-  equals-reads f v = (λ h. (passes (P .has f v α) .0 (h .0), h .1), λ h. (passes (P .has f v α) .1 (h .0), h .1))
+  equals-reads f v = (λ h. (T-true (P .has f v α) (h .0), h .1), λ h. (true-T (h .0), h .1))
 
   -- f≠v: the packet itself where its field has another value
   pub differs-reads : (f v : ℕ) → Traces P (field (Differs f v)) α t ↔ ((P .has f v α ≡ false) × (t ≡ α ∷ []))

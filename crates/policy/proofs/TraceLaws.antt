@@ -1,9 +1,8 @@
 -- Traces are non-empty, and stay within any set of packets that the policy's changes keep.
 use Prim.Native.Nat.{ℕ, zero, suc}
-use mathlib.Core.List.{List, [], _∷_, _++_, append-assoc}
+use mathlib.Core.List.{List, [], _∷_, _++_, append-assoc, concat-ne-nil}
 use mathlib.Core.Logic.{⊎-elim}
 use mathlib.Core.Path.{_≡_, refl, sym, ap, _∙_, subst}
-use native.Mathlib.Omega.{arith}
 use Rattle.policy.specs.declared.FieldAction.{FieldAction}
 use Rattle.policy.specs.declared.FieldAction.the-variants.{Equals, Differs, Set}
 use Rattle.policy.specs.Tree.{Policy, drop, id, field, dup, sum, seq, star}
@@ -22,14 +21,10 @@ module _ {A : Type 0} where
     pub last : A
     pub whole : t ≡ before ++ (last ∷ [])
 
-  pub nil-snoc : (xs : List A) (x : A) → [] ≡ xs ++ (x ∷ []) → ⊥
-  nil-snoc [] x e = let z : _≡_ {A = ℕ} 0 1 = cc in omega arith
-  nil-snoc (y ∷ ys) x e = let z : _≡_ {A = ℕ} 0 1 = cc in omega arith
-
   pub snoc-injective : (xs ys : List A) (x y : A) → xs ++ (x ∷ []) ≡ ys ++ (y ∷ []) → (xs ≡ ys) × (x ≡ y)
   snoc-injective [] [] x y e = (refl, cc)
-  snoc-injective [] (b ∷ ys) x y e = absurd (nil-snoc ys y (cc))
-  snoc-injective (a ∷ xs) [] x y e = absurd (nil-snoc xs x (cc))
+  snoc-injective [] (b ∷ ys) x y e = absurd (concat-ne-nil y ys (cc))
+  snoc-injective (a ∷ xs) [] x y e = absurd (concat-ne-nil x xs (cc))
   snoc-injective (a ∷ xs) (b ∷ ys) x y e = let i = snoc-injective xs ys x y (cc) in ((cc), i .1)
 
   ends-append : (a b : List A) → Ends b → Ends (a ++ b)
@@ -77,7 +72,7 @@ module _ (P : Packets) where
   traces-end (star p) α t h = power-ends (Traces P p) (h .0) α t (h .1)
 
   pub traces-non-empty : (p : Policy) (α : P .Packet) → Traces P p α [] → ⊥
-  traces-non-empty p α h = let e = traces-end p α [] h in nil-snoc (e .before) (e .last) (e .whole)
+  traces-non-empty p α h = let e = traces-end p α [] h in concat-ne-nil (e .last) (e .before) (sym (e .whole))
 
 module _ (P : Packets) (Declared : P .Packet → Type 0) where
   -- from a declared packet each trace holds declared packets only
@@ -112,7 +107,7 @@ module _ (P : Packets) (Declared : P .Packet → Type 0) where
 
   -- the traces of a policy stay within any set of packets that its changes keep
   pub traces-stay : (p : Policy) → EachAction (Keeps P Declared) p → Stays (Traces P p)
-  unfolding Traces EachAction Each
+  unfolding Traces Each
   traces-stay drop k α d t h = absurd h
   traces-stay id k α d t h = single-stays α d t h
   traces-stay (field a) k α d t h = action-stays a k α d t h

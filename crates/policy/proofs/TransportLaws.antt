@@ -107,7 +107,7 @@ module _ (P Q : Packets) (Declared : P .Packet → Type 0) (r : P .Packet → Q 
   leaf p k to from = record { ends = traces-end P p; stays = traces-stay P Declared p k; to = to; from = from }
 
   carried : (p : Policy) → EachAction (Keeps P Declared) p → EachAction (Commutes P Q Declared r) p → Carried (Traces P p) (Traces Q p)
-  unfolding Traces EachAction
+  unfolding Traces
   carried drop k c = leaf drop k (λ α d t h. absurd h) (λ α d u h. absurd h)
   carried id k c = leaf id k (λ α d t h. ap (map r) h) (λ α d u h. (α ∷ [], h, refl))
   carried (field a) k c = leaf (field a) k (action-to a c) (action-from a c)

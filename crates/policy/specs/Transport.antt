@@ -6,7 +6,7 @@ use Rattle.policy.specs.Tree.{Policy, drop, id, field, dup, sum, seq, st
 use Rattle.policy.specs.Meaning.{Packets}
 
 -- something holds of each test and change that a policy makes
-unfoldable pub EachAction : (FieldAction → Type 0) → Policy → Type 0
+abbrev pub EachAction : (FieldAction → Type 0) → Policy → Type 0
 EachAction H drop = Unit
 EachAction H id = Unit
 EachAction H (field a) = H a

@@ -1,46 +1,14 @@
 -- What the laws share: cases of a test, a list that has grown, and induction below a number.
 use mathlib.Core.Path.{_≡_, refl, sym, _∙_, subst, ap}
-use mathlib.Core.Bool.{Bool, true, false, _&&_, _||_, true≢false}
 use mathlib.Core.List.{List, [], _∷_, _++_, append-assoc, append-nil}
 use mathlib.Core.Logic.{_⊎_, inl, inr}
 use Prim.Native.Nat.{ℕ, zero, suc, _+_, _≤_, _<_}
 use native.Mathlib.Nat.{not-suc-le-zero}
 use native.Mathlib.Decide.{le-ind}
 use native.Mathlib.Omega.{arith}
-use lib.Dec.{ltb}
 use lib.ListN.{length, getD, take, length-append, List·getD-append}
 use lib.Seq.{getD-append-seam, take-append-le}
-use borrow.Author.Tests.{ltb-true, ltb-false}
-
-pub clash {ℓ} : {A : Type ℓ} {b : Bool} → b ≡ true → b ≡ false → A
-clash p q = absurd (true≢false (sym p ∙ q))
-
-pub or-true : (a b : Bool) → (a || b) ≡ true → (a ≡ true) ⊎ (b ≡ true)
-or-true true b e = inl refl
-or-true false b e = inr e
-
-pub or-false : (a b : Bool) → (a || b) ≡ false → (a ≡ false) × (b ≡ false)
-or-false true b e = clash refl e
-or-false false b e = (refl, e)
-
-pub and-true : (a b : Bool) → (a && b) ≡ true → (a ≡ true) × (b ≡ true)
-and-true true b e = (refl, e)
-and-true false b e = clash e refl
-
-pub lt-or-le : (i n : ℕ) → (i < n) ⊎ (n ≤ i)
-lt-or-le i n = go (ltb i n) refl
-  where
-    go : (b : Bool) → ltb i n ≡ b → (i < n) ⊎ (n ≤ i)
-    go true e = inl (ltb-true i n e)
-    go false e = inr (ltb-false i n e)
-
--- a number below n + 1 is below n or is n
-pub last-or-before : {i n : ℕ} → i < suc n → (i < n) ⊎ (i ≡ n)
-last-or-before {i} {n} h = go (lt-or-le i n)
-  where
-    go : (i < n) ⊎ (n ≤ i) → (i < n) ⊎ (i ≡ n)
-    go (inl l) = inl l
-    go (inr g) = inr (omega arith)
+pub use Rattle.packet.proofs.Tests.{clash, or-true, or-false, and-true, lt-or-le, last-or-before}
 
 -- what holds at i whenever it holds below i holds everywhere
 pub induction : (P : ℕ → Type 0) → ((i : ℕ) → ((j : ℕ) → j < i → P j) → P i) → (i : ℕ) → P i

@@ -6,8 +6,9 @@ use mathlib.Core.List.{List, [], _∷_, map}
 use Prim.Native.Nat.{ℕ, zero, suc}
 use lib.Dec.{eqb, eqb·zero-suc}
 use borrow.Author.Tests.{eqb-true, eq-eqb}
+use Rattle.packet.specs.Lowest.{lowest, orAt}
 use Rattle.system.specs.System.{System, Lawful}
-use Rattle.system.specs.RowOrder.{Entry, lowest, starts, sameRow, listed, append, appendNext, lowestTelling, turn, handle, runFrom, run, climbing, climb, depth, path, entering, answer, verdict, held, full, equal, different}
+use Rattle.system.specs.RowOrder.{Entry, starts, sameRow, listed, append, appendNext, lowestTelling, turn, handle, runFrom, run, climbing, climb, depth, path, entering, answer, verdict, held, full, equal, different}
 
 count : ℕ → ℕ → ℕ
 count zero γ = 0
@@ -46,22 +47,22 @@ table t = map (λ e. e .row .packet ∷ e .row .state ∷ e .parent ∷ [])
 
 -- Nothing tells at 7: four rows, the last at depth 2.
 all-rows : table 7 (held (toy 7) 4) ≡ (0 ∷ 2 ∷ 0 ∷ []) ∷ (1 ∷ 2 ∷ 1 ∷ []) ∷ (0 ∷ 1 ∷ 0 ∷ []) ∷ (1 ∷ 1 ∷ 2 ∷ []) ∷ []
-unfolding count toy table lowest starts sameRow listed append appendNext lowestTelling turn handle runFrom run held
+unfolding count toy table lowest orAt starts sameRow listed append appendNext lowestTelling turn handle runFrom run held
 all-rows = refl
 
 last-depth : depth (toy 7) (held (toy 7) 4) 3 ≡ 2
-unfolding count toy lowest starts sameRow listed append appendNext lowestTelling turn handle runFrom run held climbing climb depth
+unfolding count toy lowest orAt starts sameRow listed append appendNext lowestTelling turn handle runFrom run held climbing climb depth
 last-depth = refl
 
 equal-with-64 : answer (toy 7) 64 ≡ equal 4
-unfolding count toy lowest starts sameRow listed append appendNext lowestTelling turn handle runFrom run answer verdict
+unfolding count toy lowest orAt starts sameRow listed append appendNext lowestTelling turn handle runFrom run answer verdict
 equal-with-64 = refl
 
 full-with-3 : answer (toy 7) 3 ≡ full
-unfolding count toy lowest starts sameRow listed append appendNext lowestTelling turn handle runFrom run answer
+unfolding count toy lowest orAt starts sameRow listed append appendNext lowestTelling turn handle runFrom run answer
 full-with-3 = refl
 
 -- Packet 1 tells at 1: at row 2, entered by 0, after the packet 0.
 different-at-2 : answer (toy 1) 64 ≡ different 2 0 (0 ∷ 1 ∷ [])
-unfolding count toy lowest starts sameRow listed append appendNext lowestTelling turn handle runFrom run answer verdict climbing climb path entering
+unfolding count toy lowest orAt starts sameRow listed append appendNext lowestTelling turn handle runFrom run answer verdict climbing climb path entering
 different-at-2 = refl

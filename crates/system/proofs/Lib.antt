@@ -1,5 +1,4 @@
 pub mod Basics
-pub mod Lowest
 pub mod Climb
 pub mod Listing
 pub mod Runs

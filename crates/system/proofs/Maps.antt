@@ -135,7 +135,7 @@ module _ (S S′ : System) (f : S .State → S′ .State) where
           where
             go : {t : Turn} → Turned S x t → turn S′ (mapRun x) ≡ t
             go (at-end h) = turn-end S′ (mapRun x) (omega (arith, length-map (x .rows) mapEntry))
-            go (at-telling {γ = γ} h l) = turn-telling S′ (mapRun x) γ (omega (arith, length-map (x .rows) mapEntry)) (record { small = omega (arith, C .packets, l .small); passes = tells-map h γ (l .small) ∙ l .passes; least = λ j k. tells-map h j (omega (arith, l .small)) ∙ l .least j k })
+            go (at-telling {γ = γ} h l) = turn-telling S′ (mapRun x) γ (omega (arith, length-map (x .rows) mapEntry)) (record { below = omega (arith, C .packets, l .below); passes = tells-map h γ (l .below) ∙ l .passes; first = λ j k. tells-map h j (omega (arith, l .below)) ∙ l .first j k })
             go (at-row h q) = turn-row S′ (mapRun x) (omega (arith, length-map (x .rows) mapEntry)) (λ γ l. tells-map h γ (omega (arith, C .packets)) ∙ q γ (omega (arith, C .packets)))
 
         handle-map : turn S x ≡ handling → handle S′ (mapRun x) ≡ mapRun (handle S x)

@@ -10,11 +10,12 @@ use native.Mathlib.Omega.{arith}
 use lib.Dec.{ltb}
 use lib.ListN.{length}
 use borrow.Author.Tests.{ltb-true, ltb-false, lt-ltb, le-ltb}
+use Rattle.packet.specs.Lowest.{lowest}
+use Rattle.packet.proofs.Lowest.{IsLowest, Found, lowest-is, lowest-only, none-lowest}
 use Rattle.system.specs.System.{System, Lawful, Row, nextRow, tells}
-use Rattle.system.specs.RowOrder.{lowest, Entry, startEntry, entryAt, Run, Turn, finished, telling, handling, lowestTelling, current, turn, handle, runFrom, begin, run}
+use Rattle.system.specs.RowOrder.{Entry, startEntry, entryAt, Run, Turn, finished, telling, handling, lowestTelling, current, turn, handle, runFrom, begin, run}
 use Rattle.system.specs.Tables.{Listed}
 use Rattle.system.proofs.Basics.{clash, last-or-before, Prefix, prefix-length, prefix-at}
-use Rattle.system.proofs.Lowest.{Lowest, Found, nowhere, at, lowest-found, lowest-is, none-lowest}
 use Rattle.system.proofs.Listing.{Listing, listing-starts, weaken, Grown, grown, listed-kept}
 
 isHandling : Turn → Bool
@@ -34,20 +35,20 @@ module _ (S : System) where
   -- The three turns: all rows are handled; the row to handle tells, γ first; the row to handle does not tell.
   pub data Turned (x : Run S) : Turn → Type 0 where
     at-end : length (x .rows) ≤ x .handled → Turned x finished
-    at-telling : {γ : ℕ} → x .handled < length (x .rows) → Lowest (S .packets) (tells S (current S x)) γ → Turned x (telling γ)
+    at-telling : {γ : ℕ} → x .handled < length (x .rows) → IsLowest (tells S (current S x)) (S .packets) γ → Turned x (telling γ)
     at-row : x .handled < length (x .rows) → ((γ : ℕ) → γ < S .packets → tells S (current S x) γ ≡ false) → Turned x handling
 
   pub turned : (x : Run S) → Turned x (turn S x)
   unfolding turn lowestTelling
   turned x = go (ltb (x .handled) (length (x .rows))) refl
     where
-      row : x .handled < length (x .rows) → (o : Option ℕ) → Found (S .packets) (tells S (current S x)) o → Turned x (elim o [ some γ ↦ telling γ | none ↦ handling ])
-      row h none (nowhere f) = at-row h f
-      row h (some γ) (at l) = at-telling h l
+      row : x .handled < length (x .rows) → (o : Option ℕ) → Found (tells S (current S x)) (S .packets) o → Turned x (elim o [ some γ ↦ telling γ | none ↦ handling ])
+      row h none f = at-row h f
+      row h (some γ) l = at-telling h l
 
       go : (b : Bool) → ltb (x .handled) (length (x .rows)) ≡ b
-          → Turned x (elim b [ true ↦ elim (lowest (S .packets) (tells S (current S x))) [ some γ ↦ telling γ | none ↦ handling ] | false ↦ finished ])
-      go true e = row (ltb-true (x .handled) (length (x .rows)) e) (lowest (S .packets) (tells S (current S x))) (lowest-found (S .packets) (tells S (current S x)))
+          → Turned x (elim b [ true ↦ elim (lowest (tells S (current S x)) (S .packets)) [ some γ ↦ telling γ | none ↦ handling ] | false ↦ finished ])
+      go true e = row (ltb-true (x .handled) (length (x .rows)) e) (lowest (tells S (current S x)) (S .packets)) (lowest-is (tells S (current S x)) (S .packets))
       go false e = at-end (ltb-false (x .handled) (length (x .rows)) e)
 
   pub end-turn : (x : Run S) → turn S x ≡ finished → length (x .rows) ≤ x .handled
@@ -56,10 +57,10 @@ module _ (S : System) where
       go : Turned x finished → length (x .rows) ≤ x .handled
       go (at-end h) = h
 
-  pub telling-turn : (x : Run S) (γ : ℕ) → turn S x ≡ telling γ → (x .handled < length (x .rows)) × Lowest (S .packets) (tells S (current S x)) γ
+  pub telling-turn : (x : Run S) (γ : ℕ) → turn S x ≡ telling γ → (x .handled < length (x .rows)) × IsLowest (tells S (current S x)) (S .packets) γ
   telling-turn x γ e = go (subst (Turned x) e (turned x))
     where
-      go : Turned x (telling γ) → (x .handled < length (x .rows)) × Lowest (S .packets) (tells S (current S x)) γ
+      go : Turned x (telling γ) → (x .handled < length (x .rows)) × IsLowest (tells S (current S x)) (S .packets) γ
       go (at-telling h l) = (h, l)
 
   pub row-turn : (x : Run S) → turn S x ≡ handling → (x .handled < length (x .rows)) × ((γ : ℕ) → γ < S .packets → tells S (current S x) γ ≡ false)
@@ -81,13 +82,13 @@ module _ (S : System) where
   unfolding turn
   turn-end x h = rw (le-ltb (x .handled) (length (x .rows)) h, turn)
 
-  pub turn-telling : (x : Run S) (γ : ℕ) → x .handled < length (x .rows) → Lowest (S .packets) (tells S (current S x)) γ → turn S x ≡ telling γ
+  pub turn-telling : (x : Run S) (γ : ℕ) → x .handled < length (x .rows) → IsLowest (tells S (current S x)) (S .packets) γ → turn S x ≡ telling γ
   unfolding turn lowestTelling
-  turn-telling x γ h l = rw (lt-ltb (x .handled) (length (x .rows)) h, lowest-is l, turn)
+  turn-telling x γ h l = rw (lt-ltb (x .handled) (length (x .rows)) h, lowest-only (tells S (current S x)) (S .packets) (some γ) l, turn)
 
   pub turn-row : (x : Run S) → x .handled < length (x .rows) → ((γ : ℕ) → γ < S .packets → tells S (current S x) γ ≡ false) → turn S x ≡ handling
   unfolding turn lowestTelling
-  turn-row x h f = rw (lt-ltb (x .handled) (length (x .rows)) h, none-lowest f, turn)
+  turn-row x h f = rw (lt-ltb (x .handled) (length (x .rows)) h, none-lowest (tells S (current S x)) (S .packets) f, turn)
 
   -- the run stays put
   abbrev pub Stopped : Run S → Type 0

@@ -12,7 +12,7 @@ use Rattle.system.specs.Words.{Word, end, then, follow, SilentBelow}
 use Rattle.system.specs.RowOrder.{Entry, Run, current, telling, turn, depth, path, entering}
 use Rattle.system.specs.Tables.{Listed}
 use Rattle.system.proofs.Basics.{lt-or-le}
-use Rattle.system.proofs.Lowest.{Lowest}
+use Rattle.packet.proofs.Lowest.{IsLowest}
 use Rattle.system.proofs.Following.{follow-small, follow-dead, dead-tells}
 use Rattle.system.proofs.Runs.{Invariant, Under, telling-turn}
 use Rattle.system.proofs.Lines.{Line, line-of, depth-start, depth-ordered, depth-near, depth-band}
@@ -104,13 +104,13 @@ module _ (S : System) where
         record {
           enters = l .enters;
           word = l .word;
-          small = t .1 .small;
+          small = t .1 .below;
           last-tells = subst (λ r. tells S r γ ≡ true) (sym (l .leads)) (t .1 .passes);
-          lower-silent = λ δ h. subst (λ r. tells S r δ ≡ false) (sym (l .leads)) (t .1 .least δ h);
+          lower-silent = λ δ h. subst (λ r. tells S r δ ≡ false) (sym (l .leads)) (t .1 .first δ h);
           shortest = subst (SilentBelow S) (l .deep) (silent-below (t .0));
         }
       where
-        t : (x .handled < length (x .rows)) × Lowest (S .packets) (tells S (current S x)) γ
+        t : (x .handled < length (x .rows)) × IsLowest (tells S (current S x)) (S .packets) γ
         t = telling-turn S x γ e
 
         l : Line S (x .rows) (x .handled)

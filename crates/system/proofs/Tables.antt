@@ -82,4 +82,4 @@ module _ (S : System) where
   silent-never Q x I γ e =
       let l : Line S (x .rows) (x .handled) = line-of S (I .listing) (x .handled) (telling-turn S x γ e .0) in
       clash (telling-turn S x γ e .1 .passes)
-      (subst (λ r. tells S r γ ≡ false) (l .leads) (Q .silent (entering S (x .rows) (x .handled)) (l .enters) (path S (x .rows) (x .handled)) (l .word) γ (telling-turn S x γ e .1 .small)))
+      (subst (λ r. tells S r γ ≡ false) (l .leads) (Q .silent (entering S (x .rows) (x .handled)) (l .enters) (path S (x .rows) (x .handled)) (l .word) γ (telling-turn S x γ e .1 .below)))

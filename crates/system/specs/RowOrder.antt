@@ -5,12 +5,8 @@ use mathlib.Core.Option.{Option, none, some}
 use Prim.Native.Nat.{ℕ, zero, suc, _<_}
 use lib.Dec.{eqb, ltb}
 use lib.ListN.{length, getD, take}
+use Rattle.packet.specs.Lowest.{lowest}
 use Rattle.system.specs.System.{System, Row, startRow, nextRow, tells}
-
--- the lowest number below n that passes the test
-unfoldable pub lowest : ℕ → (ℕ → Bool) → Option ℕ
-lowest zero test = none
-lowest (suc n) test = elim (lowest n test) [ some γ ↦ some γ | none ↦ elim (test n) [ true ↦ some n | false ↦ none ] ]
 
 -- A listed row, and its parent's place in the list.
 pub record Entry (S : System) : Type 0 where
@@ -64,7 +60,7 @@ module _ (S : System) where
 
   -- the lowest packet that tells at the row
   unfoldable pub lowestTelling : Row S → Option ℕ
-  lowestTelling r = lowest (S .packets) (tells S r)
+  lowestTelling r = lowest (tells S r) (S .packets)
 
   -- the row to handle
   abbrev pub current : Run S → Row S

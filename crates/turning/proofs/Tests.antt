@@ -1,20 +1,18 @@
 -- The order of the tests, and what the numbers keep when all pass.
 -- Assumes nothing.
-use Prim.Native.Nat.{ℕ, zero, suc, _<_, _≤_, suc-le-suc}
-use native.Mathlib.Nat.{not-suc-le-zero}
+use Prim.Native.Nat.{ℕ, suc, _<_, _≤_, suc-le-suc}
 use native.Mathlib.Omega.{arith}
-use mathlib.Core.Bool.{Bool, true, false, not}
+use mathlib.Core.Bool.{Bool, not}
 use mathlib.Core.List.{List, [], _∷_}
 use mathlib.Core.Option.{none}
-use mathlib.Core.Path.{_≡_, refl, ap, sym, _∙_, subst}
+use mathlib.Core.Path.{_≡_, ap, _∙_, subst}
 use borrow.Author.Tests.{eq-eqb, ne-eqb, eqb-true, le-leb, lt-leb, leb-false, not-false}
 use lib.Dec.{eqb}
 use lib.ListN.{length, getD}
 use Rattle.packet.specs.declared.Refusal.{Refusal}
-use Rattle.packet.specs.declared.Tested.{Tested}
 use Rattle.packet.specs.declared.Tested.the-variants.{Passed, Refused}
 use Rattle.packet.specs.Lowest.{lowest}
-use Rattle.packet.specs.Refusals.{refusal, refusedAt, atPlace, firstOf}
+use Rattle.packet.specs.Refusals.{refusal, refusedAt, atPlace}
 use Rattle.packet.specs.Sizes.{fieldsStage, productStage, product, LegalSizes}
 use Rattle.packet.specs.Packets.{Declared}
 use Rattle.packet.proofs.Lowest.{lowest-none}

@@ -1,10 +1,7 @@
 -- `turning::values_of` meets its contract: each way out is one outcome of the tests.
 -- Assumes nothing.
 use borrow.Author.Needs.{needs}
-use native.Mathlib.Omega.{arith}
-use mathlib.Core.List.{List}
 use mathlib.Core.Path.{ap, sym, _∙_}
-use Prim.Native.Nat.{ℕ}
 use Rattle.packet.specs.declared.Tested.{Tested}
 use Rattle.packet.specs.Packets.{valuesOf}
 use Rattle.packet.specs.Refusals.{refusal}
