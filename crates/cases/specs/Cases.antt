@@ -1,6 +1,7 @@
 -- Document 01, "Pairs to hold against it": P1 to P11, and the edges of sizes and dups, as one table.
 use Prim.Native.Nat.{ℕ, zero, suc}
 use mathlib.Core.List.{List, [], _∷_}
+use lib.ListN.{replicate}
 use Rattle.packet.specs.declared.Tested.{Tested}
 use Rattle.packet.specs.declared.Tested.the-variants.{Passed, Refused}
 use Rattle.packet.specs.Refusals.{refusal, firstOf}
@@ -71,6 +72,39 @@ recorded = dup 0
 abbrev columns : List ℕ → List ℕ → List ℕ → List ℕ → Outcome
 columns packets lefts rights parents = held (record { packets = packets; lefts = lefts; rights = rights; parents = parents })
 
+-- node lists written out: kind, first, second
+abbrev lists : List ℕ → List ℕ → List ℕ → NodeLists
+lists kind first second = record { kind = kind; first = first; second = second }
+
+abbrev listed : List ℕ → NodeLists → NodeLists → Question → Outcome → Case
+listed sizes l r question stated = record { sizes = sizes; left = l; right = r; question = question; stated = stated }
+
+-- every kind once: ((f0=0;f0!=1)+drop);dup;(f0<-1;id)*, to be compared with f0=0;dup;(id+f0<-1)
+abbrev everyKind : Question → Outcome → Case
+everyKind =
+    listed (2 ∷ [])
+    (lists
+    (2 ∷ 3 ∷ 7 ∷ 0 ∷ 6 ∷ 5 ∷ 7 ∷ 4 ∷ 1 ∷ 7 ∷ 8 ∷ 7 ∷ [])
+    (0 ∷ 0 ∷ 0 ∷ 0 ∷ 2 ∷ 0 ∷ 4 ∷ 0 ∷ 0 ∷ 7 ∷ 9 ∷ 6 ∷ [])
+    (0 ∷ 1 ∷ 1 ∷ 0 ∷ 3 ∷ 0 ∷ 5 ∷ 1 ∷ 0 ∷ 8 ∷ 0 ∷ 10 ∷ []))
+    (nodesOf (seq (seq (f0= 0) recorded) (sum id (f0<- 1))))
+
+-- a sequence whose second dup is node 0 and whose first is node 1
+abbrev turned : NodeLists
+turned = lists (5 ∷ 5 ∷ 7 ∷ []) (0 ∷ 0 ∷ 1 ∷ []) (0 ∷ 0 ∷ 0 ∷ [])
+
+-- f0<-0;dup+f0<-1;dup: one row has two new successors
+abbrev fork : Policy
+fork = sum (seq (f0<- 0) recorded) (seq (f0<- 1) recorded)
+
+-- ⊤, legal whatever the sizes
+abbrev pass : NodeLists
+pass = lists (1 ∷ []) (0 ∷ []) (0 ∷ [])
+
+-- a refusal of causes 4 to 9: number, side and place
+abbrev refuses : NodeLists → NodeLists → ℕ → ℕ → ℕ → Case
+refuses l r number side place = listed (2 ∷ 3 ∷ []) l r causes (tested (Refused (refusal number side place)))
+
 -- a sum of n + 1 dups
 unfoldable pub dups : ℕ → Policy
 dups zero = recorded
@@ -118,4 +152,29 @@ cases =
     -- 31 dups pass, 32 don't: the 32nd dup is node 61
     ∷ given (1 ∷ []) (dups 30) (dups 30) causes (tested Passed)
     ∷ given (1 ∷ []) (dups 30) (dups 31) causes (tested (Refused (refusal 9 2 61)))
+    -- further pairs: a test of field 1; every kind; the order of a row's successors; dups numbered in node order; two telling packets
+    ∷ given (2 ∷ 3 ∷ []) (field (Equals 1 2)) (f0= 1) (search lent) (answered (different left 2 (2 ∷ [])))
+    ∷ everyKind (search lent) (answered (equal 3))
+    ∷ everyKind causes (tested Passed)
+    ∷ given (2 ∷ []) fork fork (rowLists lent) (columns (0 ∷ 1 ∷ 0 ∷ 1 ∷ []) (1 ∷ 1 ∷ 2 ∷ 4 ∷ []) (1 ∷ 1 ∷ 2 ∷ 4 ∷ []) (0 ∷ 1 ∷ 0 ∷ 0 ∷ []))
+    ∷ listed (1 ∷ []) turned turned (rowLists lent) (columns (0 ∷ 0 ∷ 0 ∷ []) (1 ∷ 4 ∷ 2 ∷ []) (1 ∷ 4 ∷ 2 ∷ []) (0 ∷ 0 ∷ 1 ∷ []))
+    ∷ given (2 ∷ []) drop (sum (f0<- 0) (f0<- 1)) (search lent) (answered (different right 0 (0 ∷ [])))
+    -- causes 4 to 9: lists unequal, empty, over 512
+    ∷ refuses pass (lists (1 ∷ []) [] (0 ∷ [])) 4 2 0
+    ∷ refuses (lists [] [] []) pass 4 1 0
+    ∷ refuses pass (lists (replicate 513 1) (replicate 513 0) (replicate 513 0)) 4 2 0
+    -- of two causes the earlier, of two sides the left, of two nodes the lower
+    ∷ refuses (lists (1 ∷ 9 ∷ []) (1 ∷ 0 ∷ []) (0 ∷ 0 ∷ [])) pass 5 1 1
+    ∷ refuses (lists (1 ∷ []) (1 ∷ []) (0 ∷ [])) (lists (9 ∷ []) (0 ∷ []) (0 ∷ [])) 5 2 0
+    ∷ refuses (lists (9 ∷ []) (0 ∷ []) (0 ∷ [])) (lists (9 ∷ 9 ∷ []) (0 ∷ 0 ∷ []) (0 ∷ 0 ∷ [])) 5 1 0
+    ∷ refuses pass (lists (9 ∷ 9 ∷ []) (0 ∷ 0 ∷ []) (0 ∷ 0 ∷ [])) 5 2 0
+    -- a value equal to its field's size, an undeclared field, a star's second entry, an unused entry
+    ∷ refuses (lists (2 ∷ []) (1 ∷ []) (3 ∷ [])) pass 6 1 0
+    ∷ refuses (lists (4 ∷ []) (2 ∷ []) (0 ∷ [])) pass 6 1 0
+    ∷ refuses (lists (1 ∷ 8 ∷ []) (0 ∷ 0 ∷ []) (0 ∷ 1 ∷ [])) pass 6 1 1
+    ∷ refuses (lists (5 ∷ []) (0 ∷ []) (7 ∷ [])) pass 6 1 0
+    -- a child not below its parent; a node twice a child of one parent; a node that is no child
+    ∷ refuses (lists (1 ∷ 8 ∷ []) (0 ∷ 1 ∷ []) (0 ∷ 0 ∷ [])) pass 7 1 1
+    ∷ refuses (lists (1 ∷ 6 ∷ []) (0 ∷ 0 ∷ []) (0 ∷ 0 ∷ [])) pass 8 1 0
+    ∷ refuses (lists (1 ∷ 1 ∷ []) (0 ∷ 0 ∷ []) (0 ∷ 0 ∷ [])) pass 8 1 0
     ∷ []

@@ -4,12 +4,29 @@ use mathlib.Core.Bool.{Bool, true, false, not, true≢false}
 use mathlib.Core.List.{List, [], _∷_, _++_}
 use mathlib.Core.Logic.{_⊎_, inl, inr, ⊎-elim, _↔_}
 use mathlib.Core.Path.{_≡_, refl, ap, ap₂, _∙_}
+use borrow.Author.Tests.{eqb-true, eq-eqb}
 use lib.Dec.{T}
+use lib.ListN.{getD, set}
+use Rattle.packet.specs.Packets.{valueAt, changed}
 use Rattle.packet.proofs.Tests.{T-true, true-T}
 use Rattle.policy.specs.declared.FieldAction.the-variants.{Equals, Differs, Set}
 use Rattle.policy.specs.Tree.{Policy, field, dup, seq, star}
-use Rattle.policy.specs.Meaning.{Packets, ActionTraces, Seq, Power, Traces}
+use Rattle.policy.specs.Meaning.{Packets, ActionTraces, Seq, Power, Traces, declared, numbered}
 use Rattle.policy.proofs.TraceLaws.{in-turn, snoc-injective}
+
+-- a test reads its own field, of declared packets and of numbers
+pub declared-has : (f v : ℕ) (α : List ℕ) → (declared .has f v α ≡ true) ↔ (getD α f 0 ≡ v)
+declared-has f v α = (eqb-true (getD α f 0) v, eq-eqb (getD α f 0) v)
+
+pub numbered-has : (sizes : List ℕ) (f v α : ℕ) → (numbered sizes .has f v α ≡ true) ↔ (valueAt sizes f α ≡ v)
+numbered-has sizes f v α = (eqb-true (valueAt sizes f α) v, eq-eqb (valueAt sizes f α) v)
+
+-- a change changes its own field
+pub declared-change : (f v : ℕ) (α : List ℕ) → declared .change f v α ≡ set α f v
+declared-change f v α = refl
+
+pub numbered-change : (sizes : List ℕ) (f v α : ℕ) → numbered sizes .change f v α ≡ changed sizes f v α
+numbered-change sizes f v α = refl
 
 fails : (b : Bool) → T (not b) ↔ (b ≡ false)
 fails true = (λ h. absurd h, λ h. absurd (true≢false h))

@@ -1,7 +1,7 @@
--- The row order computes: a small system over two packets, whose laws hold. Packet 0 counts down from 2, packet 1 keeps the count; 0 is dead.
--- Packet 1 tells where the count is t.
+-- The row order computes: a small system over two packets, whose laws hold. Every packet counts down from 3; 0 is dead.
+-- Both packets tell where the count is t.
 use mathlib.Core.Path.{_≡_, refl, _∙_, ap}
-use mathlib.Core.Bool.{true, _&&_}
+use mathlib.Core.Bool.{true}
 use mathlib.Core.List.{List, [], _∷_, map}
 use Prim.Native.Nat.{ℕ, zero, suc}
 use lib.Dec.{eqb, eqb·zero-suc}
@@ -12,8 +12,7 @@ use Rattle.system.specs.RowOrder.{Entry, starts, sameRow, listed, append
 
 count : ℕ → ℕ → ℕ
 count zero γ = 0
-count (suc s) zero = s
-count (suc s) (suc γ) = suc s
+count (suc s) γ = s
 
 toy : ℕ → System
 toy t =
@@ -21,10 +20,10 @@ toy t =
       State = ℕ;
       same = eqb;
       packets = 2;
-      start = 2;
+      start = 3;
       next = λ β s γ. count s γ;
       dead = λ s. eqb s 0;
-      telling = λ β s γ. eqb s t && eqb γ 1;
+      telling = λ β s γ. eqb s t;
       valid = λ s. true;
     }
 
@@ -34,7 +33,7 @@ lawful t =
     record {
       same-refl = λ s. eq-eqb s s refl;
       same-eq = eqb-true;
-      dead-silent = λ β s γ h l d. ap (λ n. eqb n (suc t) && eqb γ 1) (eqb-true s 0 d) ∙ ap (λ b. b && eqb γ 1) (eqb·zero-suc t);
+      dead-silent = λ β s γ h l d. ap (λ n. eqb n (suc t)) (eqb-true s 0 d) ∙ eqb·zero-suc t;
       dead-next = λ β s γ h l d. ap (λ n. eqb (count n γ) 0) (eqb-true s 0 d);
       start-valid = refl;
       next-valid = λ β s γ h l v. refl;
@@ -45,24 +44,21 @@ table : (t : ℕ) → List (Entry (toy t)) → List (List ℕ)
 unfolding toy
 table t = map (λ e. e .row .packet ∷ e .row .state ∷ e .parent ∷ [])
 
--- Nothing tells at 7: four rows, the last at depth 2.
-all-rows : table 7 (held (toy 7) 4) ≡ (0 ∷ 2 ∷ 0 ∷ []) ∷ (1 ∷ 2 ∷ 1 ∷ []) ∷ (0 ∷ 1 ∷ 0 ∷ []) ∷ (1 ∷ 1 ∷ 2 ∷ []) ∷ []
+-- Nothing tells at 7: six rows, the last at depth 2. The successors of a row come in the order of their packets.
+all-rows : table 7 (held (toy 7) 6) ≡ (0 ∷ 3 ∷ 0 ∷ []) ∷ (1 ∷ 3 ∷ 1 ∷ []) ∷ (0 ∷ 2 ∷ 0 ∷ []) ∷ (1 ∷ 2 ∷ 0 ∷ []) ∷ (0 ∷ 1 ∷ 2 ∷ []) ∷ (1 ∷ 1 ∷ 2 ∷ []) ∷ []
 unfolding count toy table lowest orAt starts sameRow listed append appendNext lowestTelling turn handle runFrom run held
 all-rows = refl
 
-last-depth : depth (toy 7) (held (toy 7) 4) 3 ≡ 2
+last-depth : depth (toy 7) (held (toy 7) 6) 5 ≡ 2
 unfolding count toy lowest orAt starts sameRow listed append appendNext lowestTelling turn handle runFrom run held climbing climb depth
 last-depth = refl
 
-equal-with-64 : answer (toy 7) 64 ≡ equal 4
+-- six rows are enough, five are not
+answers : answer (toy 7) 64 ∷ answer (toy 7) 6 ∷ answer (toy 7) 5 ∷ [] ≡ equal 6 ∷ equal 6 ∷ full ∷ []
 unfolding count toy lowest orAt starts sameRow listed append appendNext lowestTelling turn handle runFrom run answer verdict
-equal-with-64 = refl
+answers = refl
 
-full-with-3 : answer (toy 7) 3 ≡ full
-unfolding count toy lowest orAt starts sameRow listed append appendNext lowestTelling turn handle runFrom run answer
-full-with-3 = refl
-
--- Packet 1 tells at 1: at row 2, entered by 0, after the packet 0.
-different-at-2 : answer (toy 1) 64 ≡ different 2 0 (0 ∷ 1 ∷ [])
+-- Both packets tell at 1: at row 4, entered by 0, after the packets 0 and 0; the lower one is named.
+different-at-4 : answer (toy 1) 64 ≡ different 4 0 (0 ∷ 0 ∷ 0 ∷ [])
 unfolding count toy lowest orAt starts sameRow listed append appendNext lowestTelling turn handle runFrom run answer verdict climbing climb path entering
-different-at-2 = refl
+different-at-4 = refl
