@@ -1,9 +1,11 @@
 -- Document 01, "Pairs to hold against it": P1 to P11, and the edges of sizes and dups, as one table.
 use Prim.Native.Nat.{ℕ, zero, suc}
 use mathlib.Core.List.{List, [], _∷_}
+use mathlib.Core.Option.{Option, some}
 use lib.ListN.{replicate}
 use Rattle.packet.specs.declared.Tested.{Tested}
 use Rattle.packet.specs.declared.Tested.the-variants.{Passed, Refused}
+use Rattle.packet.specs.declared.Refusal.{Refusal}
 use Rattle.packet.specs.Refusals.{refusal, firstOf}
 use Rattle.packet.specs.Sizes.{fieldsStage, productStage}
 use Rattle.policy.specs.declared.FieldAction.the-variants.{Equals, Set}
@@ -12,19 +14,20 @@ use Rattle.policy.specs.NodeLists.{NodeLists}
 use Rattle.policy.specs.Legality.{policiesStage}
 use Rattle.policy.specs.NodesOfTree.{nodesOf}
 use Rattle.pair.specs.Sides.{left, right, policies}
-use Rattle.pair.specs.Search.{SearchAnswer, equal, different, rowsFull, Columns, searchAnswer, heldColumns}
+use Rattle.pair.specs.Search.{SearchAnswer, equal, different, rowsFull, Columns, searchAnswer, refusalOf, heldColumns}
 use Rattle.pair.specs.Rules.{Checked, accepted, ruleD}
 use Rattle.pair.specs.Evidence.{evidenceAnswer}
 
--- what is asked of two policies: the search's answer with so many rows lent; what the row lists then hold; the evidence checker's answer to a table;
+-- what is asked of two policies: the search's answer with so many rows lent; what the row lists then hold; the refusal that it is; the evidence checker's answer to a table;
 -- which of causes 1 to 9 holds
 pub data Question : Type 0 where
-  search rowLists : ℕ → Question
+  search rowLists refusals : ℕ → Question
   evidence : List ℕ → List ℕ → List ℕ → Question
   causes : Question
 
 pub data Outcome : Type 0 where
   answered : SearchAnswer → Outcome
+  refusedWith : Option Refusal → Outcome
   held : Columns → Outcome
   judged : Checked → Outcome
   tested : Tested → Outcome
@@ -45,6 +48,7 @@ unfoldable pub outcome : Case → Outcome
 outcome c =
     elim (c .question) [
       | search rows ↦ answered (searchAnswer (c .sizes) (policies (c .left) (c .right)) rows lent)
+      | refusals rows ↦ refusedWith (refusalOf (searchAnswer (c .sizes) (policies (c .left) (c .right)) rows lent))
       | rowLists rows ↦ held (heldColumns (c .sizes) (policies (c .left) (c .right)) rows)
       | evidence packets lefts rights ↦ judged (evidenceAnswer (c .sizes) (policies (c .left) (c .right)) packets lefts rights)
       | causes
@@ -135,6 +139,7 @@ cases =
     -- P6
     ∷ P5 (search 2) (answered (rowsFull 2))
     ∷ P5 (rowLists 2) (columns (0 ∷ 0 ∷ []) (1 ∷ 2 ∷ []) (1 ∷ 2 ∷ []) (0 ∷ 0 ∷ []))
+    ∷ P5 (refusals 2) (refusedWith (some (refusal 11 0 2)))
     ∷ P5 (search 3) (answered (equal 3))
     -- P7
     ∷ given (1 ∷ []) recorded (seq recorded recorded) (search lent) (answered (different left 0 (0 ∷ 0 ∷ [])))

@@ -11,7 +11,7 @@ use borrow.Author.Tests.{eqb-true, eq-eqb, ltb-true, lt-ltb}
 use Rattle.packet.specs.Sizes.{product}
 use Rattle.packet.proofs.Tests.{xor-same, xor-false}
 use Rattle.policy.specs.Meaning.{SameTracesBelow}
-use Rattle.packet_set.specs.Bits.{bit}
+use Rattle.packet_set.specs.Bits.{bit, onlyBits}
 use Rattle.automaton.specs.State.{outputMask}
 use Rattle.packet_set.proofs.Digits.{bits-same}
 use Rattle.automaton.proofs.Laws.{outputMask-fits}
@@ -92,7 +92,7 @@ module _ (sizes : List ℕ) (ps : Pair Labelled) (ok : EvaluablePair sizes ps) w
         zero z right = eq-eqb (m .right) 0 (z .1)
 
     bits-both : (m : Pair ℕ) → (bitsOfDups sizes ps m ≡ true) ↔ ((m .left < 2 ^ suc (ps .left .dups)) × (m .right < 2 ^ suc (ps .right .dups)))
-    unfolding bitsOfDups at
+    unfolding bitsOfDups at onlyBits
     bits-both m = (
       λ e. (ltb-true (m .left) _ (onBoth-true (λ s. ltb (at s m) (2 ^ suc (at s ps .dups))) e left), ltb-true (m .right) _ (onBoth-true (λ s. ltb (at s m) (2 ^ suc (at s ps .dups))) e right)),
       λ z. true-onBoth (λ s. ltb (at s m) (2 ^ suc (at s ps .dups))) (within z),

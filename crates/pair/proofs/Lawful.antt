@@ -7,7 +7,7 @@ use lib.Dec.{ltb}
 use borrow.Author.Tests.{eqb-true, eq-eqb, lt-ltb}
 use Rattle.policy.specs.NodeLists.{NodeLists}
 use Rattle.policy.specs.Legality.{Legal}
-use Rattle.packet_set.specs.Bits.{bit}
+use Rattle.packet_set.specs.Bits.{bit, onlyBits}
 use Rattle.automaton.specs.Remainder.{Evaluable}
 use Rattle.automaton.specs.State.{outputMask, nextMask}
 use Rattle.packet_set.proofs.Digits.{bit-of-zero}
@@ -47,7 +47,7 @@ module _ (sizes : List ℕ) (ps : Pair Labelled) (ok : EvaluablePair sizes ps) w
   next-fits s β m γ = lt-ltb _ _ (nextMask-lt sizes (at s ps .dups) (at s ps .tree) (ok s) (at s m) β γ)
 
   pub lawful : Lawful (pairSystem sizes ps)
-  unfolding sameStates bothZero inOneOutput bitsOfDups
+  unfolding sameStates bothZero inOneOutput bitsOfDups onlyBits
   lawful =
       record {
         same-refl = λ m. true-onBoth _ (λ s. eq-eqb (at s m) (at s m) refl);

@@ -1,11 +1,11 @@
 -- Two policies as a system (document 01, "States and rows"): a state is the two policies' masks.
-use Prim.Native.Nat.{ℕ, suc, _^_}
+use Prim.Native.Nat.{ℕ}
 use mathlib.Core.Bool.{Bool, xor}
 use mathlib.Core.List.{List}
-use lib.Dec.{eqb, ltb}
+use lib.Dec.{eqb}
 use Rattle.packet.specs.Sizes.{product}
 use Rattle.policy.specs.Meaning.{numbered, Traces}
-use Rattle.packet_set.specs.Bits.{bit}
+use Rattle.packet_set.specs.Bits.{bit, onlyBits}
 use Rattle.automaton.specs.State.{outputMask, nextMask}
 use Rattle.system.specs.System.{System}
 use Rattle.pair.specs.Sides.{Side, left, right, Pair, at, each, onBoth, Labelled}
@@ -36,7 +36,7 @@ module _ (sizes : List ℕ) (ps : Pair Labelled) where
 
   -- each mask has only bits 0 to that policy's number of dups
   unfoldable pub bitsOfDups : Pair ℕ → Bool
-  bitsOfDups m = onBoth (λ s. ltb (at s m) (2 ^ suc (at s ps .dups)))
+  bitsOfDups m = onBoth (λ s. onlyBits (at s m) (at s ps .dups))
 
   abbrev pub pairSystem : System
   pairSystem =
