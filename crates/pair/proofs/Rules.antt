@@ -18,7 +18,7 @@ use Rattle.system.specs.System.{System, Lawful, Row, startRow, nextRow, tells}
 use Rattle.system.specs.RowOrder.{Entry, entryAt, run, sameRow, answer, equal, held}
 use Rattle.system.specs.Tables.{Closed, Sound, Listed}
 use Rattle.system.specs.Words.{Silent}
-use Rattle.system.proofs.Basics.{or-true, and-true, last-or-before}
+use Rattle.packet.proofs.Tests.{or-true, and-true, last-or-before}
 use Rattle.system.proofs.Listing.{sameRow-true, sameRow-refl}
 use Rattle.system.proofs.Runs.{invariant}
 use Rattle.system.proofs.Tables.{closed-silent, closed-contains}

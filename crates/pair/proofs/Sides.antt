@@ -1,7 +1,7 @@
 -- What holds on both sides.
 use mathlib.Core.Bool.{Bool, true, _&&_}
 use mathlib.Core.Path.{_≡_, refl, ap₂}
-use Rattle.system.proofs.Basics.{and-true}
+use Rattle.packet.proofs.Tests.{and-true}
 use Rattle.pair.specs.Sides.{Side, left, right, Pair, at, each, onBoth}
 
 pub at-each : {A : Type 0} (f : Side → A) (s : Side) → at s (each f) ≡ f s

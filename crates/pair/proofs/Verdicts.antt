@@ -12,7 +12,8 @@ use Rattle.policy.specs.Meaning.{SameTracesBelow}
 use Rattle.system.specs.System.{System, startRow}
 use Rattle.system.specs.Words.{follow}
 use Rattle.system.specs.RowOrder.{Answer, full as moreRows, equal as allHandled, different as tellingRow, entryAt, NeedsMore, finished, telling, turn, current, run, entering, path, answer, held}
-use Rattle.system.proofs.Basics.{lt-or-le, length-snoc}
+use Rattle.packet.proofs.Tests.{lt-or-le}
+use Rattle.system.proofs.Basics.{length-snoc}
 use Rattle.system.proofs.Runs.{telling≢handling, invariant}
 use Rattle.system.proofs.Lines.{Line, line-of}
 use Rattle.system.proofs.Shortest.{Shortest}

@@ -17,7 +17,7 @@ use Rattle.policy.specs.Meaning.{Traces, declared, numbered, SameTraces,
 use Rattle.policy.specs.Legality.{InFields, badField, fieldOf, valueOf}
 use Rattle.policy.specs.Each.{Each}
 use Rattle.policy.specs.Transport.{EachAction, Keeps, Commutes, Respects}
-use Rattle.policy.proofs.EachLaws.{or-false}
+use Rattle.packet.proofs.Tests.{or-false}
 use Rattle.policy.proofs.TraceLaws.{traces-stay}
 use Rattle.policy.proofs.Congruence.{same-sum, same-seq, same-star}
 use Rattle.policy.proofs.TransportLaws.{same-image, same-source}
