@@ -102,7 +102,12 @@ scan-none : (f : ℕ → Row) (r : Row) → listedBelow f 0 r ≡ false
 unfolding listedBelow
 scan-none f r = refl
 
--- A walk along the chain of a row's bucket: f the rows, h their buckets.
+-- A walk along the chain of a row's bucket. Of the first n rows those from the entry `at` on are passed; `at` is an entry of the chain.
+pub record Walk (f : ℕ → Row) (bucket : Row → ℕ) (r : Row) (n at : ℕ) : Type 0 where
+  pub within : at ≤ n
+  pub chain : (k : ℕ) → at ≡ suc k → bucket (f k) ≡ bucket r
+  pub left : listedBelow f n r ≡ listedBelow f at r
+
 module _ (f : ℕ → Row) (bucket : Row → ℕ) (fits : (a b : Row) → sameRow a b ≡ true → bucket a ≡ bucket b) (r : Row) where
   -- no row outside the chain is the row
   listed-last : (n : ℕ) → listedBelow f n r ≡ listedBelow f (lastWith (λ i. bucket (f i)) (bucket r) n) r
@@ -119,13 +124,7 @@ module _ (f : ℕ → Row) (bucket : Row → ℕ) (fits : (a b : Row) → sameRo
       go ih (here e m) = ap (λ k. listedBelow f k r) (sym m)
       go ih (before e m) = scan-miss f r n (other e (sameRow (f n) r) refl) ∙ ih ∙ ap (λ k. listedBelow f k r) (sym m)
 
-  -- Of the first n rows those from the entry `at` on are passed; `at` is an entry of the row's chain.
-  pub record Walk (n at : ℕ) : Type 0 where
-    pub within : at ≤ n
-    pub chain : (k : ℕ) → at ≡ suc k → bucket (f k) ≡ bucket r
-    pub left : listedBelow f n r ≡ listedBelow f at r
-
-  pub walk-start : (n at : ℕ) → at ≡ lastWith (λ i. bucket (f i)) (bucket r) n → Walk n at
+  pub walk-start : (n at : ℕ) → at ≡ lastWith (λ i. bucket (f i)) (bucket r) n → Walk f bucket r n at
   walk-start n at e =
       record {
         within = subst (λ m. m ≤ n) (sym e) (last-le _ _ n);
@@ -133,14 +132,14 @@ module _ (f : ℕ → Row) (bucket : Row → ℕ) (fits : (a b : Row) → sameRo
         left = listed-last n ∙ ap (λ m. listedBelow f m r) (sym e);
       }
 
-  pub walk-hit : {n at : ℕ} → Walk n at → 0 < at → sameRow (f (at - 1)) r ≡ true → listedBelow f n r ≡ true
+  pub walk-hit : {n at : ℕ} → Walk f bucket r n at → 0 < at → sameRow (f (at - 1)) r ≡ true → listedBelow f n r ≡ true
   walk-hit {n} {at} w some s = w .left ∙ ap (λ m. listedBelow f m r) (omega arith) ∙ scan-hit f r (at - 1) s
 
-  pub walk-more : {n at : ℕ} (next : ℕ) → Walk n at → 0 < at → sameRow (f (at - 1)) r ≡ false
-      → next ≡ lastWith (λ i. bucket (f i)) (bucket (f (at - 1))) (at - 1) → Walk n next
+  pub walk-more : {n at : ℕ} (next : ℕ) → Walk f bucket r n at → 0 < at → sameRow (f (at - 1)) r ≡ false
+      → next ≡ lastWith (λ i. bucket (f i)) (bucket (f (at - 1))) (at - 1) → Walk f bucket r n next
   walk-more {n} {at} next w some s e = go (walk-start (at - 1) next (e ∙ ap (λ b. lastWith (λ i. bucket (f i)) b (at - 1)) (w .chain (at - 1) (omega arith))))
     where
-      go : Walk (at - 1) next → Walk n next
+      go : Walk f bucket r (at - 1) next → Walk f bucket r n next
       go v =
           record {
             within = omega (arith, v .within, w .within);
@@ -148,8 +147,8 @@ module _ (f : ℕ → Row) (bucket : Row → ℕ) (fits : (a b : Row) → sameRo
             left = w .left ∙ ap (λ m. listedBelow f m r) (omega arith) ∙ scan-miss f r (at - 1) s ∙ v .left;
           }
 
-  pub walk-less : {n at : ℕ} (next : ℕ) → Walk n at → 0 < at → next ≡ lastWith (λ i. bucket (f i)) (bucket (f (at - 1))) (at - 1) → next < at
+  pub walk-less : {n at : ℕ} (next : ℕ) → Walk f bucket r n at → 0 < at → next ≡ lastWith (λ i. bucket (f i)) (bucket (f (at - 1))) (at - 1) → next < at
   walk-less {n} {at} next w some e = omega (arith, last-le (λ i. bucket (f i)) (bucket (f (at - 1))) (at - 1))
 
-  pub walk-end : {n at : ℕ} → Walk n at → at ≡ 0 → listedBelow f n r ≡ false
+  pub walk-end : {n at : ℕ} → Walk f bucket r n at → at ≡ 0 → listedBelow f n r ≡ false
   walk-end w e = w .left ∙ ap (λ m. listedBelow f m r) e ∙ scan-none f r

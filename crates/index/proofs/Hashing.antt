@@ -65,3 +65,15 @@ module _ (size count : ℕ) (r : Row) (small : r .packet < count) (room : count 
   pub bucket-packet : bucketOf size count r / (size / count) ≡ r .packet
   unfolding bucketOf
   bucket-packet = mul-add-div-right width-positive (r .packet) _ ∙ ap (λ n. r .packet + n) (div-eq-of-lt (mod-lt _ width-positive)) ∙ add-zero _
+
+  -- the same with the numbers that the code holds
+  module _ (c p : ℕ) (isCount : c ≡ count) (isPacket : p ≡ r .packet) where
+    pub held-positive : 0 < size / c
+    held-positive = rw isCount width-positive
+
+    pub held-range : p * (size / c) + size / c ≤ size
+    held-range = rw (isCount, isPacket) range-within
+
+    pub held-bucket : (h : ℕ) → h ≡ hashOf policies (r .states) → p * (size / c) + h % (size / c) ≡ bucketOf size count r
+    unfolding bucketOf
+    held-bucket h isHash = rw (isCount, isPacket, isHash)

@@ -1,3 +1,4 @@
 pub mod States
 pub mod Hashing
 pub mod Chains
+pub mod Lookup

@@ -10,7 +10,8 @@ use lib.Dec.{eqb}
 use lib.ListN.{getD}
 use borrow.Author.Tests.{eq-eqb, ne-eqb}
 use Rattle.system.proofs.Basics.{last-or-before}
-use Rattle.index.specs.Columns.{sameStates}
+use Rattle.index.specs.declared.Row.{Row}
+use Rattle.index.specs.Columns.{policies, sameStates, sameRow}
 
 module _ (a b : List ℕ) where
   pub states-none : sameStates 0 a b ≡ true
@@ -32,3 +33,12 @@ module _ (a b : List ℕ) where
 
   pub states-all : (k n : ℕ) → k ≤ n → n ≤ k → sameStates k a b ≡ true → sameStates n a b ≡ true
   states-all k n l g s = subst (λ m. sameStates m a b ≡ true) (le-antisymm l g) s
+
+module _ (a b : Row) where
+  pub packets-differ : (a .packet ≡ b .packet → ⊥) → sameRow a b ≡ false
+  unfolding sameRow
+  packets-differ e = ap (λ t. t && sameStates policies (a .states) (b .states)) (ne-eqb (a .packet) (b .packet) e)
+
+  pub packets-same : a .packet ≡ b .packet → sameRow a b ≡ sameStates policies (a .states) (b .states)
+  unfolding sameRow
+  packets-same e = ap (λ t. t && sameStates policies (a .states) (b .states)) (eq-eqb (a .packet) (b .packet) e)

@@ -97,7 +97,7 @@ fn hash(states: [Mask; POLICIES]) -> usize
 fn bucket(size: usize, count: u16, row: Row) -> usize
     requires { ⌜ row .packet < count ⌝ }
     requires { ⌜ count ≤ size ⌝ }
-    ensures { λ r. ⌜ r ≡ bucketOf size count row ⌝ }
+    ensures { λ r. ⌜ (r ≡ bucketOf size count row) × (r < size) ⌝ }
 {
     let width = size / wide(count);
     let states = row.states;
