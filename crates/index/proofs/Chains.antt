@@ -7,7 +7,7 @@ use Prim.Native.Nat.{ℕ, zero, suc, _-_, _≤_, _<_}
 use native.Mathlib.Nat.{le-refl, not-suc-le-zero}
 use native.Mathlib.Omega.{arith}
 use lib.Dec.{eqb}
-use lib.ListN.{length, getD, set, replicate, length-replicate, getD-replicate, length-set}
+use lib.ListN.{length, getD, set, length-set}
 use lib.Seq.{getD-set-same, getD-set-other}
 use borrow.Author.Tests.{eqb-true, eqb-false, eq-eqb, ne-eqb}
 use Rattle.system.proofs.Basics.{clash, last-or-before}
@@ -62,13 +62,9 @@ last-agree h g b (suc n) same =
     ap₂ (λ (x y : ℕ). elim (eqb x b) [ true ↦ suc n | false ↦ y ]) (same n (le-refl _)) (last-agree h g b n (λ i l. same i (omega arith)))
 
 module _ (heads links : List ℕ) where
-  pub chained-none : (h : ℕ → ℕ) → heads ≡ replicate (length heads) 0 → Chained h 0 heads links
+  pub chained-none : (h : ℕ → ℕ) → ((b : ℕ) → b < length heads → getD heads b 0 ≡ 0) → Chained h 0 heads links
   unfolding lastWith
-  chained-none h e =
-      record {
-        head = λ b l. subst (λ xs. getD xs b 0 ≡ 0) (sym e) (getD-replicate (length heads) b 0 0 l);
-        link = λ i l. absurd (not-suc-le-zero l);
-      }
+  chained-none h e = record { head = e; link = λ i l. absurd (not-suc-le-zero l) }
 
   pub chained-agree : (h g : ℕ → ℕ) (n : ℕ) → ((i : ℕ) → i < n → h i ≡ g i) → Chained h n heads links → Chained g n heads links
   chained-agree h g n same c =

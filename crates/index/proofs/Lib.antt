@@ -2,3 +2,5 @@ pub mod States
 pub mod Hashing
 pub mod Chains
 pub mod Lookup
+pub mod Growth
+pub mod Adding

@@ -34,6 +34,15 @@ module _ (a b : List ℕ) where
   pub states-all : (k n : ℕ) → k ≤ n → n ≤ k → sameStates k a b ≡ true → sameStates n a b ≡ true
   states-all k n l g s = subst (λ m. sameStates m a b ≡ true) (le-antisymm l g) s
 
+states-refl : (k : ℕ) (a : List ℕ) → sameStates k a a ≡ true
+unfolding sameStates
+states-refl zero a = refl
+states-refl (suc k) a = ap₂ _&&_ (states-refl k a) (eq-eqb (getD a k 0) (getD a k 0) refl)
+
+pub same-refl : (a : Row) → sameRow a a ≡ true
+unfolding sameRow
+same-refl a = ap₂ _&&_ (eq-eqb (a .packet) (a .packet) refl) (states-refl policies (a .states))
+
 module _ (a b : Row) where
   pub packets-differ : (a .packet ≡ b .packet → ⊥) → sameRow a b ≡ false
   unfolding sameRow

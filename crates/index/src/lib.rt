@@ -1,9 +1,10 @@
 // The row columns and their hash index (document 01, "States and rows"): is this row listed?
 ghost use mathlib.Core.Path.{_≡_};
 ghost use Prim.Native.Nat.{_+_, _<_, _≤_};
-ghost use lib.ListN.{length, getD, set};
+ghost use lib.ListN.{length, getD, set, drop};
 ghost use Rattle.index.specs.Columns.{policies, Table, Small, rowAt, sameStates, sameRow, allZero, listedBelow};
 ghost use Rattle.index.specs.Index.{hashOf, bucketOf, Indexed, headsWith, linksWith};
+ghost use Rattle.index.specs.Appending.{isNew, lists, Appending};
 
 // How many policies a row follows.
 pub const POLICIES: usize = 2;
@@ -133,4 +134,56 @@ pub fn find(packets: &[u16], left: &[Mask], right: &[Mask], n: usize, count: u16
         at = wide(links[i]);
     }
     false
+}
+
+// Inner: indexes all rows of the columns; each packet is below count.
+pub fn index_all(packets: &[u16], left: &[Mask], right: &[Mask], count: u16, heads: &mut [u16], links: &mut [u16])
+    requires { ⌜ Indexed (now packets) (now left) (now right) count 0 (now heads) (now links) ⌝ }
+    requires { ⌜ Small (now packets) count ⌝ }
+    ensures indexed { λ _. ⌜ Indexed (now (packets .entry)) (now (left .entry)) (now (right .entry)) count (length (now (packets .entry))) (now (heads .exit)) (now (links .exit)) ⌝ }
+    ensures beyond { λ _. ⌜ drop (length (now (packets .entry))) (now (links .exit)) ≡ drop (length (now (packets .entry))) (now (links .entry)) ⌝ }
+{
+    let mut i = 0;
+    while i < packets.len() {
+        insert(i, row_at(packets, left, right, i), count, heads, links);
+        i += 1;
+    }
+}
+
+// How many rows are listed after an append; or a row must be appended and the columns are full.
+pub enum Appended {
+    Rows(usize),
+    Full,
+}
+
+// Must the row be appended?
+fn is_new(packets: &[u16], left: &[Mask], right: &[Mask], n: usize, count: u16, heads: &[u16], links: &[u16], row: Row) -> bool
+    requires { ⌜ Indexed (now packets) (now left) (now right) count n (now heads) (now links) ⌝ }
+    requires { ⌜ row .packet < count ⌝ }
+    ensures { λ r. ⌜ r ≡ isNew (rowAt (now (packets .entry)) (now (left .entry)) (now (right .entry))) n row ⌝ }
+{
+    let states = row.states;
+    if same_states(states, [0; POLICIES]) {
+        return false;
+    }
+    !find(packets, left, right, n, count, heads, links, row)
+}
+
+// Inner: appends the row with its parent as row n, unless all its states are 0 or it is listed already.
+pub fn append(packets: &mut [u16], left: &mut [Mask], right: &mut [Mask], parents: &mut [u16], n: usize, count: u16, heads: &mut [u16], links: &mut [u16], row: Row, parent: u16) -> Appended
+    requires { ⌜ Indexed (now packets) (now left) (now right) count n (now heads) (now links) ⌝ }
+    requires { ⌜ length (now parents) ≡ length (now packets) ⌝ }
+    requires { ⌜ row .packet < count ⌝ }
+    ensures { λ r. ⌜ Appending (lists (now (packets .entry)) (now (left .entry)) (now (right .entry)) (now (parents .entry)) (now (heads .entry)) (now (links .entry))) (lists (now (packets .exit)) (now (left .exit)) (now (right .exit)) (now (parents .exit)) (now (heads .exit)) (now (links .exit))) count n row parent r ⌝ }
+{
+    if !is_new(packets, left, right, n, count, heads, links, row) {
+        return Appended::Rows(n);
+    }
+    if packets.len() <= n {
+        return Appended::Full;
+    }
+    put_row(packets, left, right, n, row);
+    parents[n] = parent;
+    insert(n, row, count, heads, links);
+    Appended::Rows(n + 1)
 }
