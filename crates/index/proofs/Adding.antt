@@ -32,10 +32,10 @@ module _ (P L R : List ℕ) (n : ℕ) (r : Row) where
   put-below i l =
       let other : i ≡ n → ⊥ = λ e. omega arith in
       λ k.
-        record {
-          packet = sym (getD-set-other P n i (r .packet) 0 other) k;
-          states = sym (getD-set-other L n i (getD (r .states) 0 0) 0 other) k ∷ sym (getD-set-other R n i (getD (r .states) 1 0) 0 other) k ∷ [];
-        }
+      record {
+        packet = sym (getD-set-other P n i (r .packet) 0 other) k;
+        states = sym (getD-set-other L n i (getD (r .states) 0 0) 0 other) k ∷ sym (getD-set-other R n i (getD (r .states) 1 0) 0 other) k ∷ [];
+      }
 
   module _ (t : Table P L R) where
     put-table : Table (set P n (r .packet)) (set L n (getD (r .states) 0 0)) (set R n (getD (r .states) 1 0))

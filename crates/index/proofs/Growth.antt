@@ -75,9 +75,10 @@ to-none I = record { indexed = I; heads-long = refl; links-long = refl; beyond =
 
 module _ {P L R heads₀ links₀ heads links : List ℕ} {count i : ℕ} (T : IndexedTo P L R count i heads₀ links₀ heads links) where
   pub to-insert : Small P count → i < length P → (r : Row) → r ≡ rowAt P L R i → (r .packet < count) × ((count ≤ length heads) × ((i < length links) × (i < 65535)))
-  to-insert s l r e =
-      (subst (λ x. x .packet < count) (sym e) (s .small i l),
-      (T .indexed .buckets, (omega (arith, T .indexed .linkable), omega (arith, T .indexed .numbered))))
+  to-insert s l r e = (
+    subst (λ x. x .packet < count) (sym e) (s .small i l),
+    (T .indexed .buckets, (omega (arith, T .indexed .linkable), omega (arith, T .indexed .numbered))),
+  )
 
   pub to-more : Small P count → i < length P → (r : Row) → r ≡ rowAt P L R i → (heads′ links′ : List ℕ) → heads′ ≡ headsWith count r i heads → links′ ≡ linksWith count r i heads links
       → IndexedTo P L R count (i + 1) heads₀ links₀ heads′ links′

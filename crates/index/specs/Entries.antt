@@ -3,7 +3,7 @@ use mathlib.Core.Path.{_≡_}
 use mathlib.Core.List.{List, [], _∷_, _++_}
 use Prim.Native.Nat.{ℕ, zero, suc}
 use lib.ListN.{getD}
-use Rattle.system.specs.System.{System} 
+use Rattle.system.specs.System.{System}
 use Rattle.system.specs.System as system
 use Rattle.system.specs.RowOrder.{Entry}
 use Rattle.index.specs.declared.Row.{Row}

@@ -120,7 +120,16 @@ pub fn insert(n: usize, row: Row, count: u16, heads: &mut [u16], links: &mut [u1
 }
 
 // Inner: is the row one of the first n?
-pub fn find(packets: &[u16], left: &[Mask], right: &[Mask], n: usize, count: u16, heads: &[u16], links: &[u16], row: Row) -> bool
+pub fn find(
+    packets: &[u16],
+    left: &[Mask],
+    right: &[Mask],
+    n: usize,
+    count: u16,
+    heads: &[u16],
+    links: &[u16],
+    row: Row,
+) -> bool
     requires { ⌜ Indexed (now packets) (now left) (now right) count n (now heads) (now links) ⌝ }
     requires { ⌜ row .packet < count ⌝ }
     ensures { λ r. ⌜ r ≡ listedBelow (rowAt (now (packets .entry)) (now (left .entry)) (now (right .entry))) n row ⌝ }
@@ -137,7 +146,14 @@ pub fn find(packets: &[u16], left: &[Mask], right: &[Mask], n: usize, count: u16
 }
 
 // Inner: indexes all rows of the columns; each packet is below count.
-pub fn index_all(packets: &[u16], left: &[Mask], right: &[Mask], count: u16, heads: &mut [u16], links: &mut [u16])
+pub fn index_all(
+    packets: &[u16],
+    left: &[Mask],
+    right: &[Mask],
+    count: u16,
+    heads: &mut [u16],
+    links: &mut [u16],
+)
     requires { ⌜ Indexed (now packets) (now left) (now right) count 0 (now heads) (now links) ⌝ }
     requires { ⌜ Small (now packets) count ⌝ }
     ensures indexed { λ _. ⌜ Indexed (now (packets .entry)) (now (left .entry)) (now (right .entry)) count (length (now (packets .entry))) (now (heads .exit)) (now (links .exit)) ⌝ }
@@ -157,7 +173,16 @@ pub enum Appended {
 }
 
 // Must the row be appended?
-fn is_new(packets: &[u16], left: &[Mask], right: &[Mask], n: usize, count: u16, heads: &[u16], links: &[u16], row: Row) -> bool
+fn is_new(
+    packets: &[u16],
+    left: &[Mask],
+    right: &[Mask],
+    n: usize,
+    count: u16,
+    heads: &[u16],
+    links: &[u16],
+    row: Row,
+) -> bool
     requires { ⌜ Indexed (now packets) (now left) (now right) count n (now heads) (now links) ⌝ }
     requires { ⌜ row .packet < count ⌝ }
     ensures { λ r. ⌜ r ≡ isNew (rowAt (now (packets .entry)) (now (left .entry)) (now (right .entry))) n row ⌝ }
@@ -170,7 +195,18 @@ fn is_new(packets: &[u16], left: &[Mask], right: &[Mask], n: usize, count: u16, 
 }
 
 // Inner: appends the row with its parent as row n, unless all its states are 0 or it is listed already.
-pub fn append(packets: &mut [u16], left: &mut [Mask], right: &mut [Mask], parents: &mut [u16], n: usize, count: u16, heads: &mut [u16], links: &mut [u16], row: Row, parent: u16) -> Appended
+pub fn append(
+    packets: &mut [u16],
+    left: &mut [Mask],
+    right: &mut [Mask],
+    parents: &mut [u16],
+    n: usize,
+    count: u16,
+    heads: &mut [u16],
+    links: &mut [u16],
+    row: Row,
+    parent: u16,
+) -> Appended
     requires { ⌜ Indexed (now packets) (now left) (now right) count n (now heads) (now links) ⌝ }
     requires { ⌜ length (now parents) ≡ length (now packets) ⌝ }
     requires { ⌜ row .packet < count ⌝ }
