@@ -28,7 +28,7 @@ module _ (f : ℕ → Row) (n : ℕ) (r : Row) (dead : Bool) (isDead : dead ≡ 
 
 -- the columns with row r put at n
 module _ (P L R : List ℕ) (n : ℕ) (r : Row) where
-  put-below : (i : ℕ) → i < n → rowAt P L R i ≡ rowAt (set P n (r .packet)) (set L n (getD (r .states) 0 0)) (set R n (getD (r .states) 1 0)) i
+  pub put-below : (i : ℕ) → i < n → rowAt P L R i ≡ rowAt (set P n (r .packet)) (set L n (getD (r .states) 0 0)) (set R n (getD (r .states) 1 0)) i
   put-below i l =
       let other : i ≡ n → ⊥ = λ e. omega arith in
       λ k.

@@ -4,3 +4,4 @@ pub mod Chains
 pub mod Lookup
 pub mod Growth
 pub mod Adding
+pub mod Entries
