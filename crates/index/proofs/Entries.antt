@@ -2,7 +2,6 @@
 use mathlib.Core.Path.{_≡_, refl, sym, _∙_, ap, ap₂, subst}
 use mathlib.Core.Bool.{Bool, true, false, _&&_, _||_, not, or-false, or-assoc}
 use mathlib.Core.List.{List, [], _∷_, _++_, map, map-append}
-use mathlib.Core.Logic.{_⊎_, inl, inr}
 use Prim.Native.Nat.{ℕ, zero, suc, _≤_, _<_}
 use native.Mathlib.Nat.{le-refl, le-antisymm, not-suc-le-zero}
 use native.Mathlib.Omega.{arith}
@@ -19,11 +18,11 @@ use Rattle.system.proofs.Listing.{append-kept, append-new}
 use Rattle.index.specs.declared.Row.{Row}
 use Rattle.index.specs.declared.Appended.{Appended}
 use Rattle.index.specs.declared.Appended.the-variants.{Rows, Full}
-use Rattle.index.specs.Columns.{policies, Table, rowAt, sameStates, sameRow, allZero, listedBelow}
+use Rattle.index.specs.Columns.{policies, rowAt, sameStates, sameRow, allZero, listedBelow}
 use Rattle.index.specs.Index.{Indexed, headsWith, linksWith}
-use Rattle.index.specs.Appending.{isNew, Lists, answerOf, rowsAfter, changed, isAdded, Appending}
+use Rattle.index.specs.Appending.{isNew, Lists, answerOf, rowsAfter, isAdded, Appending}
 use Rattle.index.specs.Entries.{Masks, rowOf, entriesOf, entries}
-use Rattle.index.proofs.Adding.{put-below, put-here}
+use Rattle.index.proofs.Adding.{put-below, put-here, changed-true, changed-false}
 
 listed-snoc : (S : System) (es : List (Entry S)) (e : Entry S) (r : system.Row S) → listed S (es ++ (e ∷ [])) r ≡ (listed S es r || order.sameRow S (e .row) r)
 unfolding listed
@@ -57,13 +56,13 @@ module _ (S : System) (M : Masks S) where
       tested : (S .dead (M .state (r .states)) || listed S (entriesOf S M f q n) (rowOf S M r)) ≡ (allZero (r .states) || listedBelow f n r)
       tested = ap₂ _||_ (M .dead-states (r .states)) (listed-entries n r)
 
-      append-listed : isNew f n r ≡ false → append S p (entriesOf S M f q n) (rowOf S M r) ≡ entriesOf S M f q n
+      entries-listed : isNew f n r ≡ false → append S p (entriesOf S M f q n) (rowOf S M r) ≡ entriesOf S M f q n
       unfolding isNew
-      append-listed e = append-kept S p (entriesOf S M f q n) (rowOf S M r) (tested ∙ not-injective (allZero (r .states) || listedBelow f n r) true e)
+      entries-listed e = append-kept S p (entriesOf S M f q n) (rowOf S M r) (tested ∙ not-injective (allZero (r .states) || listedBelow f n r) true e)
 
-      append-unlisted : isNew f n r ≡ true → append S p (entriesOf S M f q n) (rowOf S M r) ≡ entriesOf S M f q n ++ (record { row = rowOf S M r; parent = p } ∷ [])
+      entries-unlisted : isNew f n r ≡ true → append S p (entriesOf S M f q n) (rowOf S M r) ≡ entriesOf S M f q n ++ (record { row = rowOf S M r; parent = p } ∷ [])
       unfolding isNew
-      append-unlisted e = append-new S p (entriesOf S M f q n) (rowOf S M r) (tested ∙ not-injective (allZero (r .states) || listedBelow f n r) false e)
+      entries-unlisted e = append-new S p (entriesOf S M f q n) (rowOf S M r) (tested ∙ not-injective (allZero (r .states) || listedBelow f n r) false e)
 
     -- the entry at a place
     pub entries-at : (n i : ℕ) → i < n → entryAt S (entriesOf S M f q n) i ≡ record { row = rowOf S M (f i); parent = q i }
@@ -110,14 +109,6 @@ outcome {x} {n = n} {r = r} {answer = answer} A = go (isNew (rowAt (x .packets) 
     go true false e l = full e (ltb-false n (length (x .packets)) l) (ap₂ _&&_ e l) (A .answers ∙ ap₂ (λ s t. answerOf s t n) e l)
     go false true e l = known e (ap₂ _&&_ e l) (A .answers ∙ ap₂ (λ s t. answerOf s t n) e l)
     go false false e l = known e (ap₂ _&&_ e l) (A .answers ∙ ap₂ (λ s t. answerOf s t n) e l)
-
-changed-true : (b : Bool) (new was : List ℕ) → b ≡ true → changed b new was ≡ new
-unfolding changed
-changed-true b new was e = ap (λ t. changed t new was) e
-
-changed-false : (b : Bool) (new was : List ℕ) → b ≡ false → changed b new was ≡ was
-unfolding changed
-changed-false b new was e = ap (λ t. changed t new was) e
 
 -- the lists with row r appended
 unfoldable pub grown : Lists → ℕ → ℕ → Row → ℕ → Lists
@@ -228,7 +219,7 @@ module _ (S : System) (M : Masks S) (lawful : Lawful S) where
             let m-is : m ≡ suc n = cc in
             let y-is : y ≡ grown x count n r parent = grows A isIn in
             record {
-              entries = ap₂ (entriesIn S M) y-is m-is ∙ snoc l ∙ sym (append-unlisted S M _ _ n r parent new);
+              entries = ap₂ (entriesIn S M) y-is m-is ∙ snoc l ∙ sym (entries-unlisted S M _ _ n r parent new);
               indexed = indexed-at A true m isIn (sym m-is);
               more = omega arith;
               beyond = subst (λ k. Beyond x y k) (sym m-is) (subst (λ z. Beyond x z (suc n)) (sym y-is) (beyond-grown x count n r parent));
@@ -238,7 +229,7 @@ module _ (S : System) (M : Masks S) (lawful : Lawful S) where
             let m-is : m ≡ n = cc in
             let y-is : y ≡ x = stays A notIn in
             record {
-              entries = ap₂ (entriesIn S M) y-is m-is ∙ sym (append-listed S M _ _ n r parent new);
+              entries = ap₂ (entriesIn S M) y-is m-is ∙ sym (entries-listed S M _ _ n r parent new);
               indexed = indexed-at A false m notIn (sym m-is);
               more = omega arith;
               beyond = subst (λ z. Beyond x z m) (sym y-is) (record { packets = refl; left = refl; right = refl; parents = refl });
@@ -249,7 +240,7 @@ module _ (S : System) (M : Masks S) (lawful : Lawful S) where
       where
         go : Outcome x n r answer → Stuck S M x y n r parent
         go (added new l isIn a) = known-no (suc n) e a
-        go (full new l notIn a) = record { room = le-antisymm (I .within) l; same = stays A notIn; needed = append-unlisted S M _ _ n r parent new }
+        go (full new l notIn a) = record { room = le-antisymm (I .within) l; same = stays A notIn; needed = entries-unlisted S M _ _ n r parent new }
         go (known new notIn a) = known-no n e a
 
 -- a state made of two masks: same and dead as the masks are
