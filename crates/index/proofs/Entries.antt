@@ -24,7 +24,7 @@ use Rattle.index.specs.Appending.{isNew, Lists, answerOf, rowsAfter, isA
 use Rattle.index.specs.Entries.{Masks, rowOf, entriesOf, entries}
 use Rattle.index.proofs.Adding.{put-below, put-here, changed-true, changed-false}
 
-listed-snoc : (S : System) (es : List (Entry S)) (e : Entry S) (r : system.Row S) → listed S (es ++ (e ∷ [])) r ≡ (listed S es r || order.sameRow S (e .row) r)
+pub listed-snoc : (S : System) (es : List (Entry S)) (e : Entry S) (r : system.Row S) → listed S (es ++ (e ∷ [])) r ≡ (listed S es r || order.sameRow S (e .row) r)
 unfolding listed
 listed-snoc S [] e r = or-false (order.sameRow S (e .row) r)
 listed-snoc S (x ∷ es) e r = ap (λ t. order.sameRow S (x .row) r || t) (listed-snoc S es e r) ∙ sym (or-assoc (order.sameRow S (x .row) r) (listed S es r) (order.sameRow S (e .row) r))
