@@ -146,8 +146,21 @@ module _ {x y : Lists} {count n : ℕ} {r : Row} {parent : ℕ} {answer : Append
         links = (A .links ∙ changed-false _ _ _ e) k;
       }
 
-  indexed-at : (b : Bool) (m : ℕ) → isAdded x n r ≡ b → rowsAfter b n ≡ m → Indexed (y .packets) (y .left) (y .right) count m (y .heads) (y .links)
-  indexed-at b m e l = subst (λ k. Indexed (y .packets) (y .left) (y .right) count k (y .heads) (y .links)) (ap (λ t. rowsAfter t n) e ∙ l) (A .indexed)
+  full-is-no-count : {B : Type 0} (m : ℕ) → answer ≡ Full → answer ≡ Rows m → B
+  full-is-no-count m e a = let z : _≡_ {A = ℕ} 0 1 = cc in absurd (omega arith)
+
+  -- the index after the answer `Rows m`
+  pub appended-indexed : (m : ℕ) → answer ≡ Rows m → Indexed (y .packets) (y .left) (y .right) count m (y .heads) (y .links)
+  unfolding rowsAfter
+  appended-indexed m e = go (outcome A)
+    where
+      at : (b : Bool) → isAdded x n r ≡ b → rowsAfter b n ≡ m → Indexed (y .packets) (y .left) (y .right) count m (y .heads) (y .links)
+      at b isIn l = subst (λ k. Indexed (y .packets) (y .left) (y .right) count k (y .heads) (y .links)) (ap (λ t. rowsAfter t n) isIn ∙ l) (A .indexed)
+
+      go : Outcome x n r answer → Indexed (y .packets) (y .left) (y .right) count m (y .heads) (y .links)
+      go (added new l isIn a) = at true isIn (cc)
+      go (full new l notIn a) = full-is-no-count m a e
+      go (known new notIn a) = at false notIn (cc)
 
 -- the columns beyond the first m rows are as they were
 pub record Beyond (x y : Lists) (m : ℕ) : Type 0 where
@@ -207,11 +220,8 @@ module _ (S : System) (M : Masks S) (lawful : Lawful S) where
         (ap₂ (λ a b. record { row = a; parent = b } ∷ []) (row-same _ r (put-here (x .packets) (x .left) (x .right) n r (I .table) l))
         (getD-set-same (x .parents) n parent 0 (subst (λ m. n < m) (sym long) l)))
 
-    known-no : {A : Type 0} (m : ℕ) → answer ≡ Full → answer ≡ Rows m → A
-    known-no m e a = let z : _≡_ {A = ℕ} 0 1 = cc in absurd (omega arith)
-
     pub appended-rows : (m : ℕ) → answer ≡ Rows m → Grew S M x y count n m r parent
-    unfolding rowsAfter grown
+    unfolding grown
     appended-rows m e = go (outcome A)
       where
         go : Outcome x n r answer → Grew S M x y count n m r parent
@@ -220,17 +230,17 @@ module _ (S : System) (M : Masks S) (lawful : Lawful S) where
             let y-is : y ≡ grown x count n r parent = grows A isIn in
             record {
               entries = ap₂ (entriesIn S M) y-is m-is ∙ snoc l ∙ sym (entries-unlisted S M _ _ n r parent new);
-              indexed = indexed-at A true m isIn (sym m-is);
+              indexed = appended-indexed A m e;
               more = omega arith;
               beyond = subst (λ k. Beyond x y k) (sym m-is) (subst (λ z. Beyond x z (suc n)) (sym y-is) (beyond-grown x count n r parent));
             }
-        go (full new l notIn a) = known-no m a e
+        go (full new l notIn a) = full-is-no-count A m a e
         go (known new notIn a) =
             let m-is : m ≡ n = cc in
             let y-is : y ≡ x = stays A notIn in
             record {
               entries = ap₂ (entriesIn S M) y-is m-is ∙ sym (entries-listed S M _ _ n r parent new);
-              indexed = indexed-at A false m notIn (sym m-is);
+              indexed = appended-indexed A m e;
               more = omega arith;
               beyond = subst (λ z. Beyond x z m) (sym y-is) (record { packets = refl; left = refl; right = refl; parents = refl });
             }
@@ -239,9 +249,9 @@ module _ (S : System) (M : Masks S) (lawful : Lawful S) where
     appended-full e = go (outcome A)
       where
         go : Outcome x n r answer → Stuck S M x y n r parent
-        go (added new l isIn a) = known-no (suc n) e a
+        go (added new l isIn a) = full-is-no-count A (suc n) e a
         go (full new l notIn a) = record { room = le-antisymm (I .within) l; same = stays A notIn; needed = entries-unlisted S M _ _ n r parent new }
-        go (known new notIn a) = known-no n e a
+        go (known new notIn a) = full-is-no-count A n e a
 
 -- a state made of two masks: same and dead as the masks are
 pub pair-masks : (S : System) (state : ℕ → ℕ → S .State) → ((a b c d : ℕ) → S .same (state a b) (state c d) ≡ (eqb a c && eqb b d)) → ((a b : ℕ) → S .dead (state a b) ≡ (eqb a 0 && eqb b 0))
