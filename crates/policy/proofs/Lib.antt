@@ -9,7 +9,7 @@ pub mod TransportLaws
 pub mod Numbered
 pub mod FoldLaws
 pub mod Readings
-pub mod Legality
+pub mod LegalityLaws
 pub mod Postfix
 pub mod Nodes
 pub mod ReadLaws

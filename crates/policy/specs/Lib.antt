@@ -8,3 +8,4 @@ pub mod Visits
 pub mod Transport
 pub mod Folds
 pub mod AsLists
+pub mod Counting
