@@ -7,7 +7,9 @@ use mathlib.Core.Path.{_≡_}
 use lib.ListN.{length, getD, set}
 use Rattle.packet.specs.Lowest.{lowest, optionOf}
 use Rattle.policy.specs.declared.legality.DupCount.{DupCount}
-use Rattle.policy.specs.NodeLists.{NodeLists, nodeCount, dupsBelow}
+use Rattle.policy.specs.AsLists.{asLists}
+use Rattle.policy.specs.Each.{Each}
+use Rattle.policy.specs.NodeLists.{NodeLists, nodeCount, nodeOf, one, isDup, dupsBelow}
 use Rattle.policy.specs.Legality.{badChild, timesChild, tooManyDups}
 
 -- the three lists are equally long
@@ -30,7 +32,7 @@ withChildren counts (c ∷ cs) = withChildren (withChild counts c) cs
 
 -- each child has a place among the counts, and room for as many more as there are children
 pub record Countable (counts children : List ℕ) : Type 0 where
-  pub small : (c : ℕ) → getD children c 0 < 512
+  pub small : Each (λ c. c < 512) children
   pub room : (j : ℕ) → getD counts j 0 + length children ≤ 65535
 
 -- the counts of children among the first n nodes
@@ -38,7 +40,11 @@ pub record ChildCounts (L : NodeLists) (counts : List ℕ) (n : ℕ) : Type 0 wh
   pub long : length counts ≡ 512
   pub each : (j : ℕ) → j < 512 → getD counts j 0 ≡ timesChild L j n
 
--- the number of dups where it is not too many, and cause 9's place
-pub record DupCountOf (L : NodeLists) (d : DupCount) : Type 0 where
-  pub place : optionOf (d .extra) ≡ lowest (tooManyDups L) (nodeCount L)
-  pub count : optionOf (d .extra) ≡ none → d .count ≡ dupsBelow L (nodeCount L)
+-- 1 for a node of the kind dup, else 0
+pub record DupWeight (kind weight : ℕ) : Type 0 where
+  pub each : (a b : ℕ) → weight ≡ one (isDup (nodeOf kind a b))
+
+-- cause 9's place in the policies of these kinds, and the number of dups where it has none
+pub record DupCountOf (kind : List ℕ) (d : DupCount) : Type 0 where
+  pub place : (first second : List ℕ) → optionOf (d .extra) ≡ lowest (tooManyDups (asLists kind first second)) (length kind)
+  pub count : optionOf (d .extra) ≡ none → (first second : List ℕ) → d .count ≡ dupsBelow (asLists kind first second) (length kind)

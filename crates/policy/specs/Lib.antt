@@ -9,3 +9,4 @@ pub mod Transport
 pub mod Folds
 pub mod AsLists
 pub mod Counting
+pub mod Answers
