@@ -5,9 +5,9 @@ use mathlib.Core.List.{List, [], _∷_, _++_, map}
 use mathlib.Core.Option.{Option, none, some}
 use mathlib.Core.Path.{_≡_, refl, sym, ap, ap₂, subst, _∙_}
 use native.Mathlib.Omega.{arith}
-use lib.Dec.{ltb}
+use lib.ListN.{length}
 use borrow.Author.Tests.{lt-ltb, le-ltb}
-use Rattle.packet.specs.Lowest.{lowest}
+use Rattle.packet.specs.Lowest.{lowest, optionOf}
 use Rattle.packet.specs.Refusals.{refusal, refusedAt, atPlace, atZero, firstOf}
 use Rattle.packet.specs.Sizes.{fieldsStage, productStage, LegalSizes}
 use Rattle.packet.specs.declared.Refusal.{Refusal}
@@ -20,10 +20,12 @@ use Rattle.policy.specs.declared.legality.PolicyAnswer.{PolicyAnswer}
 use Rattle.policy.specs.declared.legality.PolicyAnswer.the-variants.{Legal as LegalPolicy, Refused as PolicyRefused}
 use Rattle.policy.specs.declared.legality.PairAnswer.{PairAnswer}
 use Rattle.policy.specs.declared.legality.PairAnswer.the-variants.{Legal as LegalPair, Refused as PairRefused}
+use Rattle.policy.specs.declared.legality.DupCount.{DupCount}
+use Rattle.policy.specs.AsLists.{asLists}
 use Rattle.policy.specs.Each.{Each}
-use Rattle.policy.specs.NodeLists.{NodeLists, nodeCount}
-use Rattle.policy.specs.Legality.{badLengths, badKind, badEntries, badChild, Sided, cause, policiesStage, Legal}
-use Rattle.policy.specs.Counting.{SameLengths, CountableChildren}
+use Rattle.policy.specs.NodeLists.{NodeLists, nodeCount, dupsBelow}
+use Rattle.policy.specs.Legality.{badLengths, badKind, badEntries, badChild, notOnce, Sided, cause, policiesStage, Legal}
+use Rattle.policy.specs.Counting.{SameLengths, CountableChildren, DupCountOf}
 use Rattle.policy.specs.Answers.{sided, policyTests, pairTests, policyAnswer, pairAnswer, nodesStage, treeStage, earlierIf, earlier, both}
 use Rattle.policy.proofs.LegalityLaws.{Cause, causes, Lengths, lengths, stage-passes}
 
@@ -207,6 +209,58 @@ module _ (sizes : List ℕ) (side : ℕ) (L : NodeLists) where
     below = lowest-none (badChild L) (nodeCount L)
       (refusedAt-passed 7 side _ (firstOf-passed _ _ (firstOf-passed _ _ (firstOf-passed _ _ f .1) .1) .0));
   }
+
+  -- the answers from the tests as they were made
+  pub lengths-tested : {t u : Tested} {x : Option ℕ} → t ≡ refusedAt 4 side x → x ≡ atZero (badLengths L) → t ≡ u → lengthsTest ≡ u
+  lengths-tested e f g = sym (e ∙ ap (refusedAt 4 side) f) ∙ g
+
+  pub lengths-answer : (d : ℕ) (r : Refusal) → lengthsTest ≡ Refused r → PolicyRefused r ≡ policyAnswer (policiesStage sizes (sided side L ∷ [])) d
+  unfolding policyAnswer
+  lengths-answer d r e = sym (ap (λ (t : Tested). policyAnswer t d) (lengths-refused r e))
+
+  pub nodes-answer : (d : ℕ) (r : Refusal) → lengthsTest ≡ Passed → nodesStage sizes side L ≡ Refused r
+      → PolicyRefused r ≡ policyAnswer (policiesStage sizes (sided side L ∷ [])) d
+  unfolding policyAnswer
+  nodes-answer d r e f = sym (ap (λ (t : Tested). policyAnswer t d) (nodes-refused r e f))
+
+  pub tree-answer : (d : ℕ) {q : PolicyAnswer} → lengthsTest ≡ Passed → nodesStage sizes side L ≡ Passed → q ≡ policyAnswer (treeStage side L) d
+      → q ≡ policyAnswer (policiesStage sizes (sided side L ∷ [])) d
+  tree-answer d e f g = g ∙ sym (ap (λ (t : Tested). policyAnswer t d) (nodes-passed e f))
+
+-- causes 5 to 7, cause by cause
+pub nodes-joined : (sizes kind first second : List ℕ) (side : ℕ) {k e b i r : Tested} {x y z : Option ℕ}
+    → k ≡ refusedAt 5 side x → x ≡ lowest (badKind (asLists kind [] [])) (length kind)
+    → e ≡ refusedAt 6 side y → y ≡ lowest (badEntries sizes (asLists kind first second)) (length kind)
+    → b ≡ refusedAt 7 side z → z ≡ lowest (badChild (asLists kind first second)) (length kind)
+    → i ≡ firstOf (e ∷ b ∷ []) → r ≡ firstOf (k ∷ i ∷ []) → r ≡ nodesStage sizes side (asLists kind first second)
+unfolding nodesStage badKind nodeCount
+nodes-joined sizes kind first second side {k} {e} {b} kinds kind-at entries entry-at below below-at inner outer =
+    outer
+    ∙ ap (λ (i : Tested). firstOf (k ∷ i ∷ [])) inner
+    ∙ firstOf-nested k (e ∷ b ∷ [])
+    ∙ ap (λ (k : Tested). firstOf (k ∷ e ∷ b ∷ [])) (kinds ∙ ap (refusedAt 5 side) kind-at)
+    ∙ ap₂ (λ (e b : Tested). firstOf (refusedAt 5 side (lowest (badKind (asLists kind first second)) (length kind)) ∷ e ∷ b ∷ []))
+      (entries ∙ ap (refusedAt 6 side) entry-at) (below ∙ ap (refusedAt 7 side) below-at)
+
+-- causes 8 and 9, with the number of dups
+module _ (kind first second : List ℕ) (side : ℕ) {o n t : Tested} {x : Option ℕ} (d : DupCount)
+    (once : o ≡ refusedAt 8 side x) (once-at : x ≡ lowest (notOnce (asLists kind first second)) (pred (length kind)))
+    (counted : DupCountOf kind d) (extra : n ≡ refusedAt 9 side (optionOf (d .extra))) (joined : t ≡ firstOf (o ∷ n ∷ [])) where
+  tree-joined : t ≡ treeStage side (asLists kind first second)
+  unfolding treeStage nodeCount
+  tree-joined =
+      joined
+      ∙ ap₂ (λ (o n : Tested). firstOf (o ∷ n ∷ [])) (once ∙ ap (refusedAt 8 side) once-at) (extra ∙ ap (refusedAt 9 side) (counted .place first second))
+
+  pub tree-refused : (m : ℕ) (r : Refusal) → t ≡ Refused r → PolicyRefused r ≡ policyAnswer (treeStage side (asLists kind first second)) m
+  unfolding policyAnswer
+  tree-refused m r e = sym (ap (λ (t : Tested). policyAnswer t m) (sym tree-joined ∙ e))
+
+  pub tree-passed : t ≡ Passed → LegalPolicy (d .count) ≡ policyAnswer (treeStage side (asLists kind first second)) (dupsBelow (asLists kind first second) (length kind))
+  unfolding policyAnswer
+  tree-passed e =
+      let none-over = refusedAt-passed 9 side _ (sym extra ∙ firstOf-passed _ _ (firstOf-passed _ _ (sym joined ∙ e) .1) .0) in
+      sym (ap₂ policyAnswer (sym tree-joined ∙ e) (sym (counted .count none-over first second)))
 
 -- ---- the sizes before the policies
 
