@@ -207,7 +207,7 @@ module _ (sizes : List ℕ) (side : ℕ) (L : NodeLists) where
     same = same-lengths e;
     few = lengths-known e .few;
     below = lowest-none (badChild L) (nodeCount L)
-      (refusedAt-passed 7 side _ (firstOf-passed _ _ (firstOf-passed _ _ (firstOf-passed _ _ f .1) .1) .0));
+        (refusedAt-passed 7 side _ (firstOf-passed _ _ (firstOf-passed _ _ (firstOf-passed _ _ f .1) .1) .0));
   }
 
   -- the answers from the tests as they were made
@@ -240,7 +240,7 @@ nodes-joined sizes kind first second side {k} {e} {b} kinds kind-at entries entr
     ∙ firstOf-nested k (e ∷ b ∷ [])
     ∙ ap (λ (k : Tested). firstOf (k ∷ e ∷ b ∷ [])) (kinds ∙ ap (refusedAt 5 side) kind-at)
     ∙ ap₂ (λ (e b : Tested). firstOf (refusedAt 5 side (lowest (badKind (asLists kind first second)) (length kind)) ∷ e ∷ b ∷ []))
-      (entries ∙ ap (refusedAt 6 side) entry-at) (below ∙ ap (refusedAt 7 side) below-at)
+    (entries ∙ ap (refusedAt 6 side) entry-at) (below ∙ ap (refusedAt 7 side) below-at)
 
 -- causes 8 and 9, with the number of dups
 module _ (kind first second : List ℕ) (side : ℕ) {o n t : Tested} {x : Option ℕ} (d : DupCount)

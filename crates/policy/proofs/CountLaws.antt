@@ -66,7 +66,7 @@ unfolding withChildren Each occurrences
 with-children-at [] counts j e = omega arith
 with-children-at (c ∷ cs) counts j e =
     let rest : Each (λ d. d < length (withChild counts c)) cs =
-        each-map (λ d. d < length counts) (λ d. d < length (withChild counts c)) cs (λ d h. omega (arith, with-child-length counts c)) (e .1) in
+    each-map (λ d. d < length counts) (λ d. d < length (withChild counts c)) cs (λ d h. omega (arith, with-child-length counts c)) (e .1) in
     omega (arith, with-children-at cs (withChild counts c) j rest, with-child-at counts c j (e .0))
 
 -- ---- the children of one node

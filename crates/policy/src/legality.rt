@@ -13,8 +13,8 @@ ghost use Rattle.policy.specs.NodeLists.{children, dupsBelow};
 ghost use Rattle.policy.specs.Legality.{badLengths, badKind, badField, used, wrongEntries, badEntries, someNotBelow, badChild, notOnce, policiesStage};
 ghost use Rattle.policy.specs.Counting.{SameLengths, CountableChildren, ChildCounts, Countable, withChild, withChildren, DupWeight, DupCountOf};
 ghost use Rattle.policy.specs.Answers.{sided, nodesStage, treeStage, policyAnswer, policyTests, both, pairAnswer, pairTests};
-use crate::lent::node_at;
 use crate::Node;
+use crate::lent::node_at;
 use packet::Counted;
 use packet::Place;
 use packet::Refusal;
@@ -307,7 +307,13 @@ fn tree_tested(side: u8, kind: &[u8], first: &[u16], second: &[u16]) -> PolicyAn
 }
 
 // Stage "policies" of one policy.
-fn policy_tested(sizes: &[u16], side: u8, kind: &[u8], first: &[u16], second: &[u16]) -> PolicyAnswer
+fn policy_tested(
+    sizes: &[u16],
+    side: u8,
+    kind: &[u8],
+    first: &[u16],
+    second: &[u16],
+) -> PolicyAnswer
     ensures { λ r. ⌜ r ≡ policyAnswer (policiesStage (now (sizes .entry)) (sided side (asLists (now (kind .entry)) (now (first .entry)) (now (second .entry))) ∷ [])) (dupsBelow (asLists (now (kind .entry)) (now (first .entry)) (now (second .entry))) (length (now (kind .entry)))) ⌝ }
 {
     match packet::refused_at(4, side, bad_lengths(kind, first, second)) {
@@ -351,11 +357,22 @@ fn both_tested(left: PolicyAnswer, right: PolicyAnswer) -> PairAnswer
 }
 
 // Whether the lists are two legal policies over fields of these sizes: causes 1 to 9, sides 1 and 2.
-pub fn pair_legality(sizes: &[u16], left_kind: &[u8], left_first: &[u16], left_second: &[u16], right_kind: &[u8], right_first: &[u16], right_second: &[u16]) -> PairAnswer
+pub fn pair_legality(
+    sizes: &[u16],
+    left_kind: &[u8],
+    left_first: &[u16],
+    left_second: &[u16],
+    right_kind: &[u8],
+    right_first: &[u16],
+    right_second: &[u16],
+) -> PairAnswer
     ensures { λ r. ⌜ r ≡ pairAnswer (pairTests (now (sizes .entry)) (asLists (now («left_kind» .entry)) (now («left_first» .entry)) (now («left_second» .entry))) (asLists (now («right_kind» .entry)) (now («right_first» .entry)) (now («right_second» .entry)))) (dupsBelow (asLists (now («left_kind» .entry)) (now («left_first» .entry)) (now («left_second» .entry))) (length (now («left_kind» .entry)))) (dupsBelow (asLists (now («right_kind» .entry)) (now («right_first» .entry)) (now («right_second» .entry))) (length (now («right_kind» .entry)))) ⌝ }
 {
     match sizes_tested(sizes) {
         Tested::Refused(r) => PairAnswer::Refused(r),
-        Tested::Passed => both_tested(policy_tested(sizes, 1, left_kind, left_first, left_second), policy_tested(sizes, 2, right_kind, right_first, right_second)),
+        Tested::Passed => both_tested(
+            policy_tested(sizes, 1, left_kind, left_first, left_second),
+            policy_tested(sizes, 2, right_kind, right_first, right_second),
+        ),
     }
 }
