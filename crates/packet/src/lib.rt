@@ -3,7 +3,8 @@ ghost use mathlib.Core.Path.{_≡_};
 ghost use Prim.Native.Nat.{_<_};
 ghost use lib.ListN.{length};
 ghost use Rattle.packet.specs.Lowest.{lowest, optionOf};
-ghost use Rattle.packet.specs.Refusals.{refusedAt};
+ghost use mathlib.Core.List.{[], _∷_};
+ghost use Rattle.packet.specs.Refusals.{refusedAt, firstOf};
 ghost use Rattle.packet.specs.Sizes.{zeroSize, fieldsStage, packetCount, LegalSizes};
 ghost use Rattle.packet.specs.Packets.{stride};
 
@@ -121,4 +122,14 @@ pub fn stride_of(sizes: &[u16], field: usize) -> u16
         stride *= sizes[i];
     }
     stride
+}
+
+// Inner: the first of two tests that refuses.
+pub fn first_of(a: Tested, b: Tested) -> Tested
+    ensures { λ r. ⌜ r ≡ firstOf (a ∷ b ∷ []) ⌝ }
+{
+    match a {
+        Tested::Refused(r) => Tested::Refused(r),
+        Tested::Passed => b,
+    }
 }

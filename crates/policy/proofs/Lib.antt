@@ -8,7 +8,10 @@ pub mod TransportLaws
 pub mod Numbered
 pub mod FoldLaws
 pub mod Readings
-pub mod Legality
+pub mod LegalityLaws
 pub mod Postfix
 pub mod Nodes
 pub mod ReadLaws
+pub mod CauseLaws
+pub mod CountLaws
+pub mod AnswerLaws

@@ -22,7 +22,7 @@ use Rattle.policy.specs.Each.{Each}
 use Rattle.policy.specs.Visits.{labels}
 use Rattle.policy.specs.Transport.{EachAction}
 use Rattle.policy.proofs.EachLaws.{each-append, each-at, below-each}
-use Rattle.policy.proofs.Legality.{Lengths, lengths}
+use Rattle.policy.proofs.LegalityLaws.{Lengths, lengths}
 use Rattle.policy.proofs.Numbered.{each-action}
 use Rattle.policy.proofs.Postfix.{size-positive, Stands, here, reads-back, inside, inside-in, inside-le, counts, stands-below, stands-dups}
 

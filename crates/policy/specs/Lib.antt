@@ -8,3 +8,5 @@ pub mod Visits
 pub mod Transport
 pub mod Folds
 pub mod AsLists
+pub mod Counting
+pub mod Answers

@@ -80,10 +80,10 @@ module _ (L : NodeLists) where
       omega (arith, last-no-child below j k (omega arith) (omega arith), no-child L below j k h (omega arith))
 
 -- a cause's number, and its place in a policy
-abbrev Cause : Type 0
+abbrev pub Cause : Type 0
 Cause = ℕ × (NodeLists → Option ℕ)
 
-causes : List ℕ → List Cause
+unfoldable pub causes : List ℕ → List Cause
 causes sizes =
     (4, λ L. atZero (badLengths L))
     ∷ (5, λ L. lowest (badKind L) (nodeCount L))
