@@ -90,6 +90,75 @@ pub fn scan_short(input: &[u8], from: usize) -> Short
     }
 }
 
+// A list of the input long enough for a policy with more nodes than are legal: its length, at most 520, then its
+// numbers; and the place behind them.
+pub struct Long {
+    pub numbers: [u16; 520],
+    pub count: usize,
+    pub at: usize,
+}
+
+pub fn scan_long(input: &[u8], from: usize) -> Long
+    ensures { λ r. ⌜ (r .count ≤ 520) × (520 ≡ length (r .numbers)) ⌝ }
+{
+    let wanted = scan(input, from);
+    let mut at = wanted.at;
+    let mut numbers = [0u16; 520];
+    let mut i: usize = 0;
+    while i < 520 {
+        if wanted.value <= i as u32 {
+            return Long {
+                numbers,
+                count: i,
+                at,
+            };
+        }
+        let s = scan(input, at);
+        numbers[i] = (s.value % 65536) as u16;
+        at = s.at;
+        i += 1;
+    }
+    Long {
+        numbers,
+        count: 520,
+        at,
+    }
+}
+
+// The same of numbers of 8 bits.
+pub struct LongBytes {
+    pub numbers: [u8; 520],
+    pub count: usize,
+    pub at: usize,
+}
+
+pub fn scan_long_bytes(input: &[u8], from: usize) -> LongBytes
+    ensures { λ r. ⌜ (r .count ≤ 520) × (520 ≡ length (r .numbers)) ⌝ }
+{
+    let wanted = scan(input, from);
+    let mut at = wanted.at;
+    let mut numbers = [0u8; 520];
+    let mut i: usize = 0;
+    while i < 520 {
+        if wanted.value <= i as u32 {
+            return LongBytes {
+                numbers,
+                count: i,
+                at,
+            };
+        }
+        let s = scan(input, at);
+        numbers[i] = (s.value % 256) as u8;
+        at = s.at;
+        i += 1;
+    }
+    LongBytes {
+        numbers,
+        count: 520,
+        at,
+    }
+}
+
 pub fn wide(x: u16) -> u64
     ensures { λ r. ⌜ r ≡ x ⌝ }
 {

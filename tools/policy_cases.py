@@ -1,0 +1,235 @@
+#!/usr/bin/env python3
+"""Writes the input and the expected output of the program policy_cases, worked out from document 01, "Policies" and
+"Causes, in the order tested".
+
+    tools/policy_cases.py            write crates/policy_cases/stdin and stdout
+    tools/policy_cases.py --check    compare them with what is stored
+"""
+import random
+import sys
+
+from stored import store
+
+DROP, ID, EQ, NE, SET, DUP, SUM, SEQ, STAR = range(9)
+
+
+def size_refusal(sizes):
+    """Causes 1 to 3."""
+    if not 1 <= len(sizes) <= 8:
+        return (1, 0, 0)
+    for field, size in enumerate(sizes):
+        if size == 0:
+            return (2, 0, field)
+    count = 1
+    for field, size in enumerate(sizes):
+        count *= size
+        if count > 1024:
+            return (3, 0, field)
+    return None
+
+
+def children(kind, first, second):
+    return {SUM: [first, second], SEQ: [first, second], STAR: [first]}.get(kind, [])
+
+
+def lengths(sizes, kind, first, second):
+    good = len(kind) == len(first) == len(second) and 1 <= len(kind) <= 512
+    return None if good else 0
+
+
+def kinds(sizes, kind, first, second):
+    return next((i for i, k in enumerate(kind) if k > 8), None)
+
+
+def entries(sizes, kind, first, second):
+    for i, (k, a, b) in enumerate(zip(kind, first, second)):
+        if k in (EQ, NE, SET):
+            if a >= len(sizes) or b >= sizes[a]:
+                return i
+        elif k in (DROP, ID, DUP):
+            if a or b:
+                return i
+        elif k == STAR and b:
+            return i
+    return None
+
+
+def below(sizes, kind, first, second):
+    for i, node in enumerate(zip(kind, first, second)):
+        if any(c >= i for c in children(*node)):
+            return i
+    return None
+
+
+def once(sizes, kind, first, second):
+    parents = [0] * len(kind)
+    for node in zip(kind, first, second):
+        for c in children(*node):
+            parents[c] += 1
+    return next((i for i, n in enumerate(parents[:-1]) if n != 1), None)
+
+
+def few_dups(sizes, kind, first, second):
+    places = [i for i, k in enumerate(kind) if k == DUP]
+    return places[31] if len(places) > 31 else None
+
+
+def answer(sizes, policies):
+    refused = size_refusal(sizes)
+    if refused:
+        return "refused %d %d %d" % refused
+    for number, cause in ((4, lengths), (5, kinds), (6, entries), (7, below), (8, once), (9, few_dups)):
+        for side, policy in enumerate(policies, 1):
+            place = cause(sizes, *policy)
+            if place is not None:
+                return "refused %d %d %d" % (number, side if len(policies) > 1 else 0, place)
+    return "legal" + "".join(" %d" % policy[0].count(DUP) for policy in policies)
+
+
+def lists(nodes):
+    return tuple(list(column) for column in zip(*nodes)) if nodes else ([], [], [])
+
+
+def chain(leaves, join=SEQ):
+    """The leaves joined to the left, in postfix order."""
+    nodes = [leaves[0]]
+    for leaf in leaves[1:]:
+        last = len(nodes) - 1
+        nodes += [leaf, (join, last, last + 1)]
+    return nodes
+
+
+def stars(count):
+    """A leaf under stars, so many nodes in all."""
+    return [(ID, 0, 0)] + [(STAR, i, 0) for i in range(count - 1)]
+
+
+def leaf(rng, sizes):
+    kind = rng.choice((DROP, ID, EQ, NE, SET, DUP))
+    if kind in (EQ, NE, SET):
+        field = rng.randrange(len(sizes))
+        return (kind, field, rng.randrange(sizes[field]))
+    return (kind, 0, 0)
+
+
+def legal(rng, sizes, leaves):
+    """A legal policy with its nodes in any order that keeps children below parents."""
+    nodes, roots = [], []
+    left = leaves
+    while left or len(roots) > 1:
+        choice = rng.random()
+        if left and (len(roots) < 2 or choice < 0.4):
+            nodes.append(leaf(rng, sizes))
+            left -= 1
+        elif choice < 0.5:
+            nodes.append((STAR, roots.pop(rng.randrange(len(roots))), 0))
+        else:
+            a = roots.pop(rng.randrange(len(roots)))
+            b = roots.pop(rng.randrange(len(roots)))
+            nodes.append((rng.choice((SUM, SEQ)), a, b))
+        roots.append(len(nodes) - 1)
+    return nodes
+
+
+def damaged(rng, policy):
+    """One or two entries changed, or a list cut or grown."""
+    policy = tuple(list(column) for column in policy)
+    for _ in range(rng.choice((1, 1, 2))):
+        column = policy[rng.randrange(3)]
+        if rng.random() < 0.1:
+            if rng.random() < 0.5 or not column:
+                column.append(0)
+            else:
+                column.pop()
+        elif column:
+            top = 10 if column is policy[0] else rng.choice((3, len(column) + 2, 65536))
+            column[rng.randrange(len(column))] = rng.randrange(top)
+    return policy
+
+
+def edges():
+    sizes = [2, 3]
+    good = lists([(ID, 0, 0)])
+    for count in (1, 2, 512, 513):
+        yield sizes, [lists(stars(count))]
+    yield sizes, [lists(chain([(DUP, 0, 0)] * 31))]
+    yield sizes, [lists(chain([(DUP, 0, 0)] * 32))]
+    yield sizes, [lists(chain([(DUP, 0, 0)] * 33, SUM))]
+    yield sizes, [lists([(DUP, 0, 0), (SUM, 0, 0)])]
+    yield sizes, [lists([(ID, 0, 0), (ID, 0, 0), (SEQ, 1, 1)])]
+    yield sizes, [lists([(ID, 0, 0), (STAR, 0, 1)])]
+    yield sizes, [lists([(ID, 0, 0), (ID, 0, 0)])]
+    for kind in (EQ, NE, SET):
+        for field, value in ((0, 1), (0, 2), (1, 2), (1, 3), (2, 0), (65535, 65535)):
+            yield sizes, [lists([(kind, field, value)])]
+    for kind in (DROP, ID, DUP):
+        for a, b in ((0, 0), (1, 0), (0, 1)):
+            yield sizes, [lists([(kind, a, b)])]
+    for kind in range(5, 12):
+        yield sizes, [lists([(kind, 0, 0)])]
+    yield sizes, [lists([(255, 0, 0)])]
+    yield sizes, [([], [], [])]
+    for policy in (([1], [0], []), ([1], [], [0]), ([], [0], [0]), ([1, 1], [0], [0]), ([1], [0, 0], [0, 0])):
+        yield sizes, [policy]
+        yield sizes, [good, policy]
+        yield sizes, [policy, good]
+    # children in no postfix order
+    yield sizes, [lists([(ID, 0, 0), (DUP, 0, 0), (DROP, 0, 0), (SUM, 2, 0), (SEQ, 1, 3)])]
+    yield sizes, [lists([(ID, 0, 0), (DUP, 0, 0), (STAR, 0, 0), (STAR, 1, 0), (SUM, 3, 2)])]
+    # of two bad nodes the lower, of two causes the earlier, of two sides the left
+    bad = {
+        4: ([1], [0], []),
+        5: lists([(ID, 0, 0), (9, 0, 0), (10, 0, 0)]),
+        6: lists([(EQ, 0, 1), (EQ, 0, 2), (EQ, 2, 0)]),
+        7: lists([(ID, 0, 0), (STAR, 1, 0), (STAR, 2, 0)]),
+        8: lists([(ID, 0, 0), (ID, 0, 0), (ID, 0, 0), (STAR, 2, 0)]),
+        9: lists(chain([(DUP, 0, 0)] * 32)),
+    }
+    for left in bad:
+        yield sizes, [bad[left]]
+        yield sizes, [bad[left], good]
+        yield sizes, [good, bad[left]]
+        for right in bad:
+            yield sizes, [bad[left], bad[right]]
+    yield sizes, [lists([(9, 1, 1), (STAR, 5, 1), (EQ, 9, 9)])]
+    yield sizes, [lists([(STAR, 5, 1), (EQ, 9, 9), (9, 1, 1)])]
+    yield sizes, [lists([(STAR, 5, 0), (EQ, 9, 9)])]
+    # causes 1 to 3 come first
+    for odd in ([], [1] * 9, [0], [2, 0], [1025], [32, 33], [5, 205], [1024], [1] * 8):
+        yield odd, [good]
+        yield odd, [bad[4]]
+        yield odd, [good, bad[5]]
+
+
+def cases():
+    yield from edges()
+    rng = random.Random(20261115)
+    for _ in range(90):
+        sizes = [rng.randint(1, 4) for _ in range(rng.randint(1, 3))]
+        one = lists(legal(rng, sizes, rng.randint(1, 7)))
+        two = lists(legal(rng, sizes, rng.randint(1, 7)))
+        yield sizes, [one]
+        yield sizes, [damaged(rng, one)]
+        yield sizes, [one, damaged(rng, two)]
+        yield sizes, [damaged(rng, one), damaged(rng, two)]
+    for _ in range(8):
+        sizes = [4, 4]
+        yield sizes, [lists(legal(rng, sizes, 40))]
+
+
+def spread(xs):
+    return "".join(" %d" % x for x in [len(xs)] + xs)
+
+
+def main():
+    given, expected = [], []
+    for sizes, policies in cases():
+        given.append("%d%s" % (len(policies), spread(sizes) + "".join(spread(column) for policy in policies for column in policy)))
+        expected.append(answer(sizes, policies))
+    if sum(len(line) + 1 for line in given) > 65536:
+        sys.exit("the cases are longer than the program reads")
+    store("policy_cases", given, expected, sys.argv[1:] == ["--check"])
+
+
+if __name__ == "__main__":
+    main()
