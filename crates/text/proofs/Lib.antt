@@ -1,1 +1,3 @@
 mod Examples
+pub mod Below
+pub mod ByteLaws

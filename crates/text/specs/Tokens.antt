@@ -121,8 +121,9 @@ module _ (names : List (List ℕ)) where
   placedFrom (suc over) at (b ∷ bs) = placedFrom over (suc at) bs
   placedFrom zero at (b ∷ bs) =
       elim (isBlank b) [
-        true ↦ placedFrom zero (suc at) bs
-      | false ↦ record { token = frontToken names b bs; start = at } ∷ placedFrom (restOfToken b bs) (suc at) bs ]
+        | true ↦ placedFrom zero (suc at) bs
+        | false ↦ record { token = frontToken names b bs; start = at } ∷ placedFrom (restOfToken b bs) (suc at) bs
+      ]
 
   -- the tokens of a text from a byte on at which no token is cut
   unfoldable pub tokensFrom : List ℕ → ℕ → List Placed
