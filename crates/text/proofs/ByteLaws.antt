@@ -8,7 +8,7 @@ use Rattle.text.specs.Tokens.{singleMark, beginsDouble}
 use Rattle.text.specs.Kinds.{classOf, kindOf}
 use Rattle.text.proofs.Below.{below}
 
-beq-true : (a b : Bool) → T (Bool·beq a b) → a ≡ b
+pub beq-true : (a b : Bool) → T (Bool·beq a b) → a ≡ b
 beq-true true true t = refl
 beq-true true false t = absurd t
 beq-true false true t = absurd t

@@ -1,3 +1,5 @@
 mod Examples
 pub mod Below
 pub mod ByteLaws
+pub mod WordLaws
+pub mod TokenLaws

@@ -4,3 +4,4 @@ pub mod Kinds
 pub mod Grammar
 pub mod Reading
 pub mod Answer
+pub mod Inner
