@@ -9,8 +9,8 @@ use Rattle.policy.specs.Tree.{Policy, drop, id, dup, sum, seq, star}
 use Rattle.policy.specs.Tree
 use Rattle.policy.specs.NodesOfTree.{treeSize}
 use Rattle.policy.specs.declared.FieldAction.the-variants.{Equals, Differs, Set}
-use Rattle.text.specs.declared.Read.{Read}
-use Rattle.text.specs.declared.Read.the-variants.{Nodes, Refused}
+use Rattle.text.specs.declared.Answer.{Answer}
+use Rattle.text.specs.declared.Answer.the-variants.{Nodes, Refused}
 use Rattle.text.specs.Bytes.{isBlank, isLetter, isDigit, inWord}
 use Rattle.text.specs.Tokens.{sameWord, allDigits, decimal, leadingZero, isNumber, numberToken, fieldToken, fieldNamed, wordToken, singleMark, doubleMark, beginsDouble, markToken, wordOf, frontToken, isBad, restOfToken, placedFrom, tokensFrom, tokens, fieldNames}
 use Rattle.text.specs.Grammar.{constantPolicy, fieldAction}
@@ -22,7 +22,7 @@ unfoldable pub readingOf : List ℕ → Outcome
 unfolding outcome tokens tokensFrom placedFrom restOfToken isBad frontToken wordOf markToken beginsDouble doubleMark singleMark wordToken fieldNamed fieldToken numberToken isNumber leadingZero decimal allDigits sameWord isBlank isLetter isDigit inWord fieldNames lowest orAt constantPolicy fieldAction nothing joinSequence joinSum upTo whole start close step finish readOn
 readingOf text = outcome fieldNames text
 
-unfoldable pub answerOf : List ℕ → ℕ → Read
+unfoldable pub answerOf : List ℕ → ℕ → Answer
 unfolding readingOf badPlace openAfter deepPlace stopPlace treeRead tooMany answered textTree tested answerTo refusedAt firstOf treeSize
 answerOf text room = answerTo fieldNames text room
 

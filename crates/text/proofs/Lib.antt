@@ -3,3 +3,6 @@ pub mod Below
 pub mod ByteLaws
 pub mod WordLaws
 pub mod TokenLaws
+pub mod ReadLaws
+pub mod PutLaws
+pub mod StepLaws

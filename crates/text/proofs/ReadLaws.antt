@@ -1,5 +1,5 @@
 -- Steps of the reading, by the kind of the token at the front.
-use Prim.Native.Nat.{ℕ, zero, suc}
+use Prim.Native.Nat.{ℕ, zero, suc, _<_}
 use native.Mathlib.Omega.{arith}
 use mathlib.Core.List.{List, [], _∷_}
 use mathlib.Core.Option.{Option, none, some}
@@ -62,11 +62,54 @@ token-of asterisk = refl
 token-of opening = refl
 token-of closing = refl
 
-pub constant-small : (c : Constant) → constantKind c Prim.Native.Nat.≤ 5
+constant-token : (t : Token) → kindOf t ≡ 2 → (c : Constant) × (valueOf t ≡ constantKind c) × (constantOf (valueOf t) ≡ c)
+unfolding kindOf valueOf
+constant-token bad e = absurd (omega arith)
+constant-token (constant c) e = (c, refl, constant-of c)
+constant-token (field f) e = absurd (omega arith)
+constant-token (number n) e = absurd (omega arith)
+constant-token (comparison c) e = absurd (omega arith)
+constant-token plus e = absurd (omega arith)
+constant-token semicolon e = absurd (omega arith)
+constant-token asterisk e = absurd (omega arith)
+constant-token opening e = absurd (omega arith)
+constant-token closing e = absurd (omega arith)
+
+comparison-token : (t : Token) → kindOf t ≡ 5 → (c : Comparison) × (valueOf t ≡ comparisonKind c) × (comparisonOf (valueOf t) ≡ c)
+unfolding kindOf valueOf
+comparison-token bad e = absurd (omega arith)
+comparison-token (constant c) e = absurd (omega arith)
+comparison-token (field f) e = absurd (omega arith)
+comparison-token (number n) e = absurd (omega arith)
+comparison-token (comparison c) e = (c, refl, comparison-of c)
+comparison-token plus e = absurd (omega arith)
+comparison-token semicolon e = absurd (omega arith)
+comparison-token asterisk e = absurd (omega arith)
+comparison-token opening e = absurd (omega arith)
+comparison-token closing e = absurd (omega arith)
+
+-- the constant, or the comparison, whose number is the front token's value
+pub constant-at : (ts : List Placed) → kindAt ts ≡ 2 → (c : Constant) × (valueAt ts ≡ constantKind c) × (constantOf (valueAt ts) ≡ c)
+unfolding kindAt valueAt
+constant-at [] e = absurd (omega arith)
+constant-at (t ∷ ts) e = constant-token (t .token) e
+
+pub comparison-at : (ts : List Placed) → kindAt ts ≡ 5 → (c : Comparison) × (valueAt ts ≡ comparisonKind c) × (comparisonOf (valueAt ts) ≡ c)
+unfolding kindAt valueAt
+comparison-at [] e = absurd (omega arith)
+comparison-at (t ∷ ts) e = comparison-token (t .token) e
+
+pub constant-small : (c : Constant) → constantKind c < 256
 unfolding constantKind
 constant-small dropped = omega arith
 constant-small passed = omega arith
 constant-small recorded = omega arith
+
+pub comparison-small : (c : Comparison) → comparisonKind c < 256
+unfolding comparisonKind
+comparison-small equals = omega arith
+comparison-small differs = omega arith
+comparison-small assigned = omega arith
 
 module _ (end : ℕ) where
   -- the tokens by the numbers of the one at the front
@@ -171,11 +214,104 @@ module _ (end : ℕ) where
     unfolding readOn step close whole upTo joinSum joinSequence nothing
     at-closing p ts e = ap (readOn end (has nothing (b ∷ cs) p)) (front-at 10 ts e (λ q. omega arith))
 
-  -- after a sum in parentheses only ) can stand, if no *, ; or + does
-  pub open-stops : (b : Before) (cs : List Before) (p : Policy) (ts : List Placed) → (kindAt ts ≡ 10 → ⊥) → (kindAt ts ≡ 8 → ⊥) → (kindAt ts ≡ 7 → ⊥) → (kindAt ts ≡ 6 → ⊥) → readOn end (has nothing (b ∷ cs) p) ts ≡ stop (placeAt end ts)
+  has-none : (b : Before) (cs : List Before) (p : Policy) (t : Token) → (kindOf t ≡ 10 → ⊥) → (kindOf t ≡ 8 → ⊥) → (kindOf t ≡ 7 → ⊥) → (kindOf t ≡ 6 → ⊥) → step (has b cs p) t ≡ none
+  unfolding step kindOf
+  has-none b cs p bad w x y z = refl
+  has-none b cs p (constant c) w x y z = refl
+  has-none b cs p (field g) w x y z = refl
+  has-none b cs p (number n) w x y z = refl
+  has-none b cs p (comparison c) w x y z = refl
+  has-none b cs p plus w x y z = absurd (z refl)
+  has-none b cs p semicolon w x y z = absurd (y refl)
+  has-none b cs p asterisk w x y z = absurd (x refl)
+  has-none b cs p opening w x y z = refl
+  has-none b cs p closing w x y z = absurd (w refl)
+
+  -- inside parentheses only ) can stand after a sum
+  pub open-stops : (b c : Before) (cs : List Before) (p : Policy) (ts : List Placed) → (kindAt ts ≡ 10 → ⊥) → (kindAt ts ≡ 8 → ⊥) → (kindAt ts ≡ 7 → ⊥) → (kindAt ts ≡ 6 → ⊥)
+      → readOn end (has b (c ∷ cs) p) ts ≡ stop (placeAt end ts)
   unfolding kindAt placeAt readOn finish
-  open-stops b cs p [] w x y z = refl
-  open-stops b cs p (t ∷ ts) w x y z = stops (has nothing (b ∷ cs) p) t ts (go (t .token) w x y z)
+  open-stops b c cs p [] w x y z = refl
+  open-stops b c cs p (t ∷ ts) w x y z = stops (has b (c ∷ cs) p) t ts (has-none b (c ∷ cs) p (t .token) w x y z)
+
+  -- outside parentheses only the end can
+  pub top-ends : (b : Before) (p : Policy) (ts : List Placed) → kindAt ts ≡ 1 → readOn end (has b [] p) ts ≡ tree (whole b p)
+  unfolding kindAt readOn finish kindOf
+  top-ends b p [] e = refl
+  top-ends b p (t ∷ ts) e = absurd (never (t .token) e)
     where
-      go : (t : Token) → (kindOf t ≡ 10 → ⊥) → (kindOf t ≡ 8 → ⊥) → (kindOf t ≡ 7 → ⊥) → (kindOf t ≡ 6 → ⊥) → step (has nothing (b ∷ cs) p) t ≡ none
-      go t w x y z = has-none nothing (b ∷ cs) p t w x y z
+      never : (t : Token) → kindOf t ≡ 1 → ⊥
+      never bad e = omega arith
+      never (constant c) e = omega arith
+      never (field g) e = omega arith
+      never (number n) e = omega arith
+      never (comparison c) e = omega arith
+      never plus e = omega arith
+      never semicolon e = omega arith
+      never asterisk e = omega arith
+      never opening e = omega arith
+      never closing e = omega arith
+
+  pub top-stops : (b : Before) (p : Policy) (ts : List Placed) → (kindAt ts ≡ 1 → ⊥) → (kindAt ts ≡ 8 → ⊥) → (kindAt ts ≡ 7 → ⊥) → (kindAt ts ≡ 6 → ⊥)
+      → readOn end (has b [] p) ts ≡ stop (placeAt end ts)
+  unfolding kindAt placeAt readOn finish kindOf step close
+  top-stops b p [] w x y z = absurd (w refl)
+  top-stops b p (t ∷ ts) w x y z = stops (has b [] p) t ts (go (t .token) x y z)
+    where
+      go : (t : Token) → (kindOf t ≡ 8 → ⊥) → (kindOf t ≡ 7 → ⊥) → (kindOf t ≡ 6 → ⊥) → step (has b [] p) t ≡ none
+      go bad x y z = refl
+      go (constant c) x y z = refl
+      go (field g) x y z = refl
+      go (number n) x y z = refl
+      go (comparison c) x y z = refl
+      go plus x y z = absurd (z refl)
+      go semicolon x y z = absurd (y refl)
+      go asterisk x y z = absurd (x refl)
+      go opening x y z = refl
+      go closing x y z = refl
+
+  -- where no * follows, an item after others is as good as the sequence up to it
+  pub collapse-sequence : (s : Option Policy) (cs : List Before) (p q : Policy) (ts : List Placed) → (kindAt ts ≡ 8 → ⊥)
+      → readOn end (has (record { summed = s; sequenced = some p }) cs q) ts ≡ readOn end (has (record { summed = s; sequenced = none }) cs (seq p q)) ts
+  unfolding readOn finish whole upTo joinSequence kindAt kindOf step close
+  collapse-sequence s [] p q [] h = refl
+  collapse-sequence s (c ∷ cs) p q [] h = refl
+  collapse-sequence s cs p q (t ∷ ts) h = go (t .token) cs h
+    where
+      go : (k : Token) (cs : List Before) → (kindOf k ≡ 8 → ⊥)
+          → readOn end (has (record { summed = s; sequenced = some p }) cs q) (record { token = k; start = t .start } ∷ ts)
+          ≡ readOn end (has (record { summed = s; sequenced = none }) cs (seq p q)) (record { token = k; start = t .start } ∷ ts)
+      go bad cs h = refl
+      go (constant c) cs h = refl
+      go (field g) cs h = refl
+      go (number n) cs h = refl
+      go (comparison c) cs h = refl
+      go plus cs h = refl
+      go semicolon cs h = refl
+      go asterisk cs h = absurd (h refl)
+      go opening cs h = refl
+      go closing [] h = refl
+      go closing (c ∷ cs) h = refl
+
+  -- where no * and no ; follows, a sequence after others is as good as the sum up to it
+  pub collapse-sum : (cs : List Before) (p q : Policy) (ts : List Placed) → (kindAt ts ≡ 8 → ⊥) → (kindAt ts ≡ 7 → ⊥)
+      → readOn end (has (record { summed = some p; sequenced = none }) cs q) ts ≡ readOn end (has nothing cs (sum p q)) ts
+  unfolding readOn finish whole upTo joinSequence joinSum nothing kindAt kindOf step close
+  collapse-sum [] p q [] h g = refl
+  collapse-sum (c ∷ cs) p q [] h g = refl
+  collapse-sum cs p q (t ∷ ts) h g = go (t .token) cs h g
+    where
+      go : (k : Token) (cs : List Before) → (kindOf k ≡ 8 → ⊥) → (kindOf k ≡ 7 → ⊥)
+          → readOn end (has (record { summed = some p; sequenced = none }) cs q) (record { token = k; start = t .start } ∷ ts)
+          ≡ readOn end (has nothing cs (sum p q)) (record { token = k; start = t .start } ∷ ts)
+      go bad cs h g = refl
+      go (constant c) cs h g = refl
+      go (field f) cs h g = refl
+      go (number n) cs h g = refl
+      go (comparison c) cs h g = refl
+      go plus cs h g = refl
+      go semicolon cs h g = absurd (g refl)
+      go asterisk cs h g = absurd (h refl)
+      go opening cs h g = refl
+      go closing [] h g = refl
+      go closing (c ∷ cs) h g = refl

@@ -12,8 +12,8 @@ use Rattle.packet.specs.declared.Tested.the-variants.{Passed, Refused as Failed
 use Rattle.policy.specs.Tree.{Policy}
 use Rattle.policy.specs.Tree
 use Rattle.policy.specs.NodesOfTree.{treeSize, nodesOf}
-use Rattle.text.specs.declared.Read.{Read}
-use Rattle.text.specs.declared.Read.the-variants.{Nodes, Refused}
+use Rattle.text.specs.declared.Answer.{Answer}
+use Rattle.text.specs.declared.Answer.the-variants.{Nodes, Refused}
 use Rattle.text.specs.Tokens.{Token, Placed, constant, field, number, comparison, plus, semicolon, asterisk, opening, closing, bad, isBad, tokens}
 use Rattle.text.specs.Reading.{Outcome, tree, stop, start, readOn}
 
@@ -55,7 +55,7 @@ treeRead (stop place) = Tree.drop
 unfoldable pub tooMany : ℕ → ℕ → Option ℕ
 tooMany room n = cond (ltb (min 512 room) n) (some n) none
 
-unfoldable pub answered : Tested → ℕ → Read
+unfoldable pub answered : Tested → ℕ → Answer
 answered Passed n = Nodes n
 answered (Failed r) n = Refused r
 
@@ -79,7 +79,7 @@ module _ (names : List (List ℕ)) (text : List ℕ) where
       ∷ [])
 
   -- the answer, where the shortest lent list has so many entries
-  unfoldable pub answerTo : ℕ → Read
+  unfoldable pub answerTo : ℕ → Answer
   answerTo room = answered (tested room) (treeSize textTree)
 
 -- a lent list that holds xs first and keeps its contents beyond
@@ -87,6 +87,6 @@ unfoldable pub written : List ℕ → List ℕ → List ℕ
 written xs old = xs ++ drop (length xs) old
 
 -- a lent list after an answer: the nodes' entries on a count, as found on a refusal
-unfoldable pub leftBy : Read → List ℕ → List ℕ → List ℕ
+unfoldable pub leftBy : Answer → List ℕ → List ℕ → List ℕ
 leftBy (Nodes n) entries old = written entries old
 leftBy (Refused r) entries old = old

@@ -1,5 +1,5 @@
 -- What the inner functions of the reader promise.
-use Prim.Native.Nat.{ℕ, zero, suc, _+_, _*_, _≤_, _<_}
+use Prim.Native.Nat.{ℕ, zero, suc, _+_, _-_, _≤_, _<_}
 use mathlib.Core.Bool.{Bool, true, false, cond, _&&_}
 use mathlib.Core.List.{List, [], _∷_, _++_}
 use mathlib.Core.Option.{Option, none, some}
@@ -8,13 +8,14 @@ use lib.Dec.{leb, ltb}
 use lib.ListN.{length, getD, drop, set}
 use Rattle.policy.specs.Tree.{Policy}
 use Rattle.policy.specs.NodeLists.{NodeLists}
-use Rattle.policy.specs.NodesOfTree.{Entry, treeSize, entriesFrom}
+use Rattle.policy.specs.NodesOfTree.{Entry, entry, treeSize, entriesFrom}
 use Rattle.text.specs.Bytes.{isBlank}
 use Rattle.text.specs.Tokens.{Token, Placed, allDigits, decimal, frontToken, restOfToken, tokensFrom, fieldNames}
 use Rattle.text.specs.Kinds.{kindOf, valueOf, kindAt, valueAt, placeAt, afterFront}
 use Rattle.text.specs.Reading.{Before, nothing, State, wants, has, Outcome, stop, readOn}
 use Rattle.text.specs.declared.tokens.Token as Found
 use Rattle.text.specs.declared.Step as Stepped
+use Rattle.text.specs.declared.Leaf as Leaves
 
 -- the value of digits that follow others of value n, or 65,536 where they are no digits or make more than 65,535
 unfoldable pub numberFrom : ℕ → List ℕ → ℕ
@@ -54,9 +55,9 @@ pub record TokenFrom (text : List ℕ) (at : ℕ) (r : Found.Token) : Type 0 whe
   pub onward : (r .kind ≡ 1 → ⊥) → r .start < r .next
   pub within : r .next ≤ length text
 
--- levels of readers. A joined sequence is one that may go on with `;`.
+-- levels of readers. A joined sequence may go on with `;`, an added sum with `+`.
 pub data Level : Type 0 where
-  item starred joined sequence sum : Level
+  item starred joined sequence added sum : Level
 
 -- what stands before what a reader of the level reads
 unfoldable pub Entered : Level → Before → Type 0
@@ -64,6 +65,7 @@ Entered item b = Unit
 Entered starred b = Unit
 Entered joined b = b .sequenced ≡ none
 Entered sequence b = b .sequenced ≡ none
+Entered added b = b ≡ nothing
 Entered sum b = b ≡ nothing
 
 -- the kinds of tokens that can stand where a reader of the level has stopped
@@ -72,7 +74,8 @@ Past item k = Unit
 Past starred k = k ≡ 8 → ⊥
 Past joined k = k ≡ 8 → ⊥
 Past sequence k = (k ≡ 8 → ⊥) × (k ≡ 7 → ⊥)
-Past sum k = Unit
+Past added k = (k ≡ 8 → ⊥) × (k ≡ 7 → ⊥)
+Past sum k = (k ≡ 8 → ⊥) × (k ≡ 7 → ⊥) × (k ≡ 6 → ⊥)
 
 -- writes v at n where there is room for it
 unfoldable pub putAt : ℕ → ℕ → ℕ → List ℕ → List ℕ
@@ -98,21 +101,46 @@ pub record Ready (text : List ℕ) (at nodes room : ℕ) (L : NodeLists) : Type 
   pub firsts : room ≤ length (L .first)
   pub seconds : room ≤ length (L .second)
 
+-- an item that is no sum in parentheses: one node, whatever its number
+pub record GotLeaf (text : List ℕ) (at : ℕ) (r : Leaves.Leaf) : Type 0 where
+  pub policy : Policy
+  pub moves : (b : Before) (cs : List Before)
+      → readOn (length text) (wants b cs) (tokensFrom fieldNames text at) ≡ readOn (length text) (has b cs policy) (tokensFrom fieldNames text (r .at))
+  pub one : treeSize policy ≡ 1
+  pub entries : (n : ℕ) → entriesFrom n policy ≡ entry (r .kind) (r .first) (r .second) ∷ []
+  pub onward : at < r .at
+  pub within : r .at ≤ length text
+
+pub record LeafDone (text : List ℕ) (at : ℕ) (r : Leaves.Leaf) : Type 0 where
+  pub got : r .ok ≡ true → GotLeaf text at r
+  pub stopped : r .ok ≡ false → (b : Before) (cs : List Before) → readOn (length text) (wants b cs) (tokensFrom fieldNames text at) ≡ stop (r .at)
+
+-- the closing parenthesis after what s has read
+pub record Closed (text : List ℕ) (s r : Stepped.Step) : Type 0 where
+  pub failed : s .ok ≡ false → r ≡ s
+  pub shut : s .ok ≡ true → r .ok ≡ true → (kindAt (tokensFrom fieldNames text (s .at)) ≡ 10) × (tokensFrom fieldNames text (r .at) ≡ afterFront (tokensFrom fieldNames text (s .at))) × (s .at < r .at) × (r .at ≤ length text) × (r .nodes ≡ s .nodes)
+  pub unshut : s .ok ≡ true → r .ok ≡ false → (kindAt (tokensFrom fieldNames text (s .at)) ≡ 10 → ⊥) × (r .at ≡ placeAt (length text) (tokensFrom fieldNames text (s .at)))
+
+-- the node that joins what r has read to what stands before it
+pub record Joined (k left room : ℕ) (r : Stepped.Step) (L : NodeLists) (r′ : Stepped.Step) (L′ : NodeLists) : Type 0 where
+  pub failed : r .ok ≡ false → (r′ ≡ r) × (L′ ≡ L)
+  pub made : r .ok ≡ true → (r′ ≡ record { ok = true; at = r .at; nodes = r .nodes + 1 }) × (L′ ≡ putEntry room (r .nodes) (entry k left (r .nodes - 1)) L)
+
 -- a reader has read a policy, whose nodes are those after the first so many
 pub record Got (l : Level) (text : List ℕ) (at nodes room : ℕ) (L : NodeLists) (r : Stepped.Step) (L′ : NodeLists) : Type 0 where
   pub policy : Policy
   pub moves : (b : Before) → Entered l b → (cs : List Before)
-    → readOn (length text) (wants b cs) (tokensFrom fieldNames text at) ≡ readOn (length text) (has b cs policy) (tokensFrom fieldNames text (r .at))
+      → readOn (length text) (wants b cs) (tokensFrom fieldNames text at) ≡ readOn (length text) (has b cs policy) (tokensFrom fieldNames text (r .at))
   pub past : Past l (kindAt (tokensFrom fieldNames text (r .at)))
   pub nodes-is : r .nodes ≡ nodes + treeSize policy
   pub lists-are : L′ ≡ putAll room nodes (entriesFrom nodes policy) L
   pub onward : at < r .at
   pub within : r .at ≤ length text
-  pub few : r .nodes ≤ r .at
+  pub few : r .nodes + at ≤ r .at + nodes
 
 -- what a reader of the level has done
 pub record Done (l : Level) (text : List ℕ) (at nodes room : ℕ) (L : NodeLists) (r : Stepped.Step) (L′ : NodeLists) : Type 0 where
   pub got : r .ok ≡ true → Got l text at nodes room L r L′
   pub stopped : r .ok ≡ false → (b : Before) → Entered l b → (cs : List Before)
-    → readOn (length text) (wants b cs) (tokensFrom fieldNames text at) ≡ stop (r .at)
+      → readOn (length text) (wants b cs) (tokensFrom fieldNames text at) ≡ stop (r .at)
   pub idle : room ≡ 0 → L′ ≡ L
