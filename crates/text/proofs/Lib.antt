@@ -6,3 +6,4 @@ pub mod TokenLaws
 pub mod ReadLaws
 pub mod PutLaws
 pub mod StepLaws
+pub mod LoopLaws

@@ -117,7 +117,7 @@ puts-written room vs xs h g =
 -- with room for all of them the entries stand first, and the rest is kept
 pub put-written : (room : ℕ) (es : List Entry) (K F S : List ℕ) → length es ≤ room → room ≤ length K → room ≤ length F → room ≤ length S
     → putAll room 0 es (lists K F S) ≡ lists (written (listsOf es .kind) K) (written (listsOf es .first) F) (written (listsOf es .second) S)
-unfolding lists listsOf
+unfolding listsOf
 put-written room es K F S h k f s =
     columns room 0 es (lists K F S)
     ∙ λ i. record {
@@ -128,9 +128,9 @@ put-written room es K F S h k f s =
 
 module _ (room n k a b : ℕ) (K F S : List ℕ) where
   pub put-yes : n < room → lists (set K n k) (set F n a) (set S n b) ≡ putEntry room n (entry k a b) (lists K F S)
-  unfolding putEntry putAt lists entry
+  unfolding putEntry putAt entry
   put-yes h = rw (lt-ltb n room h)
 
   pub put-no : room ≤ n → lists K F S ≡ putEntry room n (entry k a b) (lists K F S)
-  unfolding putEntry putAt lists entry
+  unfolding putEntry putAt entry
   put-no h = rw (le-ltb n room h)

@@ -89,7 +89,7 @@ unfoldable pub putAll : ℕ → ℕ → List Entry → NodeLists → NodeLists
 putAll room n [] L = L
 putAll room n (e ∷ es) L = putAll room (suc n) es (putEntry room n e L)
 
-unfoldable pub lists : List ℕ → List ℕ → List ℕ → NodeLists
+abbrev pub lists : List ℕ → List ℕ → List ℕ → NodeLists
 lists kind first second = record { kind = kind; first = first; second = second }
 
 -- what a reader asks: nodes so far are no more than bytes so far, and no more are written than there is room for

@@ -29,7 +29,7 @@ stopped-requires-2 : tie.Need-stopped-requires-2
 stopped-requires-2 c κs = search needs
 
 returns-3 : tie.Need-returns-3
-returns-3 c = subst (LeafDone _ _) (sym (c .before .before .before .before .before .before .before .before .before .before .stopped .ensures)) (leaf-named _ 0 (c .before .before .before .before .before .before .before .before .token-from .ensures) (c .before .before .before .before .if2 .left) (c .before .before .before .token-from2 .ensures) (c .before .if3 .taken))
+returns-3 c = subst (LeafDone _ _) (sym (c .stopped2 .ensures)) (leaf-named _ 0 (c .before .before .before .before .before .before .before .before .token-from .ensures) (c .before .before .before .before .if2 .left) (c .before .before .before .token-from2 .ensures) (c .before .if3 .taken))
 
 token-from-requires-3 : tie.Need-token-from-requires-3
 token-from-requires-3 c κs = search needs
@@ -38,13 +38,13 @@ stopped-requires-3 : tie.Need-stopped-requires-3
 stopped-requires-3 c κs = search needs
 
 returns-4 : tie.Need-returns-4
-returns-4 c = subst (LeafDone _ _) (sym (c .before .before .before .before .before .before .before .before .before .before .before .before .before .stopped .ensures)) (leaf-compared _ 0 (c .before .before .before .before .before .before .before .before .before .before .before .token-from .ensures) (c .before .before .before .before .before .before .before .if2 .left) (c .before .before .before .before .before .before .token-from2 .ensures) (c .before .before .before .before .if3 .left) (c .before .before .before .token-from3 .ensures) (c .before .if4 .taken))
+returns-4 c = subst (LeafDone _ _) (sym (c .stopped3 .ensures)) (leaf-compared _ 0 (c .before .before .before .before .before .before .before .before .before .before .before .token-from .ensures) (c .before .before .before .before .before .before .before .if2 .left) (c .before .before .before .before .before .before .token-from2 .ensures) (c .before .before .before .before .if3 .left) (c .before .before .before .token-from3 .ensures) (c .before .if4 .taken))
 
 small-requires-2 : tie.Need-small-requires-2
 small-requires-2 c κs = search needs
 
 returns-5 : tie.Need-returns-5
-returns-5 c = leaf-action _ 0 (c .before .before .before .before .before .before .before .before .before .before .before .token-from .ensures) (c .before .before .before .before .before .before .before .if2 .left) (c .before .before .before .before .before .before .token-from2 .ensures) (c .before .before .before .before .if3 .left) (c .before .before .before .token-from3 .ensures) (c .before .if4 .left) (c .before .before .before .before .before .before .before .before .before .before .before .before .before .small .ensures)
+returns-5 c = leaf-action _ 0 (c .before .before .before .before .before .before .before .before .before .before .before .token-from .ensures) (c .before .before .before .before .before .before .before .if2 .left) (c .before .before .before .before .before .before .token-from2 .ensures) (c .before .before .before .before .if3 .left) (c .before .before .before .token-from3 .ensures) (c .before .if4 .left) (c .small2 .ensures)
 
 pub leaf-item-spec : {M : Type 1} → statement M
 leaf-item-spec =
