@@ -7,3 +7,4 @@ pub mod ReadLaws
 pub mod PutLaws
 pub mod StepLaws
 pub mod LoopLaws
+pub mod AnswerLaws

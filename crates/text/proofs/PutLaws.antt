@@ -74,17 +74,6 @@ put-join k room n m r p q L e f =
     ∙ put-last room n (entriesFrom n p ++ entriesFrom (n + treeSize p) q) (entry k (pred (n + treeSize p)) (pred (n + treeSize p + treeSize q))) r L
     (let l : length (entriesFrom n p ++ entriesFrom (n + treeSize p) q) ≡ treeSize p + treeSize q = length-append (entriesFrom n p) (entriesFrom (n + treeSize p) q) ∙ ap₂ _+_ (entries-length n p) (entries-length (n + treeSize p) q) in omega arith)
 
--- with no room nothing is written
-at-none : (n v : ℕ) (xs : List ℕ) → putAt 0 n v xs ≡ xs
-unfolding putAt
-at-none n v xs = rw (le-ltb n 0 (omega arith))
-
-pub put-idle : (room n : ℕ) (e : Entry) (L : NodeLists) → room ≡ 0 → putEntry room n e L ≡ L
-unfolding putEntry
-put-idle room n e L z =
-    ap (λ (r : ℕ). putEntry r n e L) z
-    ∙ λ i. record { kind = at-none n (e .kind) (L .kind) i; first = at-none n (e .first) (L .first) i; second = at-none n (e .second) (L .second) i }
-
 -- numbers of nodes that are written fit 16 bits
 pub put-narrow : (room n k a b a′ b′ : ℕ) (L : NodeLists) → (n < room → (a′ ≡ a) × (b′ ≡ b)) → putEntry room n (entry k a′ b′) L ≡ putEntry room n (entry k a b) L
 unfolding putEntry putAt entry

@@ -19,7 +19,7 @@ use Rattle.text.specs.declared.tokens.Token as Found
 use Rattle.text.specs.declared.Step as Stepped
 use Rattle.text.specs.declared.Leaf as Leaves
 use Rattle.text.proofs.ReadLaws.{constant-at, comparison-at, constant-small, comparison-small, wants-stops, named-stops, compared-stops, constantOf, comparisonOf, at-constant, at-field, at-comparison, at-number, at-opening, at-asterisk, at-semicolon, at-plus, at-closing, open-stops, collapse-sequence, collapse-sum}
-use Rattle.text.proofs.PutLaws.{size-pos, put-star, put-join, joinedEntries, put-idle}
+use Rattle.text.proofs.PutLaws.{size-pos, put-star, put-join, joinedEntries}
 
 constant-size : (c : Constant) → treeSize (constantPolicy c) ≡ 1
 unfolding constantPolicy treeSize
@@ -47,7 +47,7 @@ module _ (text : List ℕ) (room : ℕ) where
   end = length text
 
   -- the front token's kind, as the reader has it
-  kind-at : {at k : ℕ} {t : Found.Token} → TokenFrom text at t → t .kind ≡ k → kindAt (toks at) ≡ k
+  pub kind-at : {at k : ℕ} {t : Found.Token} → TokenFrom text at t → t .kind ≡ k → kindAt (toks at) ≡ k
   kind-at t e = sym (t .kind-is) ∙ e
 
   pub kind-not : {at k : ℕ} {t : Found.Token} → TokenFrom text at t → (t .kind ≡ k → ⊥) → kindAt (toks at) ≡ k → ⊥
@@ -161,7 +161,6 @@ module _ (text : List ℕ) (room : ℕ) where
           record {
             got = λ x. absurd (true≢false (sym x ∙ ap (λ (z : Stepped.Step). z .ok) (c .failed q) ∙ q));
             stopped = λ x b h cs. inner b cs ∙ d .stopped q nothing refl (b ∷ cs) ∙ ap (λ (z : Stepped.Step). stop (z .at)) (sym (c .failed q));
-            idle = d .idle;
           }
       go true q =
           let g = d .got q in
@@ -183,7 +182,6 @@ module _ (text : List ℕ) (room : ℕ) where
                 inner b cs ∙ g .moves nothing refl (b ∷ cs)
                 ∙ open-stops end nothing b cs (g .policy) (toks (s .at)) (y .0) (g .past .0) (g .past .1) (g .past .2)
                 ∙ ap stop (sym (y .1));
-            idle = d .idle;
           }
 
   -- ---- one more *
@@ -295,63 +293,48 @@ module _ (text : List ℕ) (room : ℕ) where
   -- ---- a reader that has read, or stopped
 
   -- what is known where s has read: nothing has stopped it
-  pub done-got : {l : Level} {at nodes : ℕ} {L L₁ : NodeLists} {s : Stepped.Step} → s .ok ≡ true → Got l text at nodes room L s L₁ → (room ≡ 0 → L₁ ≡ L) → Done l text at nodes room L s L₁
-  done-got o g i = record { got = λ _. g; stopped = λ x. absurd (true≢false (sym o ∙ x)); idle = i }
+  pub done-got : {l : Level} {at nodes : ℕ} {L L₁ : NodeLists} {s : Stepped.Step} → s .ok ≡ true → Got l text at nodes room L s L₁ → Done l text at nodes room L s L₁
+  done-got o g = record { got = λ _. g; stopped = λ x. absurd (true≢false (sym o ∙ x)) }
 
   pub done-stopped : {l : Level} {at nodes : ℕ} {L L₁ : NodeLists} {s : Stepped.Step} → s .ok ≡ false
-      → ((b : Before) → Entered l b → (cs : List Before) → readOn end (wants b cs) (toks at) ≡ stop (s .at)) → (room ≡ 0 → L₁ ≡ L) → Done l text at nodes room L s L₁
-  done-stopped o f i = record { got = λ x. absurd (true≢false (sym x ∙ o)); stopped = λ _. f; idle = i }
+      → ((b : Before) → Entered l b → (cs : List Before) → readOn end (wants b cs) (toks at) ≡ stop (s .at)) → Done l text at nodes room L s L₁
+  done-stopped o f = record { got = λ x. absurd (true≢false (sym x ∙ o)); stopped = λ _. f }
 
   -- a reader of one level, handed on as one of another
   pub done-as : {l m : Level} {at nodes : ℕ} {L L₁ : NodeLists} {s : Stepped.Step} → Done l text at nodes room L s L₁
       → (Got l text at nodes room L s L₁ → Got m text at nodes room L s L₁) → ((b : Before) → Entered m b → Entered l b) → Done m text at nodes room L s L₁
-  done-as d f h = record { got = λ o. f (d .got o); stopped = λ o b x. d .stopped o b (h b x); idle = d .idle }
+  done-as d f h = record { got = λ o. f (d .got o); stopped = λ o b x. d .stopped o b (h b x) }
 
   -- one more operand: s has read, the mark stands there, r has read or stopped after it, and j joins the two
-  joined-idle : {k left : ℕ} {L L₁ L₂ L₃ : NodeLists} {r s′ : Stepped.Step} → Joined k left room r L₂ s′ L₃ → (room ≡ 0 → L₂ ≡ L₁) → (room ≡ 0 → L₁ ≡ L) → room ≡ 0 → L₃ ≡ L
-  joined-idle {k} {left} {L} {L₁} {L₂} {L₃} {r} {s′} j f g z = go (r .ok) refl
-    where
-      go : (o : Bool) → r .ok ≡ o → L₃ ≡ L
-      go true q = j .made q .1 ∙ put-idle room (r .nodes) (entry k left (r .nodes - 1)) L₂ z ∙ f z ∙ g z
-      go false q = j .failed q .1 ∙ f z ∙ g z
-
   pub sequence-next : {at nodes : ℕ} {L L₁ L₂ L₃ : NodeLists} {s r s′ : Stepped.Step} {t : Found.Token} → s .ok ≡ true → Done joined text at nodes room L s L₁ → TokenFrom text (s .at) t → t .kind ≡ 7
       → Done starred text (t .next) (s .nodes) room L₁ r L₂ → Joined 7 (s .nodes - 1) room r L₂ s′ L₃ → Done joined text at nodes room L s′ L₃
   unfolding Entered
   sequence-next {at} {nodes} {L} {L₁} {L₂} {L₃} {s} {r} {s′} {t} o d k e y j = go (r .ok) refl
     where
-      idle : room ≡ 0 → L₃ ≡ L
-      idle = joined-idle j (y .idle) (d .idle)
-
       go : (b : Bool) → r .ok ≡ b → Done joined text at nodes room L s′ L₃
       go true q =
           subst (λ (x : Stepped.Step). Done joined text at nodes room L x L₃) (sym (j .made q .0))
-          (done-got refl (sequence-turn (d .got o) k e (y .got q) (j .made q .1)) idle)
+          (done-got refl (sequence-turn (d .got o) k e (y .got q) (j .made q .1)))
       go false q =
           subst (λ (x : Stepped.Step). Done joined text at nodes room L x L₃) (sym (j .failed q .0))
           (done-stopped q
           (λ b h cs. as-joined (λ x. readOn end (wants x cs) (toks at) ≡ stop (r .at))
-          (λ m. past-semicolon (d .got o) k e m cs ∙ y .stopped q (record { summed = m; sequenced = some (d .got o .policy) }) tt cs) b h)
-          idle)
+          (λ m. past-semicolon (d .got o) k e m cs ∙ y .stopped q (record { summed = m; sequenced = some (d .got o .policy) }) tt cs) b h))
 
   pub sum-next : {at nodes : ℕ} {L L₁ L₂ L₃ : NodeLists} {s r s′ : Stepped.Step} {t : Found.Token} → s .ok ≡ true → Done added text at nodes room L s L₁ → TokenFrom text (s .at) t → t .kind ≡ 6
       → Done sequence text (t .next) (s .nodes) room L₁ r L₂ → Joined 6 (s .nodes - 1) room r L₂ s′ L₃ → Done added text at nodes room L s′ L₃
   unfolding Entered
   sum-next {at} {nodes} {L} {L₁} {L₂} {L₃} {s} {r} {s′} {t} o d k e y j = go (r .ok) refl
     where
-      idle : room ≡ 0 → L₃ ≡ L
-      idle = joined-idle j (y .idle) (d .idle)
-
       go : (b : Bool) → r .ok ≡ b → Done added text at nodes room L s′ L₃
       go true q =
           subst (λ (x : Stepped.Step). Done added text at nodes room L x L₃) (sym (j .made q .0))
-          (done-got refl (sum-turn (d .got o) k e (y .got q) (j .made q .1)) idle)
+          (done-got refl (sum-turn (d .got o) k e (y .got q) (j .made q .1)))
       go false q =
           subst (λ (x : Stepped.Step). Done added text at nodes room L x L₃) (sym (j .failed q .0))
           (done-stopped q
           (λ b h cs. subst (λ (x : Before). readOn end (wants x cs) (toks at) ≡ stop (r .at)) (sym h)
-          (past-plus (d .got o) k e cs ∙ y .stopped q (record { summed = some (d .got o .policy); sequenced = none }) refl cs))
-          idle)
+          (past-plus (d .got o) k e cs ∙ y .stopped q (record { summed = some (d .got o .policy); sequenced = none }) refl cs)))
 
   -- ---- the closing parenthesis
 

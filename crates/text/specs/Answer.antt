@@ -14,7 +14,7 @@ use Rattle.policy.specs.Tree
 use Rattle.policy.specs.NodesOfTree.{treeSize, nodesOf}
 use Rattle.text.specs.declared.Answer.{Answer}
 use Rattle.text.specs.declared.Answer.the-variants.{Nodes, Refused}
-use Rattle.text.specs.Tokens.{Token, Placed, constant, field, number, comparison, plus, semicolon, asterisk, opening, closing, bad, isBad, tokens}
+use Rattle.text.specs.Tokens.{fieldNames, Token, Placed, constant, field, number, comparison, plus, semicolon, asterisk, opening, closing, bad, isBad, tokens}
 use Rattle.text.specs.Reading.{Outcome, tree, stop, start, readOn}
 
 -- cause 14: the first token that is bad
@@ -90,3 +90,14 @@ written xs old = xs ++ drop (length xs) old
 unfoldable pub leftBy : Answer → List ℕ → List ℕ → List ℕ
 leftBy (Nodes n) entries old = written entries old
 leftBy (Refused r) entries old = old
+
+-- the length of the shortest lent list
+unfoldable pub shortest : List ℕ → List ℕ → List ℕ → ℕ
+shortest kind first second = min (length kind) (min (length first) (length second))
+
+-- what reading a text does, whatever its bytes and the lists' lengths
+pub record TextRead (text kind first second : List ℕ) (r : Answer) (kind′ first′ second′ : List ℕ) : Type 0 where
+  pub answer : r ≡ answerTo fieldNames text (shortest kind first second)
+  pub kinds : kind′ ≡ leftBy r (nodesOf (textTree fieldNames text) .kind) kind
+  pub firsts : first′ ≡ leftBy r (nodesOf (textTree fieldNames text) .first) first
+  pub seconds : second′ ≡ leftBy r (nodesOf (textTree fieldNames text) .second) second

@@ -1,10 +1,10 @@
 -- What the inner functions of the reader promise.
-use Prim.Native.Nat.{ℕ, zero, suc, _+_, _-_, _≤_, _<_}
-use mathlib.Core.Bool.{Bool, true, false, cond, _&&_}
+use Prim.Native.Nat.{ℕ, zero, suc, pred, _+_, _-_, _≤_, _<_}
+use mathlib.Core.Bool.{true, false, cond, _&&_}
 use mathlib.Core.List.{List, [], _∷_, _++_}
 use mathlib.Core.Option.{Option, none, some}
 use mathlib.Core.Path.{_≡_}
-use lib.Dec.{leb, ltb}
+use lib.Dec.{leb, ltb, eqb}
 use lib.ListN.{length, getD, drop, set}
 use Rattle.policy.specs.Tree.{Policy}
 use Rattle.policy.specs.NodeLists.{NodeLists}
@@ -13,6 +13,7 @@ use Rattle.text.specs.Bytes.{isBlank}
 use Rattle.text.specs.Tokens.{Token, Placed, allDigits, decimal, frontToken, restOfToken, tokensFrom, fieldNames}
 use Rattle.text.specs.Kinds.{kindOf, valueOf, kindAt, valueAt, placeAt, afterFront}
 use Rattle.text.specs.Reading.{Before, nothing, State, wants, has, Outcome, stop, readOn}
+use Rattle.text.specs.Answer.{stopPlace, outcome, textTree}
 use Rattle.text.specs.declared.tokens.Token as Found
 use Rattle.text.specs.declared.Step as Stepped
 use Rattle.text.specs.declared.Leaf as Leaves
@@ -143,4 +144,18 @@ pub record Done (l : Level) (text : List ℕ) (at nodes room : ℕ) (L : NodeLis
   pub got : r .ok ≡ true → Got l text at nodes room L r L′
   pub stopped : r .ok ≡ false → (b : Before) → Entered l b → (cs : List Before)
       → readOn (length text) (wants b cs) (tokensFrom fieldNames text at) ≡ stop (r .at)
-  pub idle : room ≡ 0 → L′ ≡ L
+
+-- how many parentheses are open after a token of a kind
+unfoldable pub openAfterKind : ℕ → ℕ → ℕ
+openAfterKind n k = cond (eqb k 9) (suc n) (cond (eqb k 10) (pred n) n)
+
+-- the end of the text after what s has read
+pub record Ended (text : List ℕ) (s r : Stepped.Step) : Type 0 where
+  pub failed : s .ok ≡ false → r ≡ s
+  pub over : s .ok ≡ true → r .ok ≡ true → (kindAt (tokensFrom fieldNames text (s .at)) ≡ 1) × (r .nodes ≡ s .nodes)
+  pub more : s .ok ≡ true → r .ok ≡ false → (kindAt (tokensFrom fieldNames text (s .at)) ≡ 1 → ⊥) × (r .at ≡ placeAt (length text) (tokensFrom fieldNames text (s .at)))
+
+-- the whole text has been read, or the reading has stopped
+pub record Counted (text : List ℕ) (r : Stepped.Step) : Type 0 where
+  pub read : r .ok ≡ true → (stopPlace (outcome fieldNames text) ≡ none) × (r .nodes ≡ treeSize (textTree fieldNames text))
+  pub stopped : r .ok ≡ false → stopPlace (outcome fieldNames text) ≡ some (r .at)

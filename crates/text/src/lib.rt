@@ -1,5 +1,6 @@
 // The text reader (document 01, "Text").
 use packet::Refusal;
+use packet::Tested;
 
 mod bytes;
 mod tokens;
@@ -7,13 +8,16 @@ mod words;
 
 ghost use mathlib.Core.Path.{_≡_};
 ghost use mathlib.Core.Bool.{true, false};
-ghost use Prim.Native.Nat.{_+_, _^_, _≤_, _<_};
+ghost use Prim.Native.Nat.{_+_, _^_, _≤_, _<_, min};
 ghost use lib.ListN.{length};
-ghost use Rattle.policy.specs.NodesOfTree.{entry};
-ghost use Rattle.text.specs.Tokens.{tokensFrom, fieldNames};
+ghost use mathlib.Core.List.{[], _∷_};
+ghost use Rattle.packet.specs.Refusals.{refusal, refusedAt, firstOf};
+ghost use Rattle.policy.specs.NodesOfTree.{entry, treeSize};
+ghost use Rattle.text.specs.Tokens.{tokens, tokensFrom, fieldNames};
+ghost use Rattle.text.specs.Answer.{badPlace, deepPlace, stopPlace, tooMany, answered, outcome, textTree, answerTo, TextRead};
 ghost use Rattle.text.specs.Kinds.{kindAt};
 ghost use Rattle.text.specs.Inner;
-ghost use Rattle.text.specs.Inner.{LeafDone, Closed, Joined, lists, putEntry, Ready, Done};
+ghost use Rattle.text.specs.Inner.{LeafDone, Closed, Joined, lists, putEntry, Ready, Done, openAfterKind, Ended, Counted};
 
 // What reading a text says: the number of its nodes, or a refusal.
 pub enum Answer {
@@ -309,4 +313,153 @@ fn sum(
         s = join(6, n - 1, r, room, kind, first, second);
     }
     s
+}
+
+// The end of the text after what s has read.
+fn ended(text: &[u8], s: Step) -> Step
+    requires { ⌜ (s .ok ≡ true → s .at ≤ length (now text)) ⌝ }
+    ensures { λ r. ⌜ Ended (now (text .entry)) s r ⌝ }
+{
+    if s.ok {
+        let t = tokens::token_from(text, s.at);
+        if t.kind == 1 {
+            return s;
+        }
+        return Step {
+            ok: false,
+            at: t.start,
+            nodes: s.nodes,
+        };
+    }
+    s
+}
+
+// The nodes of the whole text, none of them written.
+fn count(text: &[u8]) -> Step
+    ensures { λ r. ⌜ Counted (now (text .entry)) r ⌝ }
+{
+    let mut kind = [0u8; 1];
+    let mut first = [0u16; 1];
+    let mut second = [0u16; 1];
+    let s = sum(text, 0, 0, 0, &mut kind, &mut first, &mut second);
+    ended(text, s)
+}
+
+fn refuse(number: u8, place: usize) -> Refusal
+    ensures { λ r. ⌜ r ≡ refusal number 0 place ⌝ }
+{
+    Refusal {
+        number,
+        side: 0,
+        place: place as u64,
+    }
+}
+
+// Cause 14.
+fn token_stage(text: &[u8]) -> Tested
+    ensures { λ r. ⌜ r ≡ refusedAt 14 0 (badPlace (tokens fieldNames (now (text .entry)))) ⌝ }
+{
+    let mut at = 0;
+    loop {
+        let t = tokens::token_from(text, at);
+        if t.kind == 1 {
+            return Tested::Passed;
+        }
+        if t.kind == 0 {
+            return Tested::Refused(refuse(14, t.start));
+        }
+        at = t.next;
+    }
+}
+
+fn open_after(n: usize, k: u8) -> usize
+    requires { ⌜ n ≤ 64 ⌝ }
+    ensures { λ r. ⌜ r ≡ openAfterKind n k ⌝ }
+{
+    if k == 9 {
+        return n + 1;
+    }
+    if k == 10 {
+        if n == 0 {
+            return 0;
+        }
+        return n - 1;
+    }
+    n
+}
+
+// Cause 15.
+fn depth_stage(text: &[u8]) -> Tested
+    ensures { λ r. ⌜ r ≡ refusedAt 15 0 (deepPlace 0 (tokens fieldNames (now (text .entry)))) ⌝ }
+{
+    let mut at = 0;
+    let mut n = 0;
+    loop {
+        let t = tokens::token_from(text, at);
+        if t.kind == 1 {
+            return Tested::Passed;
+        }
+        n = open_after(n, t.kind);
+        if n > 64 {
+            return Tested::Refused(refuse(15, t.start));
+        }
+        at = t.next;
+    }
+}
+
+// Causes 16 and 17.
+fn size_stage(text: &[u8], room: usize) -> Answer
+    ensures { λ r. ⌜ r ≡ answered (firstOf (refusedAt 16 0 (stopPlace (outcome fieldNames (now (text .entry))))
+        ∷ refusedAt 17 0 (tooMany room (treeSize (textTree fieldNames (now (text .entry))))) ∷ [])) (treeSize (textTree fieldNames (now (text .entry)))) ⌝ }
+{
+    let s = count(text);
+    if s.ok {
+        let n = s.nodes;
+        if n > 512 {
+            return Answer::Refused(refuse(17, n));
+        }
+        if n > room {
+            return Answer::Refused(refuse(17, n));
+        }
+        return Answer::Nodes(n);
+    }
+    Answer::Refused(refuse(16, s.at))
+}
+
+// All causes, in their order.
+fn test(text: &[u8], room: usize) -> Answer
+    ensures { λ r. ⌜ r ≡ answerTo fieldNames (now (text .entry)) room ⌝ }
+{
+    let words = token_stage(text);
+    if let Tested::Refused(r) = words {
+        return Answer::Refused(r);
+    }
+    let depth = depth_stage(text);
+    if let Tested::Refused(r) = depth {
+        return Answer::Refused(r);
+    }
+    size_stage(text, room)
+}
+
+fn least(a: usize, b: usize) -> usize
+    ensures { λ r. ⌜ r ≡ min a b ⌝ }
+{
+    if a < b {
+        return a;
+    }
+    b
+}
+
+// Reads a text into three lent lists of any lengths, and answers the number of its nodes. On a refusal the lists are as found.
+pub fn read(text: &[u8], kind: &mut [u8], first: &mut [u16], second: &mut [u16]) -> Answer
+    ensures { λ r. ⌜ TextRead (now (text .entry)) (now (kind .entry)) (now (first .entry)) (now (second .entry)) r
+        (now (kind .exit)) (now (first .exit)) (now (second .exit)) ⌝ }
+{
+    let room = least(kind.len(), least(first.len(), second.len()));
+    let answer = test(text, room);
+    if let Answer::Nodes(n) = answer {
+        sum(text, 0, 0, n, kind, first, second);
+        return Answer::Nodes(n);
+    }
+    answer
 }
