@@ -219,15 +219,15 @@ module _ (names : List (List ℕ)) (text : List ℕ) (room : ℕ) where
   rest-answers e f = rw (← e, ← f)
 
 nodes-only : (o₁ o₂ o₃ o₄ : Option ℕ) (m n : ℕ) → Nodes n ≡ answered (firstOf (refusedAt 14 0 o₁ ∷ refusedAt 15 0 o₂ ∷ refusedAt 16 0 o₃ ∷ refusedAt 17 0 o₄ ∷ [])) m
-    → (o₃ ≡ none) × (o₄ ≡ none) × (m ≡ n)
+    → (o₂ ≡ none) × (o₃ ≡ none) × (o₄ ≡ none) × (m ≡ n)
 unfolding refusedAt firstOf answered
-nodes-only none none none none m n e = (refl, refl, sym (cc))
+nodes-only none none none none m n e = (refl, refl, refl, sym (cc))
 nodes-only (some x) o₂ o₃ o₄ m n e = absurd (let z : _≡_ {A = ℕ} 0 1 = cc in omega arith)
 nodes-only none (some x) o₃ o₄ m n e = absurd (let z : _≡_ {A = ℕ} 0 1 = cc in omega arith)
 nodes-only none none (some x) o₄ m n e = absurd (let z : _≡_ {A = ℕ} 0 1 = cc in omega arith)
 nodes-only none none none (some x) m n e = absurd (let z : _≡_ {A = ℕ} 0 1 = cc in omega arith)
 
-few-enough : (room n : ℕ) → tooMany room n ≡ none → n ≤ min 512 room
+pub few-enough : (room n : ℕ) → tooMany room n ≡ none → n ≤ min 512 room
 unfolding tooMany
 few-enough room n e = go (ltb (min 512 room) n) refl e
   where
@@ -235,10 +235,21 @@ few-enough room n e = go (ltb (min 512 room) n) refl e
     go true q f = absurd (let z : _≡_ {A = ℕ} 0 1 = cc in omega arith)
     go false q f = ltb-false (min 512 room) n q
 
+-- what a count tells
+pub count-parts : (names : List (List ℕ)) (text : List ℕ) (room n : ℕ) → Nodes n ≡ answerTo names text room
+    → (deepPlace 0 (tokens names text) ≡ none) × (stopPlace (outcome names text) ≡ none) × (tooMany room (treeSize (textTree names text)) ≡ none) × (treeSize (textTree names text) ≡ n)
+unfolding answerTo tested
+count-parts names text room n e = nodes-only (badPlace (tokens names text)) (deepPlace 0 (tokens names text)) (stopPlace (outcome names text)) (tooMany room (treeSize (textTree names text))) (treeSize (textTree names text)) n e
+
+-- where a count is the answer
+pub count-answers : (names : List (List ℕ)) (text : List ℕ) (room n : ℕ) (p : Policy) → badPlace (tokens names text) ≡ none → deepPlace 0 (tokens names text) ≡ none → outcome names text ≡ tree p → treeSize p ≡ n → n ≤ min 512 room
+    → answerTo names text room ≡ Nodes n
+unfolding answerTo tested answered firstOf refusedAt textTree stopPlace treeRead tooMany
+count-answers names text room n p a b c d l = rw (a, b, c, d, le-ltb (min 512 room) n l)
+
 module _ (text : List ℕ) (room n : ℕ) (e : Nodes n ≡ answerTo fieldNames text room) where
   parts : (stopPlace (outcome fieldNames text) ≡ none) × (tooMany room (treeSize (textTree fieldNames text)) ≡ none) × (treeSize (textTree fieldNames text) ≡ n)
-  unfolding answerTo tested
-  parts = nodes-only (badPlace (tokens fieldNames text)) (deepPlace 0 (tokens fieldNames text)) (stopPlace (outcome fieldNames text)) (tooMany room (treeSize (textTree fieldNames text))) (treeSize (textTree fieldNames text)) n e
+  parts = let q = count-parts fieldNames text room n e in (q .1, q .2, q .3)
 
   pub nodes-few : n ≤ min 512 room
   nodes-few = let q : treeSize (textTree fieldNames text) ≤ min 512 room = few-enough room (treeSize (textTree fieldNames text)) (parts .1) in subst (λ (k : ℕ). k ≤ min 512 room) (parts .2) q

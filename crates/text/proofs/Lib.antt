@@ -8,3 +8,4 @@ pub mod PutLaws
 pub mod StepLaws
 pub mod LoopLaws
 pub mod AnswerLaws
+pub mod GrammarLaws

@@ -2,6 +2,7 @@
 -- yet: its label is 0.
 use Prim.Native.Nat.{ℕ}
 use mathlib.Core.List.{List, [], _∷_, _++_}
+use mathlib.Core.Path.{_≡_}
 use Rattle.policy.specs.declared.FieldAction.{FieldAction}
 use Rattle.policy.specs.declared.FieldAction.the-variants.{Equals, Differs, Set}
 use Rattle.policy.specs.Tree.{Policy, drop, id, dup, sum, seq, star}
@@ -21,21 +22,21 @@ fieldAction assigned f v = Set f v
 mutual
   -- drop, id, dup, a field with =, != or <- and a number, or a sum in parentheses
   pub data Item : List Token → Policy → Type 0 where
-    word : (c : Constant) → Item (constant c ∷ []) (constantPolicy c)
-    action : (f v : ℕ) (c : Comparison) → Item (field f ∷ comparison c ∷ number v ∷ []) (Tree.field (fieldAction c f v))
-    parentheses : {ts : List Token} {p : Policy} → Sum ts p → Item (opening ∷ ts ++ closing ∷ []) p
+    word : {ts : List Token} {p : Policy} (c : Constant) → ts ≡ constant c ∷ [] → p ≡ constantPolicy c → Item ts p
+    action : {ts : List Token} {p : Policy} (f v : ℕ) (c : Comparison) → ts ≡ field f ∷ comparison c ∷ number v ∷ [] → p ≡ Tree.field (fieldAction c f v) → Item ts p
+    parentheses : {ts us : List Token} {p : Policy} → Sum us p → ts ≡ opening ∷ us ++ closing ∷ [] → Item ts p
 
   -- an item and any number of *
   pub data Starred : List Token → Policy → Type 0 where
     item : {ts : List Token} {p : Policy} → Item ts p → Starred ts p
-    starred : {ts : List Token} {p : Policy} → Starred ts p → Starred (ts ++ asterisk ∷ []) (star p)
+    starred : {ts us : List Token} {p q : Policy} → Starred us q → ts ≡ us ++ asterisk ∷ [] → p ≡ star q → Starred ts p
 
   -- starred items joined by ;
   pub data Sequence : List Token → Policy → Type 0 where
     single : {ts : List Token} {p : Policy} → Starred ts p → Sequence ts p
-    sequenced : {ts us : List Token} {p q : Policy} → Sequence ts p → Starred us q → Sequence (ts ++ semicolon ∷ us) (seq p q)
+    sequenced : {ts us vs : List Token} {p q r : Policy} → Sequence us q → Starred vs r → ts ≡ us ++ semicolon ∷ vs → p ≡ seq q r → Sequence ts p
 
   -- sequences joined by +
   pub data Sum : List Token → Policy → Type 0 where
     alone : {ts : List Token} {p : Policy} → Sequence ts p → Sum ts p
-    summed : {ts us : List Token} {p q : Policy} → Sum ts p → Sequence us q → Sum (ts ++ plus ∷ us) (sum p q)
+    summed : {ts us vs : List Token} {p q r : Policy} → Sum us q → Sequence vs r → ts ≡ us ++ plus ∷ vs → p ≡ sum q r → Sum ts p
