@@ -2,6 +2,8 @@
 use Prim.Native.Nat.{ℕ, zero, suc}
 use mathlib.Core.Bool.{Bool, true, false}
 use mathlib.Core.Option.{Option, none, some}
+use Rattle.packet.specs.declared.Place.{Place}
+use Rattle.packet.specs.declared.Place.the-variants.{At, Nowhere}
 
 -- the first answer if there is one, else n if it passes
 unfoldable pub orAt : Option ℕ → Bool → ℕ → Option ℕ
@@ -13,3 +15,8 @@ orAt none false n = none
 unfoldable pub lowest : (ℕ → Bool) → ℕ → Option ℕ
 lowest test zero = none
 lowest test (suc n) = orAt (lowest test n) (test n) n
+
+-- the place that a function answers
+abbrev pub optionOf : Place → Option ℕ
+optionOf (At i) = some i
+optionOf Nowhere = none

@@ -15,10 +15,14 @@ unfoldable pub refusedAt : ℕ → ℕ → Option ℕ → Tested
 refusedAt number side none = Passed
 refusedAt number side (some place) = Refused (refusal number side place)
 
--- a cause for which no place is named: place 0, if it holds
-unfoldable pub atZero : Bool → Option ℕ
-atZero true = some 0
-atZero false = none
+-- a cause that names one place, if it holds
+unfoldable pub atPlace : ℕ → Bool → Option ℕ
+atPlace place true = some place
+atPlace place false = none
+
+-- a cause for which no place is named: place 0
+abbrev pub atZero : Bool → Option ℕ
+atZero holds = atPlace 0 holds
 
 -- the order of causes: the first of the tests that refuses
 unfoldable pub firstOf : List Tested → Tested

@@ -1,11 +1,13 @@
 -- Sizes of the fields and the packet count N (document 01, "Packets" and causes 1 to 3).
-use Prim.Native.Nat.{ℕ, zero, suc, _*_}
-use mathlib.Core.Bool.{Bool, true, false, not, _||_}
+use Prim.Native.Nat.{ℕ, suc, _*_, _≤_, _<_}
+use mathlib.Core.Bool.{Bool, _||_}
 use mathlib.Core.List.{List, [], _∷_}
-use mathlib.Core.Path.{_≡_}
-use lib.Dec.{leb, ltb, eqb}
+use lib.Dec.{ltb, eqb}
 use lib.ListN.{length, getD, take}
+use Rattle.packet.specs.declared.Counted.{Counted}
+use Rattle.packet.specs.declared.Counted.the-variants.{Packets, Refused as NotCounted}
 use Rattle.packet.specs.declared.Tested.{Tested}
+use Rattle.packet.specs.declared.Tested.the-variants.{Passed, Refused}
 use Rattle.packet.specs.Lowest.{lowest}
 use Rattle.packet.specs.Refusals.{refusedAt, atZero, firstOf}
 
@@ -33,3 +35,18 @@ fieldsStage sizes = firstOf (refusedAt 1 0 (atZero (badCount sizes)) ∷ refused
 -- stage "product": cause 3
 unfoldable pub productStage : List ℕ → Tested
 productStage sizes = refusedAt 3 0 (lowest (productOver sizes) (length sizes))
+
+-- the packet count where the stage passes
+unfoldable pub counted : Tested → ℕ → Counted
+counted Passed n = Packets n
+counted (Refused r) n = NotCounted r
+
+unfoldable pub packetCount : List ℕ → Counted
+packetCount sizes = counted (productStage sizes) (product sizes)
+
+-- none of causes 1 to 3 holds
+pub record LegalSizes (sizes : List ℕ) : Type 0 where
+  pub some : 0 < length sizes
+  pub few : length sizes ≤ 8
+  pub positive : (i : ℕ) → i < length sizes → 0 < getD sizes i 0
+  pub small : product sizes ≤ 1024

@@ -1,6 +1,6 @@
 -- Causes 4 to 9 of document 01, over any list of policies.
 use Prim.Native.Nat.{ℕ, zero, suc, pred, _+_, _≤_, _<_}
-use mathlib.Core.Bool.{Bool, true, false, not, _||_}
+use mathlib.Core.Bool.{Bool, false, not, _||_}
 use mathlib.Core.List.{List, [], _∷_, map}
 use mathlib.Core.Option.{Option}
 use mathlib.Core.Path.{_≡_}
@@ -11,7 +11,8 @@ use Rattle.packet.specs.Refusals.{refusedAt, atZero, firstOf}
 use Rattle.packet.specs.declared.Tested.{Tested}
 use Rattle.policy.specs.declared.FieldAction.{FieldAction}
 use Rattle.policy.specs.declared.FieldAction.the-variants.{Equals, Differs, Set}
-use Rattle.policy.specs.Tree.{Policy, drop, id, field, dup, sum, seq, star}
+use Rattle.policy.specs.Tree.{Policy}
+use Rattle.policy.specs.Transport.{EachAction}
 use Rattle.policy.specs.NodeLists.{NodeLists, nodeCount, nodeAt, children, one, dupsBelow}
 
 -- cause 4: lists unequal, empty or over 512
@@ -126,10 +127,4 @@ valueOf (Set f v) = v
 
 -- each test and change of the tree names a field and a value of it
 unfoldable pub InFields : List ℕ → Policy → Type 0
-InFields sizes drop = Unit
-InFields sizes id = Unit
-InFields sizes (field a) = badField sizes (fieldOf a) (valueOf a) ≡ false
-InFields sizes (dup i) = Unit
-InFields sizes (sum p q) = InFields sizes p × InFields sizes q
-InFields sizes (seq p q) = InFields sizes p × InFields sizes q
-InFields sizes (star p) = InFields sizes p
+InFields sizes = EachAction (λ a. badField sizes (fieldOf a) (valueOf a) ≡ false)

@@ -1,0 +1,9 @@
+pub mod Tests
+pub mod Words
+pub mod Spines
+pub mod Fundamental
+pub mod Sets
+pub mod Flow
+pub mod Laws
+pub mod Trees
+pub mod Examples

@@ -1,0 +1,3 @@
+pub mod Remainder
+pub mod Reaches
+pub mod State

@@ -1,0 +1,61 @@
+-- What remains of a policy after one of its dups: document 004's right spine. Bit 0 of a state stands for the whole policy.
+use Prim.Native.Nat.{ℕ, zero, suc, _≤_, _<_}
+use mathlib.Core.Bool.{cond}
+use mathlib.Core.List.{List}
+use mathlib.Core.Logic.{_⊎_}
+use mathlib.Core.Option.{Option, none, some, Option·getD}
+use mathlib.Core.Path.{_≡_}
+use lib.Dec.{eqb}
+use Rattle.policy.specs.Legality.{InFields}
+use Rattle.policy.specs.Tree.{Policy, drop, id, field, dup, sum, seq, star}
+
+unfoldable pub orElse : Option Policy → Option Policy → Option Policy
+orElse none s = s
+orElse (some r) s = some r
+
+-- a spine followed by a policy
+unfoldable pub followedBy : Option Policy → Policy → Option Policy
+followedBy none q = none
+followedBy (some r) q = some (seq r q)
+
+-- the right spine of dup i: rsp(dup) = 1; rsp(p + q) = rsp(p) ∪ rsp(q); rsp(pq) = rsp(p)·q ∪ rsp(q); rsp(p*) = rsp(p)·p*
+unfoldable pub rightSpine : Policy → ℕ → Option Policy
+rightSpine drop i = none
+rightSpine id i = none
+rightSpine (field a) i = none
+rightSpine (dup j) i = cond (eqb i j) (some id) none
+rightSpine (sum p q) i = orElse (rightSpine p i) (rightSpine q i)
+rightSpine (seq p q) i = orElse (followedBy (rightSpine p i) q) (rightSpine q i)
+rightSpine (star p) i = followedBy (rightSpine p i) (star p)
+
+-- what bit i of a state stands for: the whole policy, or what remains after dup i (nothing, if there is no such dup)
+unfoldable pub remainder : Policy → ℕ → Policy
+remainder p zero = p
+remainder p (suc i) = Option·getD (rightSpine p (suc i)) drop
+
+-- dup i is in the policy
+unfoldable pub HasDup : Policy → ℕ → Type 0
+HasDup drop i = ⊥
+HasDup id i = ⊥
+HasDup (field a) i = ⊥
+HasDup (dup j) i = i ≡ j
+HasDup (sum p q) i = HasDup p i ⊎ HasDup q i
+HasDup (seq p q) i = HasDup p i ⊎ HasDup q i
+HasDup (star p) i = HasDup p i
+
+-- no two dups have the same number
+unfoldable pub DistinctLabels : Policy → Type 0
+DistinctLabels drop = Unit
+DistinctLabels id = Unit
+DistinctLabels (field a) = Unit
+DistinctLabels (dup i) = Unit
+DistinctLabels (sum p q) = DistinctLabels p × DistinctLabels q × ((i : ℕ) → HasDup p i → HasDup q i → ⊥)
+DistinctLabels (seq p q) = DistinctLabels p × DistinctLabels q × ((i : ℕ) → HasDup p i → HasDup q i → ⊥)
+DistinctLabels (star p) = DistinctLabels p
+
+-- what the laws of output and next ask of a tree: tests and changes within the fields, dups with different numbers from 1 to dups
+pub record Evaluable (sizes : List ℕ) (dups : ℕ) (p : Policy) : Type 0 where
+  pub inFields : InFields sizes p
+  pub distinct : DistinctLabels p
+  pub fromOne : (i : ℕ) → HasDup p i → 0 < i
+  pub upTo : (i : ℕ) → HasDup p i → i ≤ dups

@@ -1,0 +1,24 @@
+-- Every case comes out as stated, by computation.
+use mathlib.Core.Path.{_≡_, refl}
+use mathlib.Core.Bool.{xor}
+use mathlib.Core.List.{map}
+use Rattle.packet.specs.Lowest.{lowest, orAt}
+use Rattle.packet.specs.Packets.{valueAt, changed, valuesOf, numberOf}
+use Rattle.packet.specs.Sizes.{product, badCount, zeroSize, productOver, fieldsStage, productStage}
+use Rattle.packet.specs.Refusals.{refusal, refusedAt, atPlace, firstOf}
+use Rattle.policy.specs.NodeLists.{nodeCount, nodeOf, nodeAt, children, one, isDup, dupsBelow, grow, treeAt, policyOf}
+use Rattle.policy.specs.Legality.{badLengths, badKind, badField, used, wrongEntries, badEntries, someNotBelow, badChild, occurrences, timesChild, notOnce, maxDups, tooManyDups, cause, policiesStage}
+use Rattle.policy.specs.NodesOfTree.{entry, actionEntry, treeSize, entriesFrom, listsOf, nodesOf}
+use Rattle.packet_set.specs.Bits.{bit, maskOf, onlyBits}
+use Rattle.automaton.specs.State.{anyBelow, setOf, union, takes, image, rounds, passedOn, flow, enter, outputSet, next, outputMask, nextMask}
+use Rattle.system.specs.RowOrder.{starts, sameRow, listed, append, appendNext, lowestTelling, turn, handle, runFrom, run, climbing, climb, path, entering, verdict, answer, held}
+use Rattle.pair.specs.Sides.{at, onBoth}
+use Rattle.pair.specs.Pair.{outputAt, nextAt, sameStates, bothZero, inOneOutput, bitsOfDups}
+use Rattle.pair.specs.Search.{lastOf, sideOf, reported, searchAnswer, refusalOf, columnsOf, heldColumns}
+use Rattle.pair.specs.Rules.{andThen, brokenAt, present, breaksA, breaksB, breaksD, checkRow, checkRows, checkRules}
+use Rattle.pair.specs.Evidence.{evidenceAnswer}
+use Rattle.cases.specs.Cases.{Case, lent, outcome, given, dups, cases}
+
+pub all-as-stated : map outcome cases ≡ map (λ (c : Case). c .stated) cases
+unfolding xor lowest orAt valueAt changed valuesOf numberOf product nodeCount nodeOf nodeAt one isDup dupsBelow grow treeAt policyOf entry actionEntry treeSize entriesFrom listsOf nodesOf bit maskOf anyBelow setOf union takes image rounds passedOn flow enter outputSet next outputMask nextMask starts sameRow listed append appendNext lowestTelling turn handle runFrom run climbing climb path entering verdict answer held at onBoth outputAt nextAt sameStates bothZero inOneOutput bitsOfDups lastOf sideOf reported searchAnswer refusalOf columnsOf heldColumns andThen brokenAt present breaksA breaksB breaksD checkRow checkRows checkRules evidenceAnswer lent outcome given dups cases badCount zeroSize productOver fieldsStage productStage refusal refusedAt atPlace firstOf children badLengths badKind badField used wrongEntries badEntries someNotBelow badChild occurrences timesChild notOnce maxDups tooManyDups cause policiesStage onlyBits
+all-as-stated = refl

@@ -1,0 +1,74 @@
+-- Stages of tests: the first that refuses is the answer.
+-- Assumes nothing.
+use Prim.Native.Nat.{ℕ, _<_, _≤_}
+use mathlib.Core.Bool.{Bool, true, false, _||_, true≢false}
+use mathlib.Core.List.{List, [], _∷_}
+use mathlib.Core.Option.{Option, none, some}
+use mathlib.Core.Path.{_≡_, refl, ap, ap₂}
+use borrow.Author.Tests.{eq-eqb, ne-eqb, lt-ltb, le-ltb}
+use lib.ListN.{length}
+use Rattle.packet.specs.declared.Refusal.{Refusal}
+use Rattle.packet.specs.declared.Tested.{Tested}
+use Rattle.packet.specs.declared.Tested.the-variants.{Passed, Refused}
+use Rattle.packet.specs.Lowest.{lowest}
+use Rattle.packet.specs.Refusals.{refusal, refusedAt, atPlace, firstOf}
+use Rattle.packet.specs.Sizes.{badCount, zeroSize, fieldsStage}
+
+-- the last test of an order
+pub firstOf-last : (t : Tested) → firstOf (t ∷ []) ≡ t
+unfolding firstOf
+firstOf-last Passed = refl
+firstOf-last (Refused r) = refl
+
+-- a test that refuses ends the order
+pub firstOf-refused : (t : Tested) (ts : List Tested) (r : Refusal) → t ≡ Refused r → firstOf (t ∷ ts) ≡ Refused r
+unfolding firstOf
+firstOf-refused t ts r e = ap (λ (u : Tested). firstOf (u ∷ ts)) e
+
+-- a test that passes hands on to the next
+pub firstOf-next : (t : Tested) (ts : List Tested) → t ≡ Passed → firstOf (t ∷ ts) ≡ firstOf ts
+unfolding firstOf
+firstOf-next t ts e = ap (λ (u : Tested). firstOf (u ∷ ts)) e
+
+-- ---- an order that passes: each of its tests passes
+
+passed≢refused : {r : Refusal} → Refused r ≡ Passed → ⊥
+passed≢refused q = true≢false (cc)
+
+pub firstOf-passed : (t : Tested) (ts : List Tested) → firstOf (t ∷ ts) ≡ Passed → (t ≡ Passed) × (firstOf ts ≡ Passed)
+unfolding firstOf
+firstOf-passed Passed ts e = (refl, e)
+firstOf-passed (Refused r) ts e = absurd (passed≢refused e)
+
+pub refusedAt-passed : (number side : ℕ) (o : Option ℕ) → refusedAt number side o ≡ Passed → o ≡ none
+unfolding refusedAt
+refusedAt-passed number side none e = refl
+refusedAt-passed number side (some i) e = absurd (passed≢refused e)
+
+pub atPlace-none : (place : ℕ) (b : Bool) → atPlace place b ≡ none → b ≡ false
+unfolding atPlace
+atPlace-none place false e = refl
+atPlace-none place true e = absurd (true≢false (cc))
+
+-- ---- stage "fields"
+
+module _ (sizes : List ℕ) where
+  pub none-declared : length sizes ≡ 0 → fieldsStage sizes ≡ Refused (refusal 1 0 0)
+  unfolding fieldsStage badCount refusedAt atPlace firstOf
+  none-declared h = rw (eq-eqb (length sizes) 0 h)
+
+  over-eight : (length sizes ≡ 0 → ⊥) → 8 < length sizes → badCount sizes ≡ true
+  unfolding badCount
+  over-eight declared over = ap₂ (λ (a b : Bool). a || b) (ne-eqb (length sizes) 0 declared) (lt-ltb 8 (length sizes) over)
+
+  pub too-many : (length sizes ≡ 0 → ⊥) → 8 < length sizes → fieldsStage sizes ≡ Refused (refusal 1 0 0)
+  unfolding fieldsStage refusedAt atPlace firstOf
+  too-many declared over = rw (over-eight declared over)
+
+  one-to-eight : (length sizes ≡ 0 → ⊥) → length sizes ≤ 8 → badCount sizes ≡ false
+  unfolding badCount
+  one-to-eight declared few = ap₂ (λ (a b : Bool). a || b) (ne-eqb (length sizes) 0 declared) (le-ltb 8 (length sizes) few)
+
+  pub few-fields : (length sizes ≡ 0 → ⊥) → length sizes ≤ 8 → fieldsStage sizes ≡ refusedAt 2 0 (lowest (zeroSize sizes) (length sizes))
+  unfolding fieldsStage refusedAt atPlace firstOf
+  few-fields declared few = rw (one-to-eight declared few) (firstOf-last _)

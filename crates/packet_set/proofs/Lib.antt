@@ -1,0 +1,7 @@
+pub mod Digits
+pub mod Trailing
+pub mod Loops
+pub mod Words
+pub mod Walk
+pub mod Work
+pub mod Masks

@@ -1,0 +1,199 @@
+-- Laws of the lowest member of a set, from any packet on. Assumes nothing.
+use Prim.Native.Nat.{ℕ, _+_, _*_, _/_, _%_, _^_, _-_, _≤_, _<_}
+use mathlib.Core.Path.{_≡_, refl, sym, ap, _∙_}
+use mathlib.Core.Bool.{Bool, true, false, _&&_, true≢false}
+use mathlib.Core.List.{List}
+use mathlib.Core.Option.{Option, none, some}
+use native.Mathlib.Decide.{decLt}
+use native.Mathlib.Omega.{arith}
+use lib.Dec.{leb}
+use borrow.Author.Tests.{le-leb, lt-leb}
+use lib.ListN.{length, getD}
+use lib.Count.{trailingZeros}
+use lib.Pow.{shr-le}
+use Rattle.packet_set.specs.Bits.{bit}
+use Rattle.packet.specs.Lowest.{lowest}
+use Rattle.packet.proofs.Tests.{xor-same, xor-false}
+use Rattle.packet.proofs.Lowest.{IsLowest, Found, lowest-is, lowest-only, lowest-same}
+use Rattle.packet_set.specs.Members.{member, exclusiveOrOf, lowestIn, isNone, lowestAnswer, isEmpty}
+use Rattle.packet_set.specs.declared.Lowest.{Lowest}
+use Rattle.packet_set.specs.declared.Lowest.the-variants.{At, Nothing}
+use Rattle.packet_set.proofs.Digits.{bit-of-zero, bit-high, bit-shift}
+use Rattle.packet_set.proofs.Trailing.{trailing-lowest}
+use Rattle.packet_set.proofs.Words.{member-in-word, member-exclusive-or}
+
+-- γ is the lowest packet in the first k words that is not below `from`
+pub record LowestIn (k from : ℕ) (s : List ℕ) (γ : ℕ) : Type 0 where
+  pub below : γ < 32 * k
+  pub above : from ≤ γ
+  pub inside : member s γ ≡ true
+  pub first : (β : ℕ) → from ≤ β → β < γ → member s β ≡ false
+
+-- what an answer says
+abbrev pub FoundIn : ℕ → ℕ → List ℕ → Option ℕ → Type 0
+FoundIn k from s none = (β : ℕ) → from ≤ β → β < 32 * k → member s β ≡ false
+FoundIn k from s (some γ) = LowestIn k from s γ
+
+module _ (k from : ℕ) (s : List ℕ) where
+  abbrev test : ℕ → Bool
+  test γ = leb from γ && member s γ
+
+  test-from : (γ : ℕ) → from ≤ γ → test γ ≡ member s γ
+  test-from γ l = ap (λ (b : Bool). b && member s γ) (le-leb from γ l)
+
+  test-below : (γ : ℕ) → γ < from → test γ ≡ false
+  test-below γ l = ap (λ (b : Bool). b && member s γ) (lt-leb from γ l)
+
+  pub lowest-in-is : FoundIn k from s (lowestIn k from s)
+  unfolding lowestIn
+  lowest-in-is = go (lowest test (32 * k)) (lowest-is test (32 * k))
+    where
+      go : (o : Option ℕ) → Found test (32 * k) o → FoundIn k from s o
+      go none f = λ β l h. sym (test-from β l) ∙ f β h
+      go (some γ) f = at (decLt γ from)
+        where
+          at : Dec (γ < from) → LowestIn k from s γ
+          at (yes l) = absurd (true≢false (sym (f .passes) ∙ test-below γ l))
+          at (no l) =
+              let a : from ≤ γ = omega arith in
+              record { below = f .below; above = a; inside = sym (test-from γ a) ∙ f .passes; first = λ β m h. sym (test-from β m) ∙ f .first β h }
+
+  pub lowest-in-only : (o : Option ℕ) → FoundIn k from s o → lowestIn k from s ≡ o
+  unfolding lowestIn
+  lowest-in-only o f = lowest-only test (32 * k) o (go o f)
+    where
+      out : (β : ℕ) → (from ≤ β → member s β ≡ false) → Dec (β < from) → test β ≡ false
+      out β g (yes l) = test-below β l
+      out β g (no l) =
+          let m : from ≤ β = omega arith in
+          test-from β m ∙ g m
+
+      go : (o : Option ℕ) → FoundIn k from s o → Found test (32 * k) o
+      go none g = λ β h. out β (λ m. g β m h) (decLt β from)
+      go (some γ) g = record { below = g .below; passes = test-from γ (g .above) ∙ g .inside; first = λ β h. out β (λ m. g .first β m h) (decLt β from) }
+
+-- packets that are in no set may be skipped
+pub lowest-skip : (k from to : ℕ) (s : List ℕ) → from ≤ to → ((β : ℕ) → from ≤ β → β < to → member s β ≡ false) → lowestIn k from s ≡ lowestIn k to s
+lowest-skip k from to s l h = lowest-in-only k from s (lowestIn k to s) (go (lowestIn k to s) (lowest-in-is k to s))
+  where
+    out : (β : ℕ) → from ≤ β → (to ≤ β → member s β ≡ false) → Dec (β < to) → member s β ≡ false
+    out β m g (yes b) = h β m b
+    out β m g (no b) = g (omega arith)
+
+    go : (o : Option ℕ) → FoundIn k to s o → FoundIn k from s o
+    go none f = λ β m b. out β m (λ n. f β n b) (decLt β to)
+    go (some γ) f =
+        record { below = f .below; above = omega (arith, f .above); inside = f .inside; first = λ β m b. out β m (λ n. f .first β n b) (decLt β to) }
+
+-- ---- trailing zeros of the first word that is not 0
+
+module _ (s : List ℕ) (k start i : ℕ) (zeros : (j : ℕ) → j < i → start ≤ j → getD s j 0 ≡ 0) where
+  zero-words : (γ : ℕ) → 32 * start ≤ γ → γ / 32 < i → member s γ ≡ false
+  unfolding member
+  zero-words γ m l = ap (λ (x : ℕ). bit x (γ % 32)) (zeros (γ / 32) l (omega arith)) ∙ bit-of-zero (γ % 32)
+
+  pub lowest-nothing : k ≤ i → lowestIn k (32 * start) s ≡ none
+  lowest-nothing l = lowest-in-only k (32 * start) s none (λ γ m h. zero-words γ m (omega arith))
+
+  pub lowest-at : start ≤ i → i < k → 0 < getD s i 0 → getD s i 0 < 2 ^ 32 → lowestIn k (32 * start) s ≡ some (i * 32 + trailingZeros 32 (getD s i 0))
+  lowest-at m l p b = go (trailingZeros 32 (getD s i 0)) (trailing-lowest 32 (getD s i 0) b p)
+    where
+      go : (z : ℕ) → IsLowest (bit (getD s i 0)) 32 z → lowestIn k (32 * start) s ≡ some (i * 32 + z)
+      go z f =
+          let z< : z < 32 = f .below in
+          lowest-in-only k (32 * start) s (some (i * 32 + z))
+          (record { below = omega arith; above = omega arith; inside = member-in-word s i z z< ∙ f .passes; first = λ γ n h. earlier γ n h (decLt (γ / 32) i) })
+        where
+          earlier : (γ : ℕ) → 32 * start ≤ γ → γ < i * 32 + z → Dec (γ / 32 < i) → member s γ ≡ false
+          earlier γ n h (yes q) = zero-words γ n q
+          earlier γ n h (no q) =
+              let z< : z < 32 = f .below in
+              let e : γ ≡ i * 32 + (γ - i * 32) = omega arith in
+              ap (member s) e ∙ member-in-word s i (γ - i * 32) (omega arith) ∙ f .first (γ - i * 32) (omega arith)
+
+-- ---- from inside a word on
+
+module _ (s : List ℕ) (k from : ℕ) where
+  -- what is left of the word in which `from` lies
+  abbrev rest : ℕ
+  rest = getD s (from / 32) 0 / 2 ^ (from % 32)
+
+  in-rest : (j : ℕ) → from % 32 + j < 32 → member s (from + j) ≡ bit rest j
+  in-rest j l =
+      let e : from + j ≡ from / 32 * 32 + (from % 32 + j) = omega arith in
+      ap (member s) e ∙ member-in-word s (from / 32) (from % 32 + j) l ∙ sym (bit-shift (getD s (from / 32) 0) (from % 32) j)
+
+  pub next-nowhere : k ≤ from / 32 → lowestIn k from s ≡ none
+  next-nowhere l = lowest-in-only k from s none (λ γ m h. absurd (omega arith))
+
+  pub next-beyond : rest ≡ 0 → lowestIn k from s ≡ lowestIn k (32 * (from / 32 + 1)) s
+  next-beyond e = lowest-skip k from (32 * (from / 32 + 1)) s (omega arith) skip
+    where
+      skip : (β : ℕ) → from ≤ β → β < 32 * (from / 32 + 1) → member s β ≡ false
+      skip β m h =
+          let q : β ≡ from + (β - from) = omega arith in
+          ap (member s) q ∙ in-rest (β - from) (omega arith) ∙ ap (λ (x : ℕ). bit x (β - from)) e ∙ bit-of-zero (β - from)
+
+  pub next-here : from / 32 < k → getD s (from / 32) 0 < 2 ^ 32 → 0 < rest → lowestIn k from s ≡ some (from + trailingZeros 32 rest)
+  next-here l b p = go (trailingZeros 32 rest) (trailing-lowest 32 rest (omega (arith, shr-le (getD s (from / 32) 0) (from % 32))) p)
+    where
+      inside : (z : ℕ) → bit rest z ≡ true → Dec (from % 32 + z < 32) → from % 32 + z < 32
+      inside z e (yes h) = h
+      inside z e (no h) =
+          absurd (true≢false (sym e ∙ bit-shift (getD s (from / 32) 0) (from % 32) z ∙ bit-high 32 (getD s (from / 32) 0) (from % 32 + z) b (omega arith)))
+
+      go : (z : ℕ) → IsLowest (bit rest) 32 z → lowestIn k from s ≡ some (from + z)
+      go z f =
+          let h : from % 32 + z < 32 = inside z (f .passes) (decLt (from % 32 + z) 32) in
+          lowest-in-only k from s (some (from + z)) (record {
+            below = omega arith;
+            above = omega arith;
+            inside = in-rest z h ∙ f .passes;
+            first = λ β m n. earlier h β m n;
+          })
+        where
+          earlier : from % 32 + z < 32 → (β : ℕ) → from ≤ β → β < from + z → member s β ≡ false
+          earlier h β m n =
+              let q : β ≡ from + (β - from) = omega arith in
+              ap (member s) q ∙ in-rest (β - from) (omega arith) ∙ f .first (β - from) (omega arith)
+
+-- the lowest member as the lowest that passes a test below n, where the test is membership and nothing from n on is a member
+pub lowest-as : (k n : ℕ) (s : List ℕ) (test : ℕ → Bool) → n ≤ 32 * k → ((γ : ℕ) → γ < n → member s γ ≡ test γ)
+    → ((γ : ℕ) → n ≤ γ → γ < 32 * k → member s γ ≡ false) → lowestIn k 0 s ≡ lowest test n
+unfolding lowestIn
+lowest-as k n s test l same nothing =
+    lowest-same (λ γ. leb 0 γ && member s γ) test n (32 * k) l (λ γ h. test-from k 0 s γ (omega arith) ∙ same γ h)
+    (λ γ m h. test-from k 0 s γ (omega arith) ∙ nothing γ m h)
+
+-- ---- empty: no member
+
+module _ (s : List ℕ) where
+  pub empty-members : (k : ℕ) → isEmpty k s ≡ true → (γ : ℕ) → γ < 32 * k → member s γ ≡ false
+  unfolding isEmpty
+  empty-members k = go (lowestIn k 0 s) (lowest-in-is k 0 s)
+    where
+      go : (o : Option ℕ) → FoundIn k 0 s o → isNone o ≡ true → (γ : ℕ) → γ < 32 * k → member s γ ≡ false
+      go none f e = λ γ l. f γ (omega arith) l
+      go (some γ) f e = absurd (true≢false (sym e))
+
+  pub members-empty : (k : ℕ) → ((γ : ℕ) → γ < 32 * k → member s γ ≡ false) → isEmpty k s ≡ true
+  unfolding isEmpty
+  members-empty k h = ap isNone (lowest-in-only k 0 s none (λ γ m l. h γ l))
+
+-- whether there is a member, read off the answer
+abbrev pub isNothing : Lowest → Bool
+isNothing Nothing = true
+isNothing (At γ) = false
+
+pub nothing-answer : (o : Option ℕ) → isNothing (lowestAnswer o) ≡ isNone o
+unfolding lowestAnswer
+nothing-answer none = refl
+nothing-answer (some γ) = refl
+
+-- two sets with the same members: their exclusive or is empty
+module _ (k : ℕ) (a b : List ℕ) (long : k ≤ length a) where
+  pub same-empty : ((γ : ℕ) → γ < 32 * k → member a γ ≡ member b γ) → isEmpty k (exclusiveOrOf k a b) ≡ true
+  same-empty h = members-empty (exclusiveOrOf k a b) k (λ γ l. member-exclusive-or k a b γ l long ∙ xor-same _ _ (h γ l))
+
+  pub empty-same : isEmpty k (exclusiveOrOf k a b) ≡ true → (γ : ℕ) → γ < 32 * k → member a γ ≡ member b γ
+  empty-same e γ l = xor-false _ _ (sym (member-exclusive-or k a b γ l long) ∙ empty-members (exclusiveOrOf k a b) k e γ l)

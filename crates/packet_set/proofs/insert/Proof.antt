@@ -1,0 +1,37 @@
+-- `insert` meets its contract. Assumes nothing.
+use Prim.Native.Nat.{_/_, _%_}
+use mathlib.Core.Path.{ap}
+use native.Mathlib.Omega.{arith}
+use lib.ListN.{set, getD}
+use Rattle.packet_set.specs.Members.{withPacket}
+use Rattle.packet_set.proofs.Digits.{shift-marks}
+use borrow.Author.Needs.{needs}
+use Rattle.packet_set.proofs.insert.Statement.{statement}
+use Rattle.packet_set.proofs.insert.Tie as tie
+
+mul-set : tie.Need-mul-set
+mul-set c = search needs
+
+array-read-set : tie.Need-array-read-set
+array-read-set c = search needs
+
+cast-set : tie.Need-cast-set
+cast-set c = search needs
+
+shl-set : tie.Need-shl-set
+shl-set c = search needs
+
+mul-set-2 : tie.Need-mul-set-2
+mul-set-2 c = search needs
+
+array-write-set : tie.Need-array-write-set
+array-write-set c = search needs
+
+returns : tie.Need-returns
+unfolding withPacket
+returns c =
+    ap (set (c .args .t1) (c .args .packet / 32)) (shift-marks 32 (getD (c .args .t1) (c .args .packet / 32) 0) (c .args .packet % 32) (omega arith))
+
+pub insert-spec : {M : Type 1} → statement M
+insert-spec =
+    tie.close (tie.spec mul-set array-read-set cast-set shl-set mul-set-2 array-write-set returns)

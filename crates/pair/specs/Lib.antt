@@ -1,0 +1,6 @@
+pub mod Sides
+pub mod Pair
+pub mod Search
+pub mod Rules
+pub mod Evidence
+pub mod TraceCheck

@@ -1,0 +1,17 @@
+pub mod EachLaws
+pub mod Trees
+pub mod VisitLaws
+pub mod LabelLaws
+pub mod TraceLaws
+pub mod Congruence
+pub mod TransportLaws
+pub mod Numbered
+pub mod FoldLaws
+pub mod Readings
+pub mod LegalityLaws
+pub mod Postfix
+pub mod Nodes
+pub mod ReadLaws
+pub mod CauseLaws
+pub mod CountLaws
+pub mod AnswerLaws

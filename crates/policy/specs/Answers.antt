@@ -1,0 +1,69 @@
+-- The answers of the calls that test policies: causes 1 to 3, then 4 to 9, side 0 for one policy, 1 and 2 for two.
+use Prim.Native.Nat.{ℕ, pred}
+use mathlib.Core.Bool.{Bool, true, false}
+use mathlib.Core.List.{List, [], _∷_}
+use lib.Dec.{ltb}
+use Rattle.packet.specs.Lowest.{lowest}
+use Rattle.packet.specs.Refusals.{refusedAt, firstOf}
+use Rattle.packet.specs.Sizes.{fieldsStage, productStage}
+use Rattle.packet.specs.declared.Refusal.{Refusal}
+use Rattle.packet.specs.declared.Tested.{Tested}
+use Rattle.packet.specs.declared.Tested.the-variants.{Passed, Refused}
+use Rattle.policy.specs.declared.legality.PolicyAnswer.{PolicyAnswer}
+use Rattle.policy.specs.declared.legality.PolicyAnswer.the-variants.{Legal as LegalPolicy, Refused as PolicyRefused}
+use Rattle.policy.specs.declared.legality.PairAnswer.{PairAnswer}
+use Rattle.policy.specs.declared.legality.PairAnswer.the-variants.{Legal as LegalPair, Refused as PairRefused}
+use Rattle.policy.specs.NodeLists.{NodeLists, nodeCount}
+use Rattle.policy.specs.Legality.{badKind, badEntries, badChild, notOnce, tooManyDups, Sided, policiesStage}
+
+unfoldable pub sided : ℕ → NodeLists → Sided
+sided side L = record { side = side; lists = L }
+
+-- the tests on one policy
+unfoldable pub policyTests : List ℕ → NodeLists → Tested
+policyTests sizes L = firstOf (fieldsStage sizes ∷ productStage sizes ∷ policiesStage sizes (sided 0 L ∷ []) ∷ [])
+
+-- the tests on a left and a right policy
+unfoldable pub pairTests : List ℕ → NodeLists → NodeLists → Tested
+pairTests sizes L R = firstOf (fieldsStage sizes ∷ productStage sizes ∷ policiesStage sizes (sided 1 L ∷ sided 2 R ∷ []) ∷ [])
+
+-- each answer's number and values: a refusal's are its own, a legal policy has its number of dups
+unfoldable pub policyAnswer : Tested → ℕ → PolicyAnswer
+policyAnswer Passed dups = LegalPolicy dups
+policyAnswer (Refused r) dups = PolicyRefused r
+
+unfoldable pub pairAnswer : Tested → ℕ → ℕ → PairAnswer
+pairAnswer Passed left right = LegalPair left right
+pairAnswer (Refused r) left right = PairRefused r
+
+-- ---- how the answers are worked out: one policy after the other, and each by the causes that need the ones before
+
+-- causes 5 to 7
+unfoldable pub nodesStage : List ℕ → ℕ → NodeLists → Tested
+nodesStage sizes side L =
+    firstOf
+    (refusedAt 5 side (lowest (badKind L) (nodeCount L))
+    ∷ refusedAt 6 side (lowest (badEntries sizes L) (nodeCount L))
+    ∷ refusedAt 7 side (lowest (badChild L) (nodeCount L))
+    ∷ [])
+
+-- causes 8 and 9
+unfoldable pub treeStage : ℕ → NodeLists → Tested
+treeStage side L =
+    firstOf
+    (refusedAt 8 side (lowest (notOnce L) (pred (nodeCount L))) ∷ refusedAt 9 side (lowest (tooManyDups L) (nodeCount L)) ∷ [])
+
+-- of two refusals the one of the earlier cause, of the same cause the first
+unfoldable pub earlierIf : Bool → Refusal → Refusal → Refusal
+earlierIf true p q = q
+earlierIf false p q = p
+
+unfoldable pub earlier : Refusal → Refusal → Refusal
+earlier p q = earlierIf (ltb (q .number) (p .number)) p q
+
+-- the answer on two policies from the answers on each
+unfoldable pub both : PolicyAnswer → PolicyAnswer → PairAnswer
+both (LegalPolicy m) (LegalPolicy n) = LegalPair m n
+both (LegalPolicy m) (PolicyRefused q) = PairRefused q
+both (PolicyRefused p) (LegalPolicy n) = PairRefused p
+both (PolicyRefused p) (PolicyRefused q) = PairRefused (earlier p q)

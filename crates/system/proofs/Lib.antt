@@ -1,0 +1,13 @@
+pub mod Basics
+pub mod Climb
+pub mod Listing
+pub mod Runs
+pub mod Following
+pub mod Lines
+pub mod Tables
+pub mod Shortest
+pub mod Answers
+pub mod Verdicts
+pub mod Counting
+pub mod Maps
+pub mod Examples

@@ -1,0 +1,4 @@
+pub mod System
+pub mod Words
+pub mod RowOrder
+pub mod Tables

@@ -1,0 +1,1 @@
+// The row order over an abstract deterministic system: definitions and laws only.

@@ -1,0 +1,51 @@
+-- Turning packets: causes 1 to 3, then 13 (document 01, "Packets" and "Causes, in the order tested").
+use Prim.Native.Nat.{ℕ}
+use mathlib.Core.Bool.{Bool, not}
+use mathlib.Core.List.{List, [], _∷_}
+use lib.Dec.{leb, eqb}
+use lib.ListN.{length, getD}
+use Rattle.packet.specs.declared.Tested.{Tested}
+use Rattle.packet.specs.declared.Tested.the-variants.{Passed, Refused}
+use Rattle.packet.specs.Lowest.{lowest}
+use Rattle.packet.specs.Refusals.{refusedAt, atPlace, atZero, firstOf}
+use Rattle.packet.specs.Sizes.{fieldsStage, productStage, product}
+use Rattle.packet.specs.Packets.{valuesOf}
+use Rattle.turning.specs.declared.Values.{Values}
+use Rattle.turning.specs.declared.Values.the-variants.{Written, Refused as ValuesRefused}
+use Rattle.turning.specs.declared.Number.{Number}
+use Rattle.turning.specs.declared.Number.the-variants.{Packet, Refused as NumberRefused}
+
+-- a value list whose length is not k is refused by 13 with place k, before the rest of 13
+unfoldable pub lengthTests : List ℕ → ℕ → Tested
+lengthTests sizes len =
+    firstOf (fieldsStage sizes ∷ productStage sizes ∷ refusedAt 13 0 (atPlace (length sizes) (not (eqb len (length sizes)))) ∷ [])
+
+-- number into values: the number turned is N or more, place 0
+unfoldable pub valuesTests : List ℕ → ℕ → ℕ → Tested
+valuesTests sizes number len = firstOf (lengthTests sizes len ∷ refusedAt 13 0 (atZero (leb (product sizes) number)) ∷ [])
+
+-- the number and values of each answer: a refusal's are its own
+unfoldable pub valuesAnswer : Tested → Values
+valuesAnswer Passed = Written
+valuesAnswer (Refused r) = ValuesRefused r
+
+-- what the lent list holds after the tests: the packet's values, or what it held before
+unfoldable pub keptUnless : Tested → List ℕ → List ℕ → List ℕ
+keptUnless Passed new old = new
+keptUnless (Refused r) new old = old
+
+unfoldable pub valuesLeft : List ℕ → ℕ → List ℕ → List ℕ
+valuesLeft sizes number old = keptUnless (valuesTests sizes number (length old)) (valuesOf sizes number) old
+
+-- the value of field i is out of range
+unfoldable pub badValue : List ℕ → List ℕ → ℕ → Bool
+badValue sizes values i = leb (getD sizes i 0) (getD values i 0)
+
+-- values into a number: the lowest field whose value is out of range
+unfoldable pub numberTests : List ℕ → List ℕ → Tested
+numberTests sizes values =
+    firstOf (lengthTests sizes (length values) ∷ refusedAt 13 0 (lowest (badValue sizes values) (length sizes)) ∷ [])
+
+unfoldable pub numberAnswer : Tested → ℕ → Number
+numberAnswer Passed number = Packet number
+numberAnswer (Refused r) number = NumberRefused r

@@ -1,0 +1,15 @@
+"""Stores the input and the expected output of a program that runs cases, or compares them with what is stored."""
+import pathlib
+import sys
+
+
+def store(crate, given, expected, check):
+    folder = pathlib.Path(__file__).resolve().parent.parent / "crates" / crate
+    for name, lines in (("stdin", given), ("stdout", expected)):
+        text = "".join(line + "\n" for line in lines)
+        path = folder / name
+        if not check:
+            path.write_text(text)
+        elif not path.exists() or path.read_text() != text:
+            sys.exit("%s/%s is not what the script works out" % (crate, name))
+    print("%s: %d cases" % (crate, len(given)))
