@@ -1,0 +1,318 @@
+-- The stages and the answer.
+use Prim.Native.Nat.{ℕ, zero, suc, pred, _+_, _≤_, _<_, min}
+use native.Mathlib.Omega.{arith}
+use native.Mathlib.Nat.{zero-add}
+use native.Mathlib.Numerals.{add-one}
+use mathlib.Core.Bool.{Bool, true, false, cond, true≢false}
+use mathlib.Core.List.{List, [], _∷_}
+use mathlib.Core.Option.{Option, none, some}
+use mathlib.Core.Path.{_≡_, refl, sym, _∙_, ap, subst}
+use lib.Dec.{ltb, eqb}
+use lib.ListN.{length}
+use borrow.Author.Tests.{lt-ltb, le-ltb, ltb-false, eqb-true, eqb-false, ne-eqb}
+use Rattle.packet.specs.Refusals.{refusal, refusedAt, firstOf}
+use Rattle.packet.specs.declared.Refusal.{Refusal}
+use Rattle.packet.specs.declared.Tested.{Tested}
+use Rattle.packet.specs.declared.Tested.the-variants.{Passed, Refused as Failed}
+use Rattle.policy.specs.Tree.{Policy}
+use Rattle.policy.specs.NodeLists.{NodeLists}
+use Rattle.policy.specs.NodesOfTree.{treeSize, entriesFrom, nodesOf, listsOf}
+use Rattle.text.specs.declared.Answer.{Answer}
+use Rattle.text.specs.declared.Answer.the-variants.{Nodes, Refused}
+use Rattle.text.specs.Tokens.{Token, Placed, constant, field, number, comparison, plus, semicolon, asterisk, opening, closing, bad, isBad, tokensFrom, tokens, fieldNames}
+use Rattle.text.specs.Kinds.{kindOf, kindAt, placeAt, afterFront}
+use Rattle.text.specs.Reading.{Before, nothing, whole, upTo, joinSequence, joinSum, wants, has, start, Outcome, tree, stop, readOn}
+use Rattle.text.specs.Answer.{badPlace, openAfter, deepPlace, stopPlace, treeRead, tooMany, answered, outcome, textTree, tested, answerTo, written, leftBy, shortest, TextRead}
+use Rattle.text.specs.Inner.{TokenFrom, openAfterKind, Ended, Counted, Entered, Past, sum, lists, putAll, Ready, Got, Done}
+use Rattle.text.specs.declared.tokens.Token as Found
+use Rattle.text.specs.declared.Step as Stepped
+use Rattle.text.proofs.ReadLaws.{top-ends, top-stops}
+use Rattle.text.proofs.StepLaws.{kind-not}
+use Rattle.text.proofs.PutLaws.{entries-length, put-written}
+
+-- no token has the kind of the end
+never-end : (t : Token) → kindOf t ≡ 1 → ⊥
+unfolding kindOf
+never-end bad e = omega arith
+never-end (constant c) e = omega arith
+never-end (field f) e = omega arith
+never-end (number v) e = omega arith
+never-end (comparison c) e = omega arith
+never-end plus e = omega arith
+never-end semicolon e = omega arith
+never-end asterisk e = omega arith
+never-end opening e = omega arith
+never-end closing e = omega arith
+
+bad-is : (t : Token) → kindOf t ≡ 0 → isBad t ≡ true
+unfolding kindOf isBad
+bad-is bad e = refl
+bad-is (constant c) e = absurd (omega arith)
+bad-is (field f) e = absurd (omega arith)
+bad-is (number v) e = absurd (omega arith)
+bad-is (comparison c) e = absurd (omega arith)
+bad-is plus e = absurd (omega arith)
+bad-is semicolon e = absurd (omega arith)
+bad-is asterisk e = absurd (omega arith)
+bad-is opening e = absurd (omega arith)
+bad-is closing e = absurd (omega arith)
+
+bad-not : (t : Token) → (kindOf t ≡ 0 → ⊥) → isBad t ≡ false
+unfolding kindOf isBad
+bad-not bad h = absurd (h refl)
+bad-not (constant c) h = refl
+bad-not (field f) h = refl
+bad-not (number v) h = refl
+bad-not (comparison c) h = refl
+bad-not plus h = refl
+bad-not semicolon h = refl
+bad-not asterisk h = refl
+bad-not opening h = refl
+bad-not closing h = refl
+
+open-is : (n : ℕ) (t : Token) → openAfter n t ≡ openAfterKind n (kindOf t)
+unfolding kindOf openAfter openAfterKind
+open-is n bad = refl
+open-is n (constant c) = refl
+open-is n (field f) = refl
+open-is n (number v) = refl
+open-is n (comparison c) = refl
+open-is n plus = refl
+open-is n semicolon = refl
+open-is n asterisk = refl
+open-is n opening = refl
+open-is n closing = refl
+
+-- ---- cause 14
+
+pub bad-end : (ts : List Placed) → kindAt ts ≡ 1 → badPlace ts ≡ none
+unfolding kindAt badPlace
+bad-end [] e = refl
+bad-end (t ∷ ts) e = absurd (never-end (t .token) e)
+
+pub bad-here : (end : ℕ) (ts : List Placed) → kindAt ts ≡ 0 → badPlace ts ≡ some (placeAt end ts)
+unfolding kindAt badPlace placeAt
+bad-here end [] e = absurd (omega arith)
+bad-here end (t ∷ ts) e = rw (bad-is (t .token) e, badPlace)
+
+pub bad-on : (ts : List Placed) → (kindAt ts ≡ 0 → ⊥) → badPlace ts ≡ badPlace (afterFront ts)
+unfolding kindAt badPlace afterFront
+bad-on [] h = refl
+bad-on (t ∷ ts) h = rw (bad-not (t .token) h, badPlace)
+
+-- ---- cause 15
+
+pub deep-end : (n : ℕ) (ts : List Placed) → kindAt ts ≡ 1 → deepPlace n ts ≡ none
+unfolding kindAt deepPlace
+deep-end n [] e = refl
+deep-end n (t ∷ ts) e = absurd (never-end (t .token) e)
+
+pub deep-here : (end n m : ℕ) (ts : List Placed) → (kindAt ts ≡ 1 → ⊥) → m ≡ openAfterKind n (kindAt ts) → 64 < m → deepPlace n ts ≡ some (placeAt end ts)
+unfolding kindAt deepPlace placeAt
+deep-here end n m [] h e l = absurd (h refl)
+deep-here end n m (t ∷ ts) h e l = rw (lt-ltb 64 (openAfter n (t .token)) (omega (arith, open-is n (t .token), e)), deepPlace)
+
+pub deep-on : (n m : ℕ) (ts : List Placed) → (kindAt ts ≡ 1 → ⊥) → m ≡ openAfterKind n (kindAt ts) → m ≤ 64 → deepPlace n ts ≡ deepPlace m (afterFront ts)
+unfolding kindAt deepPlace afterFront
+deep-on n m [] h e l = absurd (h refl)
+deep-on n m (t ∷ ts) h e l =
+    rw (le-ltb 64 (openAfter n (t .token)) (omega (arith, open-is n (t .token), e)), deepPlace)
+    (ap (λ (k : ℕ). deepPlace k ts) (open-is n (t .token) ∙ sym e))
+
+pub after-opening : (n k : ℕ) → k ≡ 9 → n + 1 ≡ openAfterKind n k
+unfolding openAfterKind
+after-opening n k e = rw e (add-one n)
+
+pub after-closing : (n k r : ℕ) → k ≡ 10 → r ≡ pred n → r ≡ openAfterKind n k
+unfolding openAfterKind
+after-closing n k r e q = rw e q
+
+pub after-other : (n k : ℕ) → (k ≡ 9 → ⊥) → (k ≡ 10 → ⊥) → n ≡ openAfterKind n k
+unfolding openAfterKind
+after-other n k x y = rw (ne-eqb k 9 x, ne-eqb k 10 y)
+
+-- ---- causes 16 and 17
+
+module _ (text : List ℕ) where
+  pub ended-over : {s : Stepped.Step} {t : Found.Token} → s .ok ≡ true → TokenFrom text (s .at) t → t .kind ≡ 1 → Ended text s s
+  ended-over o f e =
+      record {
+        failed = λ x. absurd (true≢false (sym o ∙ x));
+        over = λ _ _. (sym (f .kind-is) ∙ e, refl);
+        more = λ _ x. absurd (true≢false (sym o ∙ x));
+      }
+
+  pub ended-more : {s : Stepped.Step} {t : Found.Token} → s .ok ≡ true → TokenFrom text (s .at) t → (t .kind ≡ 1 → ⊥) → Ended text s (record { ok = false; at = t .start; nodes = s .nodes })
+  ended-more o f e =
+      record {
+        failed = λ x. absurd (true≢false (sym o ∙ x));
+        over = λ _ x. absurd (true≢false (sym x));
+        more = λ _ _. (kind-not text 0 f e, f .start-is);
+      }
+
+  pub ended-failed : {s : Stepped.Step} → s .ok ≡ false → Ended text s s
+  ended-failed o = record { failed = λ _. refl; over = λ x. absurd (true≢false (sym x ∙ o)); more = λ x. absurd (true≢false (sym x ∙ o)) }
+
+  whole-is : {nodes room : ℕ} {L L′ : NodeLists} {s : Stepped.Step} (g : Got sum text 0 nodes room L s L′) → outcome fieldNames text ≡ readOn (length text) (has nothing [] (g .policy)) (tokensFrom fieldNames text (s .at))
+  unfolding outcome tokens start Entered
+  whole-is g = g .moves nothing refl []
+
+  whole-tree : (p : Policy) → whole nothing p ≡ p
+  unfolding whole upTo joinSequence joinSum nothing
+  whole-tree p = refl
+
+  ends-tree : {nodes room : ℕ} {L L′ : NodeLists} {s : Stepped.Step} (g : Got sum text 0 nodes room L s L′) → kindAt (tokensFrom fieldNames text (s .at)) ≡ 1 → outcome fieldNames text ≡ tree (g .policy)
+  ends-tree {s = s} g e = whole-is g ∙ top-ends (length text) nothing (g .policy) (tokensFrom fieldNames text (s .at)) e ∙ ap tree (whole-tree (g .policy))
+
+  ends-stop : {nodes room : ℕ} {L L′ : NodeLists} {s : Stepped.Step} (g : Got sum text 0 nodes room L s L′) → (kindAt (tokensFrom fieldNames text (s .at)) ≡ 1 → ⊥)
+      → outcome fieldNames text ≡ stop (placeAt (length text) (tokensFrom fieldNames text (s .at)))
+  unfolding Past
+  ends-stop {s = s} g e = whole-is g ∙ top-stops (length text) nothing (g .policy) (tokensFrom fieldNames text (s .at)) e (g .past .0) (g .past .1) (g .past .2)
+
+  pub counted : {L L′ : NodeLists} {s r : Stepped.Step} → Done sum text 0 0 0 L s L′ → Ended text s r → Counted text r
+  unfolding stopPlace textTree treeRead outcome tokens start Entered
+  counted {L} {L′} {s} {r} d e = go (s .ok) refl
+    where
+      go : (o : Bool) → s .ok ≡ o → Counted text r
+      go true q =
+          let g = d .got q in
+          record {
+            read = λ x. (ap stopPlace (ends-tree g (e .over q x .0)), e .over q x .1 ∙ g .nodes-is ∙ sym (ap (λ (o : Outcome). 0 + treeSize (treeRead o)) (ends-tree g (e .over q x .0))) ∙ zero-add (treeSize (textTree fieldNames text)));
+            stopped = λ x. ap stopPlace (ends-stop g (e .more q x .0)) ∙ ap some (sym (e .more q x .1));
+          }
+      go false q =
+          record {
+            read = λ x. absurd (true≢false (sym x ∙ ap (λ (z : Stepped.Step). z .ok) (e .failed q) ∙ q));
+            stopped = λ x. ap stopPlace (d .stopped q nothing refl []) ∙ ap (λ (z : Stepped.Step). some (z .at)) (sym (e .failed q));
+          }
+
+-- stages 16 and 17 over the place where the reading stops and the number of nodes
+abbrev pub sized : ℕ → Option ℕ → ℕ → Answer
+sized room o n = answered (firstOf (refusedAt 16 0 o ∷ refusedAt 17 0 (tooMany room n) ∷ [])) n
+
+pub sized-stop : (room n place : ℕ) (o : Option ℕ) (r : Refusal) → o ≡ some place → r ≡ refusal 16 0 place → Refused r ≡ sized room o n
+unfolding refusedAt firstOf answered
+sized-stop room n place o r e q = rw (e, q)
+
+pub sized-over : (room n m : ℕ) (o : Option ℕ) (r : Refusal) → o ≡ none → m ≡ n → min 512 room < m → r ≡ refusal 17 0 m → Refused r ≡ sized room o n
+unfolding refusedAt firstOf answered tooMany
+sized-over room n m o r e q l f = rw (e, f, ← q, lt-ltb (min 512 room) m l)
+
+pub sized-nodes : (room n m : ℕ) (o : Option ℕ) → o ≡ none → m ≡ n → m ≤ min 512 room → Nodes m ≡ sized room o n
+unfolding refusedAt firstOf answered tooMany
+sized-nodes room n m o e q l = rw (e, ← q, le-ltb (min 512 room) m l)
+
+-- ---- the answer
+
+module _ (names : List (List ℕ)) (text : List ℕ) (room : ℕ) where
+  pub first-refuses : (r : Refusal) → Failed r ≡ refusedAt 14 0 (badPlace (tokens names text)) → Refused r ≡ answerTo names text room
+  unfolding answerTo tested answered firstOf
+  first-refuses r e = rw (← e)
+
+  pub second-refuses : (r : Refusal) → Passed ≡ refusedAt 14 0 (badPlace (tokens names text)) → Failed r ≡ refusedAt 15 0 (deepPlace 0 (tokens names text)) → Refused r ≡ answerTo names text room
+  unfolding answerTo tested answered firstOf
+  second-refuses r e f = rw (← e, ← f)
+
+  pub rest-answers : Passed ≡ refusedAt 14 0 (badPlace (tokens names text)) → Passed ≡ refusedAt 15 0 (deepPlace 0 (tokens names text))
+      → sized room (stopPlace (outcome names text)) (treeSize (textTree names text)) ≡ answerTo names text room
+  unfolding answerTo tested answered firstOf
+  rest-answers e f = rw (← e, ← f)
+
+nodes-only : (o₁ o₂ o₃ o₄ : Option ℕ) (m n : ℕ) → Nodes n ≡ answered (firstOf (refusedAt 14 0 o₁ ∷ refusedAt 15 0 o₂ ∷ refusedAt 16 0 o₃ ∷ refusedAt 17 0 o₄ ∷ [])) m
+    → (o₂ ≡ none) × (o₃ ≡ none) × (o₄ ≡ none) × (m ≡ n)
+unfolding refusedAt firstOf answered
+nodes-only none none none none m n e = (refl, refl, refl, sym (cc))
+nodes-only (some x) o₂ o₃ o₄ m n e = absurd (let z : _≡_ {A = ℕ} 0 1 = cc in omega arith)
+nodes-only none (some x) o₃ o₄ m n e = absurd (let z : _≡_ {A = ℕ} 0 1 = cc in omega arith)
+nodes-only none none (some x) o₄ m n e = absurd (let z : _≡_ {A = ℕ} 0 1 = cc in omega arith)
+nodes-only none none none (some x) m n e = absurd (let z : _≡_ {A = ℕ} 0 1 = cc in omega arith)
+
+pub few-enough : (room n : ℕ) → tooMany room n ≡ none → n ≤ min 512 room
+unfolding tooMany
+few-enough room n e = go (ltb (min 512 room) n) refl e
+  where
+    go : (b : Bool) → ltb (min 512 room) n ≡ b → cond b (some n) none ≡ none → n ≤ min 512 room
+    go true q f = absurd (let z : _≡_ {A = ℕ} 0 1 = cc in omega arith)
+    go false q f = ltb-false (min 512 room) n q
+
+-- what a count tells
+pub count-parts : (names : List (List ℕ)) (text : List ℕ) (room n : ℕ) → Nodes n ≡ answerTo names text room
+    → (deepPlace 0 (tokens names text) ≡ none) × (stopPlace (outcome names text) ≡ none) × (tooMany room (treeSize (textTree names text)) ≡ none) × (treeSize (textTree names text) ≡ n)
+unfolding answerTo tested
+count-parts names text room n e = nodes-only (badPlace (tokens names text)) (deepPlace 0 (tokens names text)) (stopPlace (outcome names text)) (tooMany room (treeSize (textTree names text))) (treeSize (textTree names text)) n e
+
+-- where a count is the answer
+pub count-answers : (names : List (List ℕ)) (text : List ℕ) (room n : ℕ) (p : Policy) → badPlace (tokens names text) ≡ none → deepPlace 0 (tokens names text) ≡ none → outcome names text ≡ tree p → treeSize p ≡ n → n ≤ min 512 room
+    → answerTo names text room ≡ Nodes n
+unfolding answerTo tested answered firstOf refusedAt textTree stopPlace treeRead tooMany
+count-answers names text room n p a b c d l = rw (a, b, c, d, le-ltb (min 512 room) n l)
+
+module _ (text : List ℕ) (room n : ℕ) (e : Nodes n ≡ answerTo fieldNames text room) where
+  parts : (stopPlace (outcome fieldNames text) ≡ none) × (tooMany room (treeSize (textTree fieldNames text)) ≡ none) × (treeSize (textTree fieldNames text) ≡ n)
+  parts = let q = count-parts fieldNames text room n e in (q .1, q .2, q .3)
+
+  pub nodes-few : n ≤ min 512 room
+  nodes-few = let q : treeSize (textTree fieldNames text) ≤ min 512 room = few-enough room (treeSize (textTree fieldNames text)) (parts .1) in subst (λ (k : ℕ). k ≤ min 512 room) (parts .2) q
+
+  -- a reader that is given room for all nodes of the text writes them
+  pub nodes-written : {s : Stepped.Step} (K F S : List ℕ) {L′ : NodeLists} → n ≤ length K → n ≤ length F → n ≤ length S → Done sum text 0 0 n (lists K F S) s L′
+      → L′ ≡ lists (written (nodesOf (textTree fieldNames text) .kind) K) (written (nodesOf (textTree fieldNames text) .first) F) (written (nodesOf (textTree fieldNames text) .second) S)
+  unfolding stopPlace textTree treeRead nodesOf outcome tokens start Entered
+  nodes-written {s} K F S {L′} k f z d = go (s .ok) refl
+    where
+      Goal : Type 0
+      Goal = L′ ≡ lists (written (nodesOf (textTree fieldNames text) .kind) K) (written (nodesOf (textTree fieldNames text) .first) F) (written (nodesOf (textTree fieldNames text) .second) S)
+
+      stuck : (place : ℕ) → outcome fieldNames text ≡ stop place → ⊥
+      stuck place q = let y : some place ≡ none = sym (ap stopPlace q) ∙ parts .0 in let w : _≡_ {A = ℕ} 0 1 = cc in omega arith
+
+      read : (g : Got sum text 0 0 n (lists K F S) s L′) → outcome fieldNames text ≡ tree (g .policy) → Goal
+      read g q =
+          let t : g .policy ≡ textTree fieldNames text = sym (ap treeRead q) in
+          g .lists-are
+          ∙ put-written n (entriesFrom 0 (g .policy)) K F S (omega (arith, entries-length 0 (g .policy), ap treeSize t, parts .2)) k f z
+          ∙ ap (λ (p : Policy). lists (written (listsOf (entriesFrom 0 p) .kind) K) (written (listsOf (entriesFrom 0 p) .first) F) (written (listsOf (entriesFrom 0 p) .second) S)) t
+
+      last : (g : Got sum text 0 0 n (lists K F S) s L′) (b : Bool) → eqb (kindAt (tokensFrom fieldNames text (s .at))) 1 ≡ b → Goal
+      last g true q = read g (ends-tree text g (eqb-true _ _ q))
+      last g false q = absurd (stuck _ (ends-stop text g (eqb-false _ _ q)))
+
+      go : (o : Bool) → s .ok ≡ o → Goal
+      go true q = last (d .got q) (eqb (kindAt (tokensFrom fieldNames text (s .at))) 1) refl
+      go false q = absurd (stuck (s .at) (d .stopped q nothing refl []))
+
+pub stage-passes : (k : ℕ) (o : Option ℕ) → o ≡ none → Passed ≡ refusedAt k 0 o
+unfolding refusedAt
+stage-passes k o e = rw e
+
+pub stage-refuses : (k place place′ : ℕ) (o : Option ℕ) (r : Refusal) → o ≡ some place′ → place ≡ place′ → r ≡ refusal k 0 place → Failed r ≡ refusedAt k 0 o
+unfolding refusedAt
+stage-refuses k place place′ o r e q f = rw (e, f, q)
+
+-- ---- the public call, whose room is the shortest lent list
+
+module _ (text K F S : List ℕ) (room m : ℕ) (r : Answer) (inner : m ≡ min (length F) (length S)) (outer : room ≡ min (length K) m) (says : r ≡ answerTo fieldNames text room) where
+  answer-is : r ≡ answerTo fieldNames text (shortest K F S)
+  unfolding shortest
+  answer-is = says ∙ ap (answerTo fieldNames text) (outer ∙ ap (λ (k : ℕ). min (length K) k) inner)
+
+  pub read-ready : (n : ℕ) → r ≡ Nodes n → Ready text 0 0 n (lists K F S)
+  read-ready n e =
+      let h : n ≤ min 512 room = nodes-few text room n (sym e ∙ says) in
+      record { within = omega arith; few = omega arith; small = omega arith; kinds = omega arith; firsts = omega arith; seconds = omega arith }
+
+  pub read-done : (n : ℕ) {s : Stepped.Step} (K′ F′ S′ : List ℕ) → r ≡ Nodes n → Done sum text 0 0 n (lists K F S) s (lists K′ F′ S′) → TextRead text K F S (Nodes n) K′ F′ S′
+  unfolding leftBy
+  read-done n K′ F′ S′ e d =
+      let h : n ≤ min 512 room = nodes-few text room n (sym e ∙ says) in
+      let w = nodes-written text room n (sym e ∙ says) K F S {L′ = lists K′ F′ S′} (omega arith) (omega arith) (omega arith) d in
+      record {
+        answer = sym e ∙ answer-is;
+        kinds = ap (λ (L : NodeLists). L .kind) w;
+        firsts = ap (λ (L : NodeLists). L .first) w;
+        seconds = ap (λ (L : NodeLists). L .second) w;
+      }
+
+  pub read-refused : (x : Refusal) → r ≡ Refused x → TextRead text K F S r K F S
+  unfolding leftBy
+  read-refused x e = record { answer = answer-is; kinds = rw e; firsts = rw e; seconds = rw e }

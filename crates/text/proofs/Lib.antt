@@ -1,0 +1,11 @@
+mod Examples
+pub mod Below
+pub mod ByteLaws
+pub mod WordLaws
+pub mod TokenLaws
+pub mod ReadLaws
+pub mod PutLaws
+pub mod StepLaws
+pub mod LoopLaws
+pub mod AnswerLaws
+pub mod GrammarLaws

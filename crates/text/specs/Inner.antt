@@ -1,0 +1,161 @@
+-- What the inner functions of the reader promise.
+use Prim.Native.Nat.{ℕ, zero, suc, pred, _+_, _-_, _≤_, _<_}
+use mathlib.Core.Bool.{true, false, cond, _&&_}
+use mathlib.Core.List.{List, [], _∷_, _++_}
+use mathlib.Core.Option.{Option, none, some}
+use mathlib.Core.Path.{_≡_}
+use lib.Dec.{leb, ltb, eqb}
+use lib.ListN.{length, getD, drop, set}
+use Rattle.policy.specs.Tree.{Policy}
+use Rattle.policy.specs.NodeLists.{NodeLists}
+use Rattle.policy.specs.NodesOfTree.{Entry, entry, treeSize, entriesFrom}
+use Rattle.text.specs.Bytes.{isBlank}
+use Rattle.text.specs.Tokens.{Token, Placed, allDigits, decimal, frontToken, restOfToken, tokensFrom, fieldNames}
+use Rattle.text.specs.Kinds.{kindOf, valueOf, kindAt, valueAt, placeAt, afterFront}
+use Rattle.text.specs.Reading.{Before, nothing, State, wants, has, Outcome, stop, readOn}
+use Rattle.text.specs.Answer.{stopPlace, outcome, textTree}
+use Rattle.text.specs.declared.tokens.Token as Found
+use Rattle.text.specs.declared.Step as Stepped
+use Rattle.text.specs.declared.Leaf as Leaves
+
+-- the value of digits that follow others of value n, or 65,536 where they are no digits or make more than 65,535
+unfoldable pub numberFrom : ℕ → List ℕ → ℕ
+numberFrom n w = cond (allDigits w && leb (decimal n w) 65535) (decimal n w) 65536
+
+-- r is the field's number, or 8 where there is none
+pub record Named (o : Option ℕ) (r : ℕ) : Type 0 where
+  pub found : r < 8 → o ≡ some r
+  pub missing : 8 ≤ r → o ≡ none
+
+-- these are the numbers of the token
+pub record NumbersOf (t : Token) (kind value : ℕ) : Type 0 where
+  pub kind-is : kind ≡ kindOf t
+  pub value-is : value ≡ valueOf t
+
+-- the first byte from `at` on that is no blank, or the end
+pub record Skipped (text : List ℕ) (at r : ℕ) : Type 0 where
+  pub low : at ≤ r
+  pub within : r ≤ length text
+  pub same : tokensFrom fieldNames text r ≡ tokensFrom fieldNames text at
+  pub found : r < length text → isBlank (getD text r 0) ≡ false
+
+-- the token that starts at a byte
+pub record FrontAt (text : List ℕ) (at : ℕ) (r : Found.Token) : Type 0 where
+  pub is : NumbersOf (frontToken fieldNames (getD text at 0) (drop (suc at) text)) (r .kind) (r .value)
+  pub starts : r .start ≡ at
+  pub ends : r .next ≡ suc at + restOfToken (getD text at 0) (drop (suc at) text)
+  pub within : r .next ≤ length text
+
+-- the first token from a byte on, or the end
+pub record TokenFrom (text : List ℕ) (at : ℕ) (r : Found.Token) : Type 0 where
+  pub kind-is : r .kind ≡ kindAt (tokensFrom fieldNames text at)
+  pub value-is : r .value ≡ valueAt (tokensFrom fieldNames text at)
+  pub start-is : r .start ≡ placeAt (length text) (tokensFrom fieldNames text at)
+  pub rest : tokensFrom fieldNames text (r .next) ≡ afterFront (tokensFrom fieldNames text at)
+  pub low : at ≤ r .start
+  pub onward : (r .kind ≡ 1 → ⊥) → r .start < r .next
+  pub within : r .next ≤ length text
+
+-- levels of readers. A joined sequence may go on with `;`, an added sum with `+`.
+pub data Level : Type 0 where
+  item starred joined sequence added sum : Level
+
+-- what stands before what a reader of the level reads
+unfoldable pub Entered : Level → Before → Type 0
+Entered item b = Unit
+Entered starred b = Unit
+Entered joined b = b .sequenced ≡ none
+Entered sequence b = b .sequenced ≡ none
+Entered added b = b ≡ nothing
+Entered sum b = b ≡ nothing
+
+-- the kinds of tokens that can stand where a reader of the level has stopped
+unfoldable pub Past : Level → ℕ → Type 0
+Past item k = Unit
+Past starred k = k ≡ 8 → ⊥
+Past joined k = k ≡ 8 → ⊥
+Past sequence k = (k ≡ 8 → ⊥) × (k ≡ 7 → ⊥)
+Past added k = (k ≡ 8 → ⊥) × (k ≡ 7 → ⊥)
+Past sum k = (k ≡ 8 → ⊥) × (k ≡ 7 → ⊥) × (k ≡ 6 → ⊥)
+
+-- writes v at n where there is room for it
+unfoldable pub putAt : ℕ → ℕ → ℕ → List ℕ → List ℕ
+putAt room n v xs = cond (ltb n room) (set xs n v) xs
+
+unfoldable pub putEntry : ℕ → ℕ → Entry → NodeLists → NodeLists
+putEntry room n e L =
+    record { kind = putAt room n (e .kind) (L .kind); first = putAt room n (e .first) (L .first); second = putAt room n (e .second) (L .second) }
+
+unfoldable pub putAll : ℕ → ℕ → List Entry → NodeLists → NodeLists
+putAll room n [] L = L
+putAll room n (e ∷ es) L = putAll room (suc n) es (putEntry room n e L)
+
+abbrev pub lists : List ℕ → List ℕ → List ℕ → NodeLists
+lists kind first second = record { kind = kind; first = first; second = second }
+
+-- what a reader asks: nodes so far are no more than bytes so far, and no more are written than there is room for
+pub record Ready (text : List ℕ) (at nodes room : ℕ) (L : NodeLists) : Type 0 where
+  pub within : at ≤ length text
+  pub few : nodes ≤ at
+  pub small : room ≤ 512
+  pub kinds : room ≤ length (L .kind)
+  pub firsts : room ≤ length (L .first)
+  pub seconds : room ≤ length (L .second)
+
+-- an item that is no sum in parentheses: one node, whatever its number
+pub record GotLeaf (text : List ℕ) (at : ℕ) (r : Leaves.Leaf) : Type 0 where
+  pub policy : Policy
+  pub moves : (b : Before) (cs : List Before)
+      → readOn (length text) (wants b cs) (tokensFrom fieldNames text at) ≡ readOn (length text) (has b cs policy) (tokensFrom fieldNames text (r .at))
+  pub one : treeSize policy ≡ 1
+  pub entries : (n : ℕ) → entriesFrom n policy ≡ entry (r .kind) (r .first) (r .second) ∷ []
+  pub onward : at < r .at
+  pub within : r .at ≤ length text
+
+pub record LeafDone (text : List ℕ) (at : ℕ) (r : Leaves.Leaf) : Type 0 where
+  pub got : r .ok ≡ true → GotLeaf text at r
+  pub stopped : r .ok ≡ false → (b : Before) (cs : List Before) → readOn (length text) (wants b cs) (tokensFrom fieldNames text at) ≡ stop (r .at)
+
+-- the closing parenthesis after what s has read
+pub record Closed (text : List ℕ) (s r : Stepped.Step) : Type 0 where
+  pub failed : s .ok ≡ false → r ≡ s
+  pub shut : s .ok ≡ true → r .ok ≡ true → (kindAt (tokensFrom fieldNames text (s .at)) ≡ 10) × (tokensFrom fieldNames text (r .at) ≡ afterFront (tokensFrom fieldNames text (s .at))) × (s .at < r .at) × (r .at ≤ length text) × (r .nodes ≡ s .nodes)
+  pub unshut : s .ok ≡ true → r .ok ≡ false → (kindAt (tokensFrom fieldNames text (s .at)) ≡ 10 → ⊥) × (r .at ≡ placeAt (length text) (tokensFrom fieldNames text (s .at)))
+
+-- the node that joins what r has read to what stands before it
+pub record Joined (k left room : ℕ) (r : Stepped.Step) (L : NodeLists) (r′ : Stepped.Step) (L′ : NodeLists) : Type 0 where
+  pub failed : r .ok ≡ false → (r′ ≡ r) × (L′ ≡ L)
+  pub made : r .ok ≡ true → (r′ ≡ record { ok = true; at = r .at; nodes = r .nodes + 1 }) × (L′ ≡ putEntry room (r .nodes) (entry k left (r .nodes - 1)) L)
+
+-- a reader has read a policy, whose nodes are those after the first so many
+pub record Got (l : Level) (text : List ℕ) (at nodes room : ℕ) (L : NodeLists) (r : Stepped.Step) (L′ : NodeLists) : Type 0 where
+  pub policy : Policy
+  pub moves : (b : Before) → Entered l b → (cs : List Before)
+      → readOn (length text) (wants b cs) (tokensFrom fieldNames text at) ≡ readOn (length text) (has b cs policy) (tokensFrom fieldNames text (r .at))
+  pub past : Past l (kindAt (tokensFrom fieldNames text (r .at)))
+  pub nodes-is : r .nodes ≡ nodes + treeSize policy
+  pub lists-are : L′ ≡ putAll room nodes (entriesFrom nodes policy) L
+  pub onward : at < r .at
+  pub within : r .at ≤ length text
+  pub few : r .nodes + at ≤ r .at + nodes
+
+-- what a reader of the level has done
+pub record Done (l : Level) (text : List ℕ) (at nodes room : ℕ) (L : NodeLists) (r : Stepped.Step) (L′ : NodeLists) : Type 0 where
+  pub got : r .ok ≡ true → Got l text at nodes room L r L′
+  pub stopped : r .ok ≡ false → (b : Before) → Entered l b → (cs : List Before)
+      → readOn (length text) (wants b cs) (tokensFrom fieldNames text at) ≡ stop (r .at)
+
+-- how many parentheses are open after a token of a kind
+unfoldable pub openAfterKind : ℕ → ℕ → ℕ
+openAfterKind n k = cond (eqb k 9) (suc n) (cond (eqb k 10) (pred n) n)
+
+-- the end of the text after what s has read
+pub record Ended (text : List ℕ) (s r : Stepped.Step) : Type 0 where
+  pub failed : s .ok ≡ false → r ≡ s
+  pub over : s .ok ≡ true → r .ok ≡ true → (kindAt (tokensFrom fieldNames text (s .at)) ≡ 1) × (r .nodes ≡ s .nodes)
+  pub more : s .ok ≡ true → r .ok ≡ false → (kindAt (tokensFrom fieldNames text (s .at)) ≡ 1 → ⊥) × (r .at ≡ placeAt (length text) (tokensFrom fieldNames text (s .at)))
+
+-- the whole text has been read, or the reading has stopped
+pub record Counted (text : List ℕ) (r : Stepped.Step) : Type 0 where
+  pub read : r .ok ≡ true → (stopPlace (outcome fieldNames text) ≡ none) × (r .nodes ≡ treeSize (textTree fieldNames text))
+  pub stopped : r .ok ≡ false → stopPlace (outcome fieldNames text) ≡ some (r .at)

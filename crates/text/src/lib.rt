@@ -1,0 +1,465 @@
+// The text reader (document 01, "Text").
+use packet::Refusal;
+use packet::Tested;
+
+mod bytes;
+mod tokens;
+mod words;
+
+ghost use mathlib.Core.Path.{_≡_};
+ghost use mathlib.Core.Bool.{true, false};
+ghost use Prim.Native.Nat.{_+_, _^_, _≤_, _<_, min};
+ghost use lib.ListN.{length};
+ghost use mathlib.Core.List.{[], _∷_};
+ghost use Rattle.packet.specs.Refusals.{refusal, refusedAt, firstOf};
+ghost use Rattle.policy.specs.NodesOfTree.{entry, treeSize};
+ghost use Rattle.text.specs.Tokens.{tokens, tokensFrom, fieldNames};
+ghost use Rattle.text.specs.Answer.{badPlace, deepPlace, stopPlace, tooMany, answered, outcome, textTree, answerTo, TextRead};
+ghost use Rattle.text.specs.Kinds.{kindAt};
+ghost use Rattle.text.specs.Inner;
+ghost use Rattle.text.specs.Inner.{LeafDone, Closed, Joined, lists, putEntry, Ready, Done, openAfterKind, Ended, Counted};
+
+// What reading a text says: the number of its nodes, or a refusal.
+pub enum Answer {
+    Nodes(usize),
+    Refused(Refusal),
+}
+
+// Where a reader stands: whether it has read what it reads, the byte up to which, or at which it stopped, and the nodes so far.
+struct Step {
+    ok: bool,
+    at: usize,
+    nodes: usize,
+}
+
+// An item that is no sum in parentheses: whether it has been read, the byte after it, or at which it stopped, and its node.
+struct Leaf {
+    ok: bool,
+    at: usize,
+    kind: u8,
+    first: u16,
+    second: u16,
+}
+
+fn stopped(at: usize) -> Leaf
+    ensures { λ r. ⌜ r ≡ record { ok = false; at = at; kind = 0; first = 0; second = 0 } ⌝ }
+{
+    Leaf {
+        ok: false,
+        at,
+        kind: 0,
+        first: 0,
+        second: 0,
+    }
+}
+
+fn small(k: u16) -> u8
+    ensures { λ r. ⌜ (k < 256 → r ≡ k) ⌝ }
+{
+    if k < 256 {
+        return k as u8;
+    }
+    0
+}
+
+fn leaf_item(text: &[u8], at: usize) -> Leaf
+    requires { ⌜ (at ≤ length (now text)) × (kindAt (tokensFrom fieldNames (now text) at) ≡ 9 → ⊥) ⌝ }
+    ensures { λ r. ⌜ LeafDone (now (text .entry)) at r ⌝ }
+{
+    let t = tokens::token_from(text, at);
+    if t.kind == 2 {
+        return Leaf {
+            ok: true,
+            at: t.next,
+            kind: small(t.value),
+            first: 0,
+            second: 0,
+        };
+    }
+    if t.kind != 3 {
+        return stopped(t.start);
+    }
+    let c = tokens::token_from(text, t.next);
+    if c.kind != 5 {
+        return stopped(c.start);
+    }
+    let v = tokens::token_from(text, c.next);
+    if v.kind != 4 {
+        return stopped(v.start);
+    }
+    Leaf {
+        ok: true,
+        at: v.next,
+        kind: small(c.value),
+        first: t.value,
+        second: v.value,
+    }
+}
+
+// Writes node n where there is room for it.
+fn put(
+    n: usize,
+    room: usize,
+    k: u8,
+    a: u16,
+    b: u16,
+    kind: &mut [u8],
+    first: &mut [u16],
+    second: &mut [u16],
+)
+    requires { ⌜ (room ≤ length (now kind)) × (room ≤ length (now first)) × (room ≤ length (now second)) ⌝ }
+    ensures { λ _. ⌜ lists (now (kind .exit)) (now (first .exit)) (now (second .exit))
+        ≡ putEntry room n (entry k a b) (lists (now (kind .entry)) (now (first .entry)) (now (second .entry))) ⌝ }
+{
+    if n < room {
+        kind[n] = k;
+        first[n] = a;
+        second[n] = b;
+    }
+}
+
+fn number_of(n: usize) -> u16
+    ensures { λ r. ⌜ (n < 65536 → r ≡ n) ⌝ }
+{
+    if n < 65536 {
+        return n as u16;
+    }
+    0
+}
+
+// Writes node n, whose entries are numbers of nodes before it.
+fn put_parent(
+    n: usize,
+    room: usize,
+    k: u8,
+    a: usize,
+    b: usize,
+    kind: &mut [u8],
+    first: &mut [u16],
+    second: &mut [u16],
+)
+    requires { ⌜ (room ≤ length (now kind)) × (room ≤ length (now first)) × (room ≤ length (now second)) × (room ≤ 512) × (a ≤ n) × (b ≤ n) ⌝ }
+    ensures { λ _. ⌜ lists (now (kind .exit)) (now (first .exit)) (now (second .exit))
+        ≡ putEntry room n (entry k a b) (lists (now (kind .entry)) (now (first .entry)) (now (second .entry))) ⌝ }
+{
+    put(n, room, k, number_of(a), number_of(b), kind, first, second);
+}
+
+// The node that joins what r has read to the policy whose node is `left`.
+fn join(
+    k: u8,
+    left: usize,
+    r: Step,
+    room: usize,
+    kind: &mut [u8],
+    first: &mut [u16],
+    second: &mut [u16],
+) -> Step
+    requires { ⌜ (room ≤ length (now kind)) × (room ≤ length (now first)) × (room ≤ length (now second)) × (room ≤ 512)
+        × (r .ok ≡ true → (left < r .nodes) × (r .nodes < 2 ^ 63)) ⌝ }
+    ensures { λ s. ⌜ Joined k left room r (lists (now (kind .entry)) (now (first .entry)) (now (second .entry))) s
+        (lists (now (kind .exit)) (now (first .exit)) (now (second .exit))) ⌝ }
+{
+    if r.ok {
+        let n = r.nodes;
+        put_parent(n, room, k, left, n - 1, kind, first, second);
+        return Step {
+            ok: true,
+            at: r.at,
+            nodes: n + 1,
+        };
+    }
+    r
+}
+
+// The closing parenthesis after what s has read.
+fn closed(text: &[u8], s: Step) -> Step
+    requires { ⌜ (s .ok ≡ true → s .at ≤ length (now text)) ⌝ }
+    ensures { λ r. ⌜ Closed (now (text .entry)) s r ⌝ }
+{
+    if s.ok {
+        let t = tokens::token_from(text, s.at);
+        if t.kind == 10 {
+            return Step {
+                ok: true,
+                at: t.next,
+                nodes: s.nodes,
+            };
+        }
+        return Step {
+            ok: false,
+            at: t.start,
+            nodes: s.nodes,
+        };
+    }
+    s
+}
+
+// An item: drop, id, dup, a field with a comparison and a number, or a sum in parentheses.
+fn item(
+    text: &[u8],
+    at: usize,
+    nodes: usize,
+    room: usize,
+    kind: &mut [u8],
+    first: &mut [u16],
+    second: &mut [u16],
+) -> Step
+    requires { ⌜ Ready (now text) at nodes room (lists (now kind) (now first) (now second)) ⌝ }
+    ensures { λ r. ⌜ Done Inner.item (now (text .entry)) at nodes room (lists (now (kind .entry)) (now (first .entry)) (now (second .entry))) r
+        (lists (now (kind .exit)) (now (first .exit)) (now (second .exit))) ⌝ }
+{
+    let t = tokens::token_from(text, at);
+    if t.kind == 9 {
+        let s = sum(text, t.next, nodes, room, kind, first, second);
+        return closed(text, s);
+    }
+    let w = leaf_item(text, at);
+    if w.ok {
+        put(nodes, room, w.kind, w.first, w.second, kind, first, second);
+        return Step {
+            ok: true,
+            at: w.at,
+            nodes: nodes + 1,
+        };
+    }
+    Step {
+        ok: false,
+        at: w.at,
+        nodes,
+    }
+}
+
+// A starred item: an item and any number of *.
+fn starred(
+    text: &[u8],
+    at: usize,
+    nodes: usize,
+    room: usize,
+    kind: &mut [u8],
+    first: &mut [u16],
+    second: &mut [u16],
+) -> Step
+    requires { ⌜ Ready (now text) at nodes room (lists (now kind) (now first) (now second)) ⌝ }
+    ensures { λ r. ⌜ Done Inner.starred (now (text .entry)) at nodes room (lists (now (kind .entry)) (now (first .entry)) (now (second .entry))) r
+        (lists (now (kind .exit)) (now (first .exit)) (now (second .exit))) ⌝ }
+{
+    let mut s = item(text, at, nodes, room, kind, first, second);
+    while s.ok {
+        let t = tokens::token_from(text, s.at);
+        if t.kind != 8 {
+            return s;
+        }
+        let n = s.nodes;
+        put_parent(n, room, 8, n - 1, 0, kind, first, second);
+        s = Step {
+            ok: true,
+            at: t.next,
+            nodes: n + 1,
+        };
+    }
+    s
+}
+
+// A sequence: starred items joined by ;
+fn sequence(
+    text: &[u8],
+    at: usize,
+    nodes: usize,
+    room: usize,
+    kind: &mut [u8],
+    first: &mut [u16],
+    second: &mut [u16],
+) -> Step
+    requires { ⌜ Ready (now text) at nodes room (lists (now kind) (now first) (now second)) ⌝ }
+    ensures { λ r. ⌜ Done Inner.sequence (now (text .entry)) at nodes room (lists (now (kind .entry)) (now (first .entry)) (now (second .entry))) r
+        (lists (now (kind .exit)) (now (first .exit)) (now (second .exit))) ⌝ }
+{
+    let mut s = starred(text, at, nodes, room, kind, first, second);
+    while s.ok {
+        let t = tokens::token_from(text, s.at);
+        if t.kind != 7 {
+            return s;
+        }
+        let n = s.nodes;
+        let r = starred(text, t.next, n, room, kind, first, second);
+        s = join(7, n - 1, r, room, kind, first, second);
+    }
+    s
+}
+
+// A sum: sequences joined by +
+fn sum(
+    text: &[u8],
+    at: usize,
+    nodes: usize,
+    room: usize,
+    kind: &mut [u8],
+    first: &mut [u16],
+    second: &mut [u16],
+) -> Step
+    requires { ⌜ Ready (now text) at nodes room (lists (now kind) (now first) (now second)) ⌝ }
+    ensures { λ r. ⌜ Done Inner.sum (now (text .entry)) at nodes room (lists (now (kind .entry)) (now (first .entry)) (now (second .entry))) r
+        (lists (now (kind .exit)) (now (first .exit)) (now (second .exit))) ⌝ }
+{
+    let mut s = sequence(text, at, nodes, room, kind, first, second);
+    while s.ok {
+        let t = tokens::token_from(text, s.at);
+        if t.kind != 6 {
+            return s;
+        }
+        let n = s.nodes;
+        let r = sequence(text, t.next, n, room, kind, first, second);
+        s = join(6, n - 1, r, room, kind, first, second);
+    }
+    s
+}
+
+// The end of the text after what s has read.
+fn ended(text: &[u8], s: Step) -> Step
+    requires { ⌜ (s .ok ≡ true → s .at ≤ length (now text)) ⌝ }
+    ensures { λ r. ⌜ Ended (now (text .entry)) s r ⌝ }
+{
+    if s.ok {
+        let t = tokens::token_from(text, s.at);
+        if t.kind == 1 {
+            return s;
+        }
+        return Step {
+            ok: false,
+            at: t.start,
+            nodes: s.nodes,
+        };
+    }
+    s
+}
+
+// The nodes of the whole text, none of them written.
+fn count(text: &[u8]) -> Step
+    ensures { λ r. ⌜ Counted (now (text .entry)) r ⌝ }
+{
+    let mut kind = [0u8; 1];
+    let mut first = [0u16; 1];
+    let mut second = [0u16; 1];
+    let s = sum(text, 0, 0, 0, &mut kind, &mut first, &mut second);
+    ended(text, s)
+}
+
+fn refuse(number: u8, place: usize) -> Refusal
+    ensures { λ r. ⌜ r ≡ refusal number 0 place ⌝ }
+{
+    Refusal {
+        number,
+        side: 0,
+        place: place as u64,
+    }
+}
+
+// Cause 14.
+fn token_stage(text: &[u8]) -> Tested
+    ensures { λ r. ⌜ r ≡ refusedAt 14 0 (badPlace (tokens fieldNames (now (text .entry)))) ⌝ }
+{
+    let mut at = 0;
+    loop {
+        let t = tokens::token_from(text, at);
+        if t.kind == 1 {
+            return Tested::Passed;
+        }
+        if t.kind == 0 {
+            return Tested::Refused(refuse(14, t.start));
+        }
+        at = t.next;
+    }
+}
+
+fn open_after(n: usize, k: u8) -> usize
+    requires { ⌜ n ≤ 64 ⌝ }
+    ensures { λ r. ⌜ r ≡ openAfterKind n k ⌝ }
+{
+    if k == 9 {
+        return n + 1;
+    }
+    if k == 10 {
+        if n == 0 {
+            return 0;
+        }
+        return n - 1;
+    }
+    n
+}
+
+// Cause 15.
+fn depth_stage(text: &[u8]) -> Tested
+    ensures { λ r. ⌜ r ≡ refusedAt 15 0 (deepPlace 0 (tokens fieldNames (now (text .entry)))) ⌝ }
+{
+    let mut at = 0;
+    let mut n = 0;
+    loop {
+        let t = tokens::token_from(text, at);
+        if t.kind == 1 {
+            return Tested::Passed;
+        }
+        n = open_after(n, t.kind);
+        if n > 64 {
+            return Tested::Refused(refuse(15, t.start));
+        }
+        at = t.next;
+    }
+}
+
+// Causes 16 and 17.
+fn size_stage(text: &[u8], room: usize) -> Answer
+    ensures { λ r. ⌜ r ≡ answered (firstOf (refusedAt 16 0 (stopPlace (outcome fieldNames (now (text .entry))))
+        ∷ refusedAt 17 0 (tooMany room (treeSize (textTree fieldNames (now (text .entry))))) ∷ [])) (treeSize (textTree fieldNames (now (text .entry)))) ⌝ }
+{
+    let s = count(text);
+    if s.ok {
+        let n = s.nodes;
+        if n > 512 {
+            return Answer::Refused(refuse(17, n));
+        }
+        if n > room {
+            return Answer::Refused(refuse(17, n));
+        }
+        return Answer::Nodes(n);
+    }
+    Answer::Refused(refuse(16, s.at))
+}
+
+// All causes, in their order.
+fn test(text: &[u8], room: usize) -> Answer
+    ensures { λ r. ⌜ r ≡ answerTo fieldNames (now (text .entry)) room ⌝ }
+{
+    let words = token_stage(text);
+    if let Tested::Refused(r) = words {
+        return Answer::Refused(r);
+    }
+    let depth = depth_stage(text);
+    if let Tested::Refused(r) = depth {
+        return Answer::Refused(r);
+    }
+    size_stage(text, room)
+}
+
+fn least(a: usize, b: usize) -> usize
+    ensures { λ r. ⌜ r ≡ min a b ⌝ }
+{
+    if a < b {
+        return a;
+    }
+    b
+}
+
+// Reads a text into three lent lists of any lengths, and answers the number of its nodes. On a refusal the lists are as found.
+pub fn read(text: &[u8], kind: &mut [u8], first: &mut [u16], second: &mut [u16]) -> Answer
+    ensures { λ r. ⌜ TextRead (now (text .entry)) (now (kind .entry)) (now (first .entry)) (now (second .entry)) r
+        (now (kind .exit)) (now (first .exit)) (now (second .exit)) ⌝ }
+{
+    let room = least(kind.len(), least(first.len(), second.len()));
+    let answer = test(text, room);
+    if let Answer::Nodes(n) = answer {
+        sum(text, 0, 0, n, kind, first, second);
+        return Answer::Nodes(n);
+    }
+    answer
+}

@@ -1,0 +1,153 @@
+// Tokens of a text.
+use super::bytes;
+use super::words;
+ghost use mathlib.Core.Path.{_≡_};
+ghost use mathlib.Core.Bool.{true, false};
+ghost use Prim.Native.Nat.{_+_, _≤_, _<_};
+ghost use lib.ListN.{length, getD, drop};
+ghost use Rattle.text.specs.Bytes.{isBlank, inWord};
+ghost use Rattle.text.specs.Tokens.{wordOf, doubleMark, beginsDouble, singleMark};
+ghost use Rattle.text.specs.Kinds.{valueOf, classOf};
+ghost use Rattle.text.specs.Inner.{Skipped, FrontAt, TokenFrom};
+
+// A token by its numbers, with the byte at which it starts and the byte after it.
+pub struct Token {
+    pub kind: u8,
+    pub value: u16,
+    pub start: usize,
+    pub next: usize,
+}
+
+fn skip(text: &[u8], at: usize) -> usize
+    requires { ⌜ at ≤ length (now text) ⌝ }
+    ensures { λ r. ⌜ Skipped (now (text .entry)) at r ⌝ }
+{
+    let mut i = at;
+    while i < text.len() {
+        if !bytes::is_blank(text[i]) {
+            return i;
+        }
+        i += 1;
+    }
+    i
+}
+
+fn word_end(text: &[u8], at: usize) -> usize
+    requires { ⌜ at ≤ length (now text) ⌝ }
+    ensures { λ r. ⌜ r ≡ at + length (wordOf (drop at (now (text .entry)))) ⌝ }
+{
+    let mut i = at;
+    while i < text.len() {
+        if !bytes::in_word(text[i]) {
+            return i;
+        }
+        i += 1;
+    }
+    i
+}
+
+fn word_at(text: &[u8], at: usize) -> Token
+    requires { ⌜ (at < length (now text)) × (inWord (getD (now text) at 0) ≡ true) ⌝ }
+    ensures { λ r. ⌜ FrontAt (now (text .entry)) at r ⌝ }
+{
+    let end = word_end(text, at);
+    let w = words::word_token(&text[at..end]);
+    Token {
+        kind: w.kind,
+        value: w.value,
+        start: at,
+        next: end,
+    }
+}
+
+// The kind of the comparison that two bytes are, or 0.
+fn double(b: u8, after: u8) -> u16
+    ensures { λ r. ⌜ r ≡ valueOf (doubleMark b after) ⌝ }
+{
+    if b == 33 {
+        if after == 61 {
+            return 3;
+        }
+        return 0;
+    }
+    if b == 60 {
+        if after == 45 {
+            return 4;
+        }
+    }
+    0
+}
+
+fn double_at(text: &[u8], at: usize) -> Token
+    requires { ⌜ (at < length (now text)) × (inWord (getD (now text) at 0) ≡ false) × (beginsDouble (getD (now text) at 0) ≡ true) ⌝ }
+    ensures { λ r. ⌜ FrontAt (now (text .entry)) at r ⌝ }
+{
+    let next = at + 1;
+    if text.len() <= next {
+        return Token {
+            kind: 0,
+            value: 0,
+            start: at,
+            next,
+        };
+    }
+    let k = double(text[at], text[next]);
+    if k == 0 {
+        return Token {
+            kind: 0,
+            value: 0,
+            start: at,
+            next,
+        };
+    }
+    Token {
+        kind: 5,
+        value: k,
+        start: at,
+        next: next + 1,
+    }
+}
+
+fn mark_at(text: &[u8], at: usize) -> Token
+    requires { ⌜ (at < length (now text)) × (inWord (getD (now text) at 0) ≡ false) × (isBlank (getD (now text) at 0) ≡ false) ⌝ }
+    ensures { λ r. ⌜ FrontAt (now (text .entry)) at r ⌝ }
+{
+    let c = bytes::class_of(text[at]);
+    if c == 4 {
+        return double_at(text, at);
+    }
+    if c == 5 {
+        return Token {
+            kind: 5,
+            value: 2,
+            start: at,
+            next: at + 1,
+        };
+    }
+    Token {
+        kind: c,
+        value: 0,
+        start: at,
+        next: at + 1,
+    }
+}
+
+// Inner: the first token from a byte on, or the end.
+pub fn token_from(text: &[u8], at: usize) -> Token
+    requires { ⌜ at ≤ length (now text) ⌝ }
+    ensures { λ r. ⌜ TokenFrom (now (text .entry)) at r ⌝ }
+{
+    let start = skip(text, at);
+    if text.len() <= start {
+        return Token {
+            kind: 1,
+            value: 0,
+            start,
+            next: start,
+        };
+    }
+    if bytes::in_word(text[start]) {
+        return word_at(text, start);
+    }
+    mark_at(text, start)
+}
