@@ -1,14 +1,14 @@
 -- How the answers on one and on two policies come from the causes, and what a legal answer says.
-use Prim.Native.Nat.{ℕ, zero, suc, pred, _<_, _≤_}
-use mathlib.Core.Bool.{Bool, true, false}
-use mathlib.Core.List.{List, [], _∷_, _++_, map}
+use Prim.Native.Nat.{ℕ, pred, _<_, _≤_}
+use mathlib.Core.Bool.{Bool}
+use mathlib.Core.List.{List, [], _∷_, _++_}
 use mathlib.Core.Option.{Option, none, some}
-use mathlib.Core.Path.{_≡_, refl, sym, ap, ap₂, subst, _∙_}
+use mathlib.Core.Path.{_≡_, refl, sym, ap, ap₂, _∙_}
 use native.Mathlib.Omega.{arith}
 use lib.ListN.{length}
 use borrow.Author.Tests.{lt-ltb, le-ltb}
 use Rattle.packet.specs.Lowest.{lowest, optionOf}
-use Rattle.packet.specs.Refusals.{refusal, refusedAt, atPlace, atZero, firstOf}
+use Rattle.packet.specs.Refusals.{refusal, refusedAt, atZero, firstOf}
 use Rattle.packet.specs.Sizes.{fieldsStage, productStage, LegalSizes}
 use Rattle.packet.specs.declared.Refusal.{Refusal}
 use Rattle.packet.specs.declared.Tested.{Tested}
@@ -26,7 +26,7 @@ use Rattle.policy.specs.Each.{Each}
 use Rattle.policy.specs.NodeLists.{NodeLists, nodeCount, dupsBelow}
 use Rattle.policy.specs.Legality.{badLengths, badKind, badEntries, badChild, notOnce, Sided, cause, policiesStage, Legal}
 use Rattle.policy.specs.Counting.{SameLengths, CountableChildren, DupCountOf}
-use Rattle.policy.specs.Answers.{sided, policyTests, pairTests, policyAnswer, pairAnswer, nodesStage, treeStage, earlierIf, earlier, both}
+use Rattle.policy.specs.Answers.{sided, policyTests, pairTests, policyAnswer, pairAnswer, policyLegality, pairLegality, nodesStage, treeStage, earlierIf, earlier, both}
 use Rattle.policy.proofs.LegalityLaws.{Cause, causes, Lengths, lengths, stage-passes}
 
 -- ---- orders of tests within orders
@@ -273,30 +273,32 @@ module _ (sizes : List ℕ) (rest : Tested) where
       → firstOf (fieldsStage sizes ∷ productStage sizes ∷ rest ∷ []) ≡ rest
   sizes-passed e = firstOf-append (fieldsStage sizes ∷ productStage sizes ∷ []) (rest ∷ []) ∙ firstOf-next _ _ e ∙ firstOf-last _
 
-module _ (sizes : List ℕ) (L : NodeLists) (d : ℕ) where
-  pub policy-sizes-refused : (r : Refusal) → firstOf (fieldsStage sizes ∷ productStage sizes ∷ []) ≡ Refused r → PolicyRefused r ≡ policyAnswer (policyTests sizes L) d
-  unfolding policyTests policyAnswer
-  policy-sizes-refused r e = sym (ap (λ (t : Tested). policyAnswer t d) (sizes-refused sizes _ r e))
+module _ (sizes : List ℕ) (L : NodeLists) where
+  pub policy-sizes-refused : (r : Refusal) → firstOf (fieldsStage sizes ∷ productStage sizes ∷ []) ≡ Refused r → PolicyRefused r ≡ policyLegality sizes L
+  unfolding policyLegality policyTests policyAnswer
+  policy-sizes-refused r e = sym (ap (λ (t : Tested). policyAnswer t (dupsBelow L (nodeCount L))) (sizes-refused sizes _ r e))
 
   pub policy-sizes-passed : {q : PolicyAnswer} → firstOf (fieldsStage sizes ∷ productStage sizes ∷ []) ≡ Passed
-      → q ≡ policyAnswer (policiesStage sizes (sided 0 L ∷ [])) d → q ≡ policyAnswer (policyTests sizes L) d
-  unfolding policyTests
-  policy-sizes-passed e f = f ∙ sym (ap (λ (t : Tested). policyAnswer t d) (sizes-passed sizes _ e))
+      → q ≡ policyAnswer (policiesStage sizes (sided 0 L ∷ [])) (dupsBelow L (nodeCount L)) → q ≡ policyLegality sizes L
+  unfolding policyLegality policyTests
+  policy-sizes-passed e f = f ∙ sym (ap (λ (t : Tested). policyAnswer t (dupsBelow L (nodeCount L))) (sizes-passed sizes _ e))
 
-module _ (sizes : List ℕ) (L R : NodeLists) (d e : ℕ) where
-  pub pair-sizes-refused : (r : Refusal) → firstOf (fieldsStage sizes ∷ productStage sizes ∷ []) ≡ Refused r → PairRefused r ≡ pairAnswer (pairTests sizes L R) d e
-  unfolding pairTests pairAnswer
-  pair-sizes-refused r f = sym (ap (λ (t : Tested). pairAnswer t d e) (sizes-refused sizes _ r f))
+module _ (sizes : List ℕ) (L R : NodeLists) where
+  pub pair-sizes-refused : (r : Refusal) → firstOf (fieldsStage sizes ∷ productStage sizes ∷ []) ≡ Refused r → PairRefused r ≡ pairLegality sizes L R
+  unfolding pairLegality pairTests pairAnswer
+  pair-sizes-refused r f =
+      sym (ap (λ (t : Tested). pairAnswer t (dupsBelow L (nodeCount L)) (dupsBelow R (nodeCount R))) (sizes-refused sizes _ r f))
 
   pub pair-sizes-passed : {q : PairAnswer} {l r : PolicyAnswer} → firstOf (fieldsStage sizes ∷ productStage sizes ∷ []) ≡ Passed
-      → l ≡ policyAnswer (policiesStage sizes (sided 1 L ∷ [])) d → r ≡ policyAnswer (policiesStage sizes (sided 2 R ∷ [])) e
-      → q ≡ both l r → q ≡ pairAnswer (pairTests sizes L R) d e
-  unfolding pairTests
+      → l ≡ policyAnswer (policiesStage sizes (sided 1 L ∷ [])) (dupsBelow L (nodeCount L))
+      → r ≡ policyAnswer (policiesStage sizes (sided 2 R ∷ [])) (dupsBelow R (nodeCount R))
+      → q ≡ both l r → q ≡ pairLegality sizes L R
+  unfolding pairLegality pairTests
   pair-sizes-passed f l r q =
       q
       ∙ ap₂ both l r
-      ∙ both-answers (policiesStage sizes (sided 1 L ∷ [])) (policiesStage sizes (sided 2 R ∷ [])) d e
-      ∙ sym (ap (λ (t : Tested). pairAnswer t d e) (sizes-passed sizes _ f ∙ stage-two sizes 1 2 L R))
+      ∙ both-answers (policiesStage sizes (sided 1 L ∷ [])) (policiesStage sizes (sided 2 R ∷ [])) _ _
+      ∙ sym (ap (λ (t : Tested). pairAnswer t (dupsBelow L (nodeCount L)) (dupsBelow R (nodeCount R))) (sizes-passed sizes _ f ∙ stage-two sizes 1 2 L R))
 
 -- ---- what a legal answer says
 
@@ -309,11 +311,11 @@ answered Passed d e q = (refl, sym (ap dupsOf q))
     dupsOf (PolicyRefused r) = 0
 answered (Refused r) d e q = let z : _≡_ {A = ℕ} 0 1 = cc in absurd (zero≢one z)
 
-pub legal-answer : (sizes : List ℕ) (L : NodeLists) (d e : ℕ) → policyAnswer (policyTests sizes L) d ≡ LegalPolicy e
-    → LegalSizes sizes × Legal sizes L × (e ≡ d)
-unfolding policyTests Each sided
-legal-answer sizes L d e q =
-    let a = answered _ d e q in
+pub legal-answer : (sizes : List ℕ) (L : NodeLists) (d : ℕ) → policyLegality sizes L ≡ LegalPolicy d
+    → LegalSizes sizes × Legal sizes L × (d ≡ dupsBelow L (nodeCount L))
+unfolding policyLegality policyTests Each sided
+legal-answer sizes L d q =
+    let a = answered _ _ d q in
     let f = firstOf-passed _ _ (a .0) in
     let p = firstOf-passed _ _ (f .1) in
     (passed-legal sizes (f .0) (p .0), stage-passes sizes (sided 0 L ∷ []) .0 (firstOf-passed _ _ (p .1) .0) .0, a .1)
@@ -331,11 +333,11 @@ pair-answered Passed d e m n q = (refl, sym (ap leftOf q), sym (ap rightOf q))
     rightOf (PairRefused r) = 0
 pair-answered (Refused r) d e m n q = let z : _≡_ {A = ℕ} 0 1 = cc in absurd (zero≢one z)
 
-pub legal-pair-answer : (sizes : List ℕ) (L R : NodeLists) (d e m n : ℕ) → pairAnswer (pairTests sizes L R) d e ≡ LegalPair m n
-    → LegalSizes sizes × Legal sizes L × Legal sizes R × (m ≡ d) × (n ≡ e)
-unfolding pairTests Each sided
-legal-pair-answer sizes L R d e m n q =
-    let a = pair-answered _ d e m n q in
+pub legal-pair-answer : (sizes : List ℕ) (L R : NodeLists) (m n : ℕ) → pairLegality sizes L R ≡ LegalPair m n
+    → LegalSizes sizes × Legal sizes L × Legal sizes R × (m ≡ dupsBelow L (nodeCount L)) × (n ≡ dupsBelow R (nodeCount R))
+unfolding pairLegality pairTests Each sided
+legal-pair-answer sizes L R m n q =
+    let a = pair-answered _ _ _ m n q in
     let f = firstOf-passed _ _ (a .0) in
     let p = firstOf-passed _ _ (f .1) in
     let g = stage-passes sizes (sided 1 L ∷ sided 2 R ∷ []) .0 (firstOf-passed _ _ (p .1) .0) in

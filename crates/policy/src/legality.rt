@@ -12,7 +12,7 @@ ghost use Rattle.policy.specs.AsLists.{asLists};
 ghost use Rattle.policy.specs.NodeLists.{children, dupsBelow};
 ghost use Rattle.policy.specs.Legality.{badLengths, badKind, badField, used, wrongEntries, badEntries, someNotBelow, badChild, notOnce, policiesStage};
 ghost use Rattle.policy.specs.Counting.{SameLengths, CountableChildren, ChildCounts, Countable, withChild, withChildren, DupWeight, DupCountOf};
-ghost use Rattle.policy.specs.Answers.{sided, nodesStage, treeStage, policyAnswer, policyTests, both, pairAnswer, pairTests};
+ghost use Rattle.policy.specs.Answers.{sided, nodesStage, treeStage, policyAnswer, policyLegality, both, pairLegality};
 use crate::Node;
 use crate::lent::node_at;
 use packet::Counted;
@@ -327,7 +327,7 @@ fn policy_tested(
 
 // Whether the lists are a legal policy over fields of these sizes: causes 1 to 9, side 0.
 pub fn policy_legality(sizes: &[u16], kind: &[u8], first: &[u16], second: &[u16]) -> PolicyAnswer
-    ensures { λ r. ⌜ r ≡ policyAnswer (policyTests (now (sizes .entry)) (asLists (now (kind .entry)) (now (first .entry)) (now (second .entry)))) (dupsBelow (asLists (now (kind .entry)) (now (first .entry)) (now (second .entry))) (length (now (kind .entry)))) ⌝ }
+    ensures { λ r. ⌜ r ≡ policyLegality (now (sizes .entry)) (asLists (now (kind .entry)) (now (first .entry)) (now (second .entry))) ⌝ }
 {
     match sizes_tested(sizes) {
         Tested::Refused(r) => PolicyAnswer::Refused(r),
@@ -366,7 +366,7 @@ pub fn pair_legality(
     right_first: &[u16],
     right_second: &[u16],
 ) -> PairAnswer
-    ensures { λ r. ⌜ r ≡ pairAnswer (pairTests (now (sizes .entry)) (asLists (now («left_kind» .entry)) (now («left_first» .entry)) (now («left_second» .entry))) (asLists (now («right_kind» .entry)) (now («right_first» .entry)) (now («right_second» .entry)))) (dupsBelow (asLists (now («left_kind» .entry)) (now («left_first» .entry)) (now («left_second» .entry))) (length (now («left_kind» .entry)))) (dupsBelow (asLists (now («right_kind» .entry)) (now («right_first» .entry)) (now («right_second» .entry))) (length (now («right_kind» .entry)))) ⌝ }
+    ensures { λ r. ⌜ r ≡ pairLegality (now (sizes .entry)) (asLists (now («left_kind» .entry)) (now («left_first» .entry)) (now («left_second» .entry))) (asLists (now («right_kind» .entry)) (now («right_first» .entry)) (now («right_second» .entry))) ⌝ }
 {
     match sizes_tested(sizes) {
         Tested::Refused(r) => PairAnswer::Refused(r),

@@ -1,6 +1,7 @@
 -- `pair_legality` meets its contract: the sizes, then each policy, then the earlier of two refusals.
 -- Assumes nothing.
 use mathlib.Core.Path.{sym, _∙_}
+use Rattle.policy.specs.NodeLists.{nodeCount}
 use Rattle.policy.proofs.AnswerLaws.{pair-sizes-refused, pair-sizes-passed}
 use borrow.Author.Needs.{needs}
 use Rattle.policy.proofs.legality.pair_legality.Statement.{statement}
@@ -25,10 +26,11 @@ both-tested-requires : tie.Need-both-tested-requires
 both-tested-requires c κs = search needs
 
 returns : tie.Need-returns
-returns c = pair-sizes-refused _ _ _ _ _ _ (sym (c .before .before .before .sizes-tested .ensures) ∙ c .before .r .given .1)
+returns c = pair-sizes-refused _ _ _ _ (sym (c .before .before .before .sizes-tested .ensures) ∙ c .before .r .given .1)
 
 returns-2 : tie.Need-returns-2
-returns-2 c = pair-sizes-passed _ _ _ _ _ (sym (c .before .before .before .before .before .sizes-tested .ensures) ∙ c .before .before .before .enum-told .given .1) (c .before .before .policy-tested .ensures) (c .before .policy-tested2 .ensures) (c .both-tested .ensures)
+unfolding nodeCount
+returns-2 c = pair-sizes-passed _ _ _ (sym (c .before .before .before .before .before .sizes-tested .ensures) ∙ c .before .before .before .enum-told .given .1) (c .before .before .policy-tested .ensures) (c .before .policy-tested2 .ensures) (c .both-tested .ensures)
 
 pub pair-legality-spec : {M : Type 1} → statement M
 pair-legality-spec =
