@@ -36,6 +36,13 @@ unfoldable pub pairAnswer : Tested → ℕ → ℕ → PairAnswer
 pairAnswer Passed left right = LegalPair left right
 pairAnswer (Refused r) left right = PairRefused r
 
+-- the answers of the stage "policies" alone
+unfoldable pub policyStage : List ℕ → ℕ → NodeLists → PolicyAnswer
+policyStage sizes side L = policyAnswer (policiesStage sizes (sided side L ∷ [])) (dupsBelow L (nodeCount L))
+
+unfoldable pub pairStage : List ℕ → NodeLists → NodeLists → PairAnswer
+pairStage sizes L R = pairAnswer (policiesStage sizes (sided 1 L ∷ sided 2 R ∷ [])) (dupsBelow L (nodeCount L)) (dupsBelow R (nodeCount R))
+
 -- the answer on one policy
 unfoldable pub policyLegality : List ℕ → NodeLists → PolicyAnswer
 policyLegality sizes L = policyAnswer (policyTests sizes L) (dupsBelow L (nodeCount L))
