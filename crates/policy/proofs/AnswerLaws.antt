@@ -1,14 +1,14 @@
 -- How the answers on one and on two policies come from the causes, and what a legal answer says.
-use Prim.Native.Nat.{ℕ, zero, suc, pred, _<_, _≤_}
-use mathlib.Core.Bool.{Bool, true, false}
-use mathlib.Core.List.{List, [], _∷_, _++_, map}
+use Prim.Native.Nat.{ℕ, pred, _<_, _≤_}
+use mathlib.Core.Bool.{Bool}
+use mathlib.Core.List.{List, [], _∷_, _++_}
 use mathlib.Core.Option.{Option, none, some}
-use mathlib.Core.Path.{_≡_, refl, sym, ap, ap₂, subst, _∙_}
+use mathlib.Core.Path.{_≡_, refl, sym, ap, ap₂, _∙_}
 use native.Mathlib.Omega.{arith}
 use lib.ListN.{length}
 use borrow.Author.Tests.{lt-ltb, le-ltb}
 use Rattle.packet.specs.Lowest.{lowest, optionOf}
-use Rattle.packet.specs.Refusals.{refusal, refusedAt, atPlace, atZero, firstOf}
+use Rattle.packet.specs.Refusals.{refusal, refusedAt, atZero, firstOf}
 use Rattle.packet.specs.Sizes.{fieldsStage, productStage, LegalSizes}
 use Rattle.packet.specs.declared.Refusal.{Refusal}
 use Rattle.packet.specs.declared.Tested.{Tested}
@@ -26,7 +26,7 @@ use Rattle.policy.specs.Each.{Each}
 use Rattle.policy.specs.NodeLists.{NodeLists, nodeCount, dupsBelow}
 use Rattle.policy.specs.Legality.{badLengths, badKind, badEntries, badChild, notOnce, Sided, cause, policiesStage, Legal}
 use Rattle.policy.specs.Counting.{SameLengths, CountableChildren, DupCountOf}
-use Rattle.policy.specs.Answers.{sided, policyTests, pairTests, policyAnswer, pairAnswer, nodesStage, treeStage, earlierIf, earlier, both}
+use Rattle.policy.specs.Answers.{sided, policyTests, pairTests, policyAnswer, pairAnswer, policyStage, pairStage, policyLegality, pairLegality, nodesStage, treeStage, earlierIf, earlier, both}
 use Rattle.policy.proofs.LegalityLaws.{Cause, causes, Lengths, lengths, stage-passes}
 
 -- ---- orders of tests within orders
@@ -175,25 +175,9 @@ left-earlier p q e f h = sym (ap₂ both e f ∙ ap (λ (b : Bool). PairRefused 
 
 -- ---- one policy, by causes that need the ones before
 
-module _ (sizes : List ℕ) (side : ℕ) (L : NodeLists) where
+module _ (side : ℕ) (L : NodeLists) where
   abbrev lengthsTest : Tested
   lengthsTest = refusedAt 4 side (atZero (badLengths L))
-
-  stage-parts : policiesStage sizes (sided side L ∷ []) ≡ firstOf (lengthsTest ∷ firstOf (nodesStage sizes side L ∷ treeStage side L ∷ []) ∷ [])
-  unfolding alone causes nodesStage treeStage
-  stage-parts =
-      stage-together sizes _
-      ∙ one-policy side L (causes sizes)
-      ∙ sym (firstOf-nested _ _ ∙ firstOf-more _ _ ∙ ap (andThen lengthsTest) (firstOf-nested _ _ ∙ sym (firstOf-append _ _)) ∙ sym (firstOf-more _ _))
-
-  pub lengths-refused : (r : Refusal) → lengthsTest ≡ Refused r → policiesStage sizes (sided side L ∷ []) ≡ Refused r
-  lengths-refused r e = stage-parts ∙ firstOf-refused _ _ r e
-
-  pub nodes-refused : (r : Refusal) → lengthsTest ≡ Passed → nodesStage sizes side L ≡ Refused r → policiesStage sizes (sided side L ∷ []) ≡ Refused r
-  nodes-refused r e f = stage-parts ∙ firstOf-next _ _ e ∙ firstOf-last _ ∙ firstOf-refused _ _ r f
-
-  pub nodes-passed : lengthsTest ≡ Passed → nodesStage sizes side L ≡ Passed → policiesStage sizes (sided side L ∷ []) ≡ treeStage side L
-  nodes-passed e f = stage-parts ∙ firstOf-next _ _ e ∙ firstOf-last _ ∙ firstOf-next _ _ f ∙ firstOf-last _
 
   lengths-known : lengthsTest ≡ Passed → Lengths L
   lengths-known e = lengths L .0 (atPlace-none 0 (badLengths L) (refusedAt-passed 4 side _ e))
@@ -201,31 +185,48 @@ module _ (sizes : List ℕ) (side : ℕ) (L : NodeLists) where
   pub same-lengths : lengthsTest ≡ Passed → SameLengths L
   same-lengths e = let n = lengths-known e in record { firsts = n .first; seconds = n .second }
 
-  pub countable-children : lengthsTest ≡ Passed → nodesStage sizes side L ≡ Passed → CountableChildren L
+  -- cause 4 as it was tested
+  pub lengths-tested : {t u : Tested} {x : Option ℕ} → t ≡ refusedAt 4 side x → x ≡ atZero (badLengths L) → t ≡ u → lengthsTest ≡ u
+  lengths-tested e f g = sym (e ∙ ap (refusedAt 4 side) f) ∙ g
+
+module _ (sizes : List ℕ) (side : ℕ) (L : NodeLists) where
+  stage-parts : policiesStage sizes (sided side L ∷ []) ≡ firstOf (lengthsTest side L ∷ firstOf (nodesStage sizes side L ∷ treeStage side L ∷ []) ∷ [])
+  unfolding alone causes nodesStage treeStage
+  stage-parts =
+      stage-together sizes _
+      ∙ one-policy side L (causes sizes)
+      ∙ sym (firstOf-nested _ _ ∙ firstOf-more _ _ ∙ ap (andThen (lengthsTest side L)) (firstOf-nested _ _ ∙ sym (firstOf-append _ _)) ∙ sym (firstOf-more _ _))
+
+  pub lengths-refused : (r : Refusal) → lengthsTest side L ≡ Refused r → policiesStage sizes (sided side L ∷ []) ≡ Refused r
+  lengths-refused r e = stage-parts ∙ firstOf-refused _ _ r e
+
+  pub nodes-refused : (r : Refusal) → lengthsTest side L ≡ Passed → nodesStage sizes side L ≡ Refused r → policiesStage sizes (sided side L ∷ []) ≡ Refused r
+  nodes-refused r e f = stage-parts ∙ firstOf-next _ _ e ∙ firstOf-last _ ∙ firstOf-refused _ _ r f
+
+  pub nodes-passed : lengthsTest side L ≡ Passed → nodesStage sizes side L ≡ Passed → policiesStage sizes (sided side L ∷ []) ≡ treeStage side L
+  nodes-passed e f = stage-parts ∙ firstOf-next _ _ e ∙ firstOf-last _ ∙ firstOf-next _ _ f ∙ firstOf-last _
+
+  pub countable-children : lengthsTest side L ≡ Passed → nodesStage sizes side L ≡ Passed → CountableChildren L
   unfolding nodesStage
   countable-children e f = record {
-    same = same-lengths e;
-    few = lengths-known e .few;
+    same = same-lengths side L e;
+    few = lengths-known side L e .few;
     below = lowest-none (badChild L) (nodeCount L)
         (refusedAt-passed 7 side _ (firstOf-passed _ _ (firstOf-passed _ _ (firstOf-passed _ _ f .1) .1) .0));
   }
 
-  -- the answers from the tests as they were made
-  pub lengths-tested : {t u : Tested} {x : Option ℕ} → t ≡ refusedAt 4 side x → x ≡ atZero (badLengths L) → t ≡ u → lengthsTest ≡ u
-  lengths-tested e f g = sym (e ∙ ap (refusedAt 4 side) f) ∙ g
+  pub lengths-answer : (r : Refusal) → lengthsTest side L ≡ Refused r → PolicyRefused r ≡ policyStage sizes side L
+  unfolding policyStage policyAnswer
+  lengths-answer r e = sym (ap (λ (t : Tested). policyAnswer t (dupsBelow L (nodeCount L))) (lengths-refused r e))
 
-  pub lengths-answer : (d : ℕ) (r : Refusal) → lengthsTest ≡ Refused r → PolicyRefused r ≡ policyAnswer (policiesStage sizes (sided side L ∷ [])) d
-  unfolding policyAnswer
-  lengths-answer d r e = sym (ap (λ (t : Tested). policyAnswer t d) (lengths-refused r e))
+  pub nodes-answer : (r : Refusal) → lengthsTest side L ≡ Passed → nodesStage sizes side L ≡ Refused r → PolicyRefused r ≡ policyStage sizes side L
+  unfolding policyStage policyAnswer
+  nodes-answer r e f = sym (ap (λ (t : Tested). policyAnswer t (dupsBelow L (nodeCount L))) (nodes-refused r e f))
 
-  pub nodes-answer : (d : ℕ) (r : Refusal) → lengthsTest ≡ Passed → nodesStage sizes side L ≡ Refused r
-      → PolicyRefused r ≡ policyAnswer (policiesStage sizes (sided side L ∷ [])) d
-  unfolding policyAnswer
-  nodes-answer d r e f = sym (ap (λ (t : Tested). policyAnswer t d) (nodes-refused r e f))
-
-  pub tree-answer : (d : ℕ) {q : PolicyAnswer} → lengthsTest ≡ Passed → nodesStage sizes side L ≡ Passed → q ≡ policyAnswer (treeStage side L) d
-      → q ≡ policyAnswer (policiesStage sizes (sided side L ∷ [])) d
-  tree-answer d e f g = g ∙ sym (ap (λ (t : Tested). policyAnswer t d) (nodes-passed e f))
+  pub tree-answer : {q : PolicyAnswer} → lengthsTest side L ≡ Passed → nodesStage sizes side L ≡ Passed → q ≡ policyAnswer (treeStage side L) (dupsBelow L (nodeCount L))
+      → q ≡ policyStage sizes side L
+  unfolding policyStage
+  tree-answer e f g = g ∙ sym (ap (λ (t : Tested). policyAnswer t (dupsBelow L (nodeCount L))) (nodes-passed e f))
 
 -- causes 5 to 7, cause by cause
 pub nodes-joined : (sizes kind first second : List ℕ) (side : ℕ) {k e b i r : Tested} {x y z : Option ℕ}
@@ -273,30 +274,33 @@ module _ (sizes : List ℕ) (rest : Tested) where
       → firstOf (fieldsStage sizes ∷ productStage sizes ∷ rest ∷ []) ≡ rest
   sizes-passed e = firstOf-append (fieldsStage sizes ∷ productStage sizes ∷ []) (rest ∷ []) ∙ firstOf-next _ _ e ∙ firstOf-last _
 
-module _ (sizes : List ℕ) (L : NodeLists) (d : ℕ) where
-  pub policy-sizes-refused : (r : Refusal) → firstOf (fieldsStage sizes ∷ productStage sizes ∷ []) ≡ Refused r → PolicyRefused r ≡ policyAnswer (policyTests sizes L) d
-  unfolding policyTests policyAnswer
-  policy-sizes-refused r e = sym (ap (λ (t : Tested). policyAnswer t d) (sizes-refused sizes _ r e))
+module _ (sizes : List ℕ) (L : NodeLists) where
+  pub policy-sizes-refused : (r : Refusal) → firstOf (fieldsStage sizes ∷ productStage sizes ∷ []) ≡ Refused r → PolicyRefused r ≡ policyLegality sizes L
+  unfolding policyLegality policyTests policyAnswer
+  policy-sizes-refused r e = sym (ap (λ (t : Tested). policyAnswer t (dupsBelow L (nodeCount L))) (sizes-refused sizes _ r e))
 
-  pub policy-sizes-passed : {q : PolicyAnswer} → firstOf (fieldsStage sizes ∷ productStage sizes ∷ []) ≡ Passed
-      → q ≡ policyAnswer (policiesStage sizes (sided 0 L ∷ [])) d → q ≡ policyAnswer (policyTests sizes L) d
-  unfolding policyTests
-  policy-sizes-passed e f = f ∙ sym (ap (λ (t : Tested). policyAnswer t d) (sizes-passed sizes _ e))
+  pub policy-sizes-passed : {q : PolicyAnswer} → firstOf (fieldsStage sizes ∷ productStage sizes ∷ []) ≡ Passed → q ≡ policyStage sizes 0 L → q ≡ policyLegality sizes L
+  unfolding policyLegality policyTests policyStage
+  policy-sizes-passed e f = f ∙ sym (ap (λ (t : Tested). policyAnswer t (dupsBelow L (nodeCount L))) (sizes-passed sizes _ e))
 
-module _ (sizes : List ℕ) (L R : NodeLists) (d e : ℕ) where
-  pub pair-sizes-refused : (r : Refusal) → firstOf (fieldsStage sizes ∷ productStage sizes ∷ []) ≡ Refused r → PairRefused r ≡ pairAnswer (pairTests sizes L R) d e
-  unfolding pairTests pairAnswer
-  pair-sizes-refused r f = sym (ap (λ (t : Tested). pairAnswer t d e) (sizes-refused sizes _ r f))
+module _ (sizes : List ℕ) (L R : NodeLists) where
+  pub pair-sizes-refused : (r : Refusal) → firstOf (fieldsStage sizes ∷ productStage sizes ∷ []) ≡ Refused r → PairRefused r ≡ pairLegality sizes L R
+  unfolding pairLegality pairTests pairAnswer
+  pair-sizes-refused r f =
+      sym (ap (λ (t : Tested). pairAnswer t (dupsBelow L (nodeCount L)) (dupsBelow R (nodeCount R))) (sizes-refused sizes _ r f))
 
-  pub pair-sizes-passed : {q : PairAnswer} {l r : PolicyAnswer} → firstOf (fieldsStage sizes ∷ productStage sizes ∷ []) ≡ Passed
-      → l ≡ policyAnswer (policiesStage sizes (sided 1 L ∷ [])) d → r ≡ policyAnswer (policiesStage sizes (sided 2 R ∷ [])) e
-      → q ≡ both l r → q ≡ pairAnswer (pairTests sizes L R) d e
-  unfolding pairTests
-  pair-sizes-passed f l r q =
+  pub pair-joined : {q : PairAnswer} {l r : PolicyAnswer} → l ≡ policyStage sizes 1 L → r ≡ policyStage sizes 2 R → q ≡ both l r → q ≡ pairStage sizes L R
+  unfolding policyStage pairStage
+  pair-joined l r q =
       q
       ∙ ap₂ both l r
-      ∙ both-answers (policiesStage sizes (sided 1 L ∷ [])) (policiesStage sizes (sided 2 R ∷ [])) d e
-      ∙ sym (ap (λ (t : Tested). pairAnswer t d e) (sizes-passed sizes _ f ∙ stage-two sizes 1 2 L R))
+      ∙ both-answers (policiesStage sizes (sided 1 L ∷ [])) (policiesStage sizes (sided 2 R ∷ [])) _ _
+      ∙ sym (ap (λ (t : Tested). pairAnswer t (dupsBelow L (nodeCount L)) (dupsBelow R (nodeCount R))) (stage-two sizes 1 2 L R))
+
+  pub pair-sizes-passed : {q : PairAnswer} → firstOf (fieldsStage sizes ∷ productStage sizes ∷ []) ≡ Passed → q ≡ pairStage sizes L R → q ≡ pairLegality sizes L R
+  unfolding pairLegality pairTests pairStage
+  pair-sizes-passed e f =
+      f ∙ sym (ap (λ (t : Tested). pairAnswer t (dupsBelow L (nodeCount L)) (dupsBelow R (nodeCount R))) (sizes-passed sizes _ e))
 
 -- ---- what a legal answer says
 
@@ -309,11 +313,17 @@ answered Passed d e q = (refl, sym (ap dupsOf q))
     dupsOf (PolicyRefused r) = 0
 answered (Refused r) d e q = let z : _≡_ {A = ℕ} 0 1 = cc in absurd (zero≢one z)
 
-pub legal-answer : (sizes : List ℕ) (L : NodeLists) (d e : ℕ) → policyAnswer (policyTests sizes L) d ≡ LegalPolicy e
-    → LegalSizes sizes × Legal sizes L × (e ≡ d)
-unfolding policyTests Each sided
-legal-answer sizes L d e q =
-    let a = answered _ d e q in
+pub legal-stage : (sizes : List ℕ) (side : ℕ) (L : NodeLists) (d : ℕ) → policyStage sizes side L ≡ LegalPolicy d
+    → Legal sizes L × (d ≡ dupsBelow L (nodeCount L))
+unfolding policyStage Each sided
+legal-stage sizes side L d q =
+    let a = answered _ _ d q in (stage-passes sizes (sided side L ∷ []) .0 (a .0) .0, a .1)
+
+pub legal-answer : (sizes : List ℕ) (L : NodeLists) (d : ℕ) → policyLegality sizes L ≡ LegalPolicy d
+    → LegalSizes sizes × Legal sizes L × (d ≡ dupsBelow L (nodeCount L))
+unfolding policyLegality policyTests Each sided
+legal-answer sizes L d q =
+    let a = answered _ _ d q in
     let f = firstOf-passed _ _ (a .0) in
     let p = firstOf-passed _ _ (f .1) in
     (passed-legal sizes (f .0) (p .0), stage-passes sizes (sided 0 L ∷ []) .0 (firstOf-passed _ _ (p .1) .0) .0, a .1)
@@ -331,11 +341,19 @@ pair-answered Passed d e m n q = (refl, sym (ap leftOf q), sym (ap rightOf q))
     rightOf (PairRefused r) = 0
 pair-answered (Refused r) d e m n q = let z : _≡_ {A = ℕ} 0 1 = cc in absurd (zero≢one z)
 
-pub legal-pair-answer : (sizes : List ℕ) (L R : NodeLists) (d e m n : ℕ) → pairAnswer (pairTests sizes L R) d e ≡ LegalPair m n
-    → LegalSizes sizes × Legal sizes L × Legal sizes R × (m ≡ d) × (n ≡ e)
-unfolding pairTests Each sided
-legal-pair-answer sizes L R d e m n q =
-    let a = pair-answered _ d e m n q in
+pub legal-pair-stage : (sizes : List ℕ) (L R : NodeLists) (m n : ℕ) → pairStage sizes L R ≡ LegalPair m n
+    → Legal sizes L × Legal sizes R × (m ≡ dupsBelow L (nodeCount L)) × (n ≡ dupsBelow R (nodeCount R))
+unfolding pairStage Each sided
+legal-pair-stage sizes L R m n q =
+    let a = pair-answered _ _ _ m n q in
+    let g = stage-passes sizes (sided 1 L ∷ sided 2 R ∷ []) .0 (a .0) in
+    (g .0, g .1 .0, a .1, a .2)
+
+pub legal-pair-answer : (sizes : List ℕ) (L R : NodeLists) (m n : ℕ) → pairLegality sizes L R ≡ LegalPair m n
+    → LegalSizes sizes × Legal sizes L × Legal sizes R × (m ≡ dupsBelow L (nodeCount L)) × (n ≡ dupsBelow R (nodeCount R))
+unfolding pairLegality pairTests Each sided
+legal-pair-answer sizes L R m n q =
+    let a = pair-answered _ _ _ m n q in
     let f = firstOf-passed _ _ (a .0) in
     let p = firstOf-passed _ _ (f .1) in
     let g = stage-passes sizes (sided 1 L ∷ sided 2 R ∷ []) .0 (firstOf-passed _ _ (p .1) .0) in

@@ -1,16 +1,16 @@
 -- Causes 4 to 7 as their functions find them.
 use Prim.Native.Nat.{ℕ, zero, suc, _<_, _≤_}
-use mathlib.Core.Bool.{Bool, true, false, not, _||_}
+use mathlib.Core.Bool.{Bool, true, false, _||_, or-false}
 use mathlib.Core.List.{List, [], _∷_}
-use mathlib.Core.Path.{_≡_, refl, sym, ap, ap₂, _∙_}
+use mathlib.Core.Path.{_≡_, refl, sym, ap, _∙_}
 use native.Mathlib.Omega.{arith}
-use lib.Dec.{leb, eqb}
+use lib.Dec.{leb}
 use lib.ListN.{length, getD}
 use borrow.Author.Tests.{eq-eqb, ne-eqb, lt-ltb, le-leb, lt-leb}
 use Rattle.policy.specs.declared.Node.{Node}
 use Rattle.policy.specs.NodeLists.{NodeLists, nodeCount, nodeAt, children}
 use Rattle.policy.specs.Legality.{badLengths, badField, used, wrongEntries, someNotBelow, badChild}
-use Rattle.policy.proofs.LegalityLaws.{Lengths, lengths}
+use Rattle.policy.proofs.LegalityLaws.{lengths}
 
 -- ---- cause 4
 
@@ -74,11 +74,7 @@ module _ (i : ℕ) (n : Node) where
 
   pub one-not-below : (c : ℕ) {b : Bool} → children n ≡ c ∷ [] → b ≡ leb i c → b ≡ someNotBelow i (children n)
   unfolding someNotBelow
-  one-not-below c e f = f ∙ sym (ap (someNotBelow i) e ∙ or-nothing (leb i c))
-    where
-      or-nothing : (b : Bool) → (b || false) ≡ b
-      or-nothing true = refl
-      or-nothing false = refl
+  one-not-below c e f = f ∙ sym (ap (someNotBelow i) e ∙ or-false (leb i c))
 
   pub left-not-below : (l r : ℕ) {b : Bool} → children n ≡ l ∷ r ∷ [] → b ≡ leb i l → b ≡ true → true ≡ someNotBelow i (children n)
   unfolding someNotBelow
@@ -87,11 +83,7 @@ module _ (i : ℕ) (n : Node) where
   pub right-not-below : (l r : ℕ) {b d : Bool} → children n ≡ l ∷ r ∷ [] → b ≡ leb i l → b ≡ false → d ≡ leb i r → d ≡ someNotBelow i (children n)
   unfolding someNotBelow
   right-not-below l r e f t g =
-      g ∙ sym (ap (someNotBelow i) e ∙ ap (λ (b : Bool). b || (leb i r || false)) (sym f ∙ t) ∙ or-nothing (leb i r))
-    where
-      or-nothing : (b : Bool) → (b || false) ≡ b
-      or-nothing true = refl
-      or-nothing false = refl
+      g ∙ sym (ap (someNotBelow i) e ∙ ap (λ (b : Bool). b || (leb i r || false)) (sym f ∙ t) ∙ or-false (leb i r))
 
 pub bad-child-at : (L : NodeLists) (i : ℕ) {n : Node} {b d : Bool} → n ≡ nodeAt L i → b ≡ someNotBelow i (children n) → b ≡ d → badChild L i ≡ d
 unfolding badChild

@@ -13,7 +13,7 @@ use Rattle.policy.specs.declared.legality.PolicyAnswer.{PolicyAnswer}
 use Rattle.policy.specs.declared.legality.PolicyAnswer.the-variants.{Legal as LegalPolicy, Refused as PolicyRefused}
 use Rattle.policy.specs.declared.legality.PairAnswer.{PairAnswer}
 use Rattle.policy.specs.declared.legality.PairAnswer.the-variants.{Legal as LegalPair, Refused as PairRefused}
-use Rattle.policy.specs.NodeLists.{NodeLists, nodeCount}
+use Rattle.policy.specs.NodeLists.{NodeLists, nodeCount, dupsBelow}
 use Rattle.policy.specs.Legality.{badKind, badEntries, badChild, notOnce, tooManyDups, Sided, policiesStage}
 
 unfoldable pub sided : ℕ → NodeLists → Sided
@@ -35,6 +35,21 @@ policyAnswer (Refused r) dups = PolicyRefused r
 unfoldable pub pairAnswer : Tested → ℕ → ℕ → PairAnswer
 pairAnswer Passed left right = LegalPair left right
 pairAnswer (Refused r) left right = PairRefused r
+
+-- the answers of the stage "policies" alone
+unfoldable pub policyStage : List ℕ → ℕ → NodeLists → PolicyAnswer
+policyStage sizes side L = policyAnswer (policiesStage sizes (sided side L ∷ [])) (dupsBelow L (nodeCount L))
+
+unfoldable pub pairStage : List ℕ → NodeLists → NodeLists → PairAnswer
+pairStage sizes L R = pairAnswer (policiesStage sizes (sided 1 L ∷ sided 2 R ∷ [])) (dupsBelow L (nodeCount L)) (dupsBelow R (nodeCount R))
+
+-- the answer on one policy
+unfoldable pub policyLegality : List ℕ → NodeLists → PolicyAnswer
+policyLegality sizes L = policyAnswer (policyTests sizes L) (dupsBelow L (nodeCount L))
+
+-- the answer on a left and a right policy
+unfoldable pub pairLegality : List ℕ → NodeLists → NodeLists → PairAnswer
+pairLegality sizes L R = pairAnswer (pairTests sizes L R) (dupsBelow L (nodeCount L)) (dupsBelow R (nodeCount R))
 
 -- ---- how the answers are worked out: one policy after the other, and each by the causes that need the ones before
 

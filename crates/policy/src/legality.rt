@@ -10,9 +10,9 @@ ghost use Rattle.packet.specs.Refusals.{atZero, firstOf};
 ghost use Rattle.packet.specs.Sizes.{fieldsStage, productStage};
 ghost use Rattle.policy.specs.AsLists.{asLists};
 ghost use Rattle.policy.specs.NodeLists.{children, dupsBelow};
-ghost use Rattle.policy.specs.Legality.{badLengths, badKind, badField, used, wrongEntries, badEntries, someNotBelow, badChild, notOnce, policiesStage};
+ghost use Rattle.policy.specs.Legality.{badLengths, badKind, badField, used, wrongEntries, badEntries, someNotBelow, badChild, notOnce};
 ghost use Rattle.policy.specs.Counting.{SameLengths, CountableChildren, ChildCounts, Countable, withChild, withChildren, DupWeight, DupCountOf};
-ghost use Rattle.policy.specs.Answers.{sided, nodesStage, treeStage, policyAnswer, policyTests, both, pairAnswer, pairTests};
+ghost use Rattle.policy.specs.Answers.{nodesStage, treeStage, policyAnswer, policyStage, policyLegality, both, pairStage, pairLegality};
 use crate::Node;
 use crate::lent::node_at;
 use packet::Counted;
@@ -306,15 +306,15 @@ fn tree_tested(side: u8, kind: &[u8], first: &[u16], second: &[u16]) -> PolicyAn
     }
 }
 
-// Stage "policies" of one policy.
-fn policy_tested(
+// Inner: stage "policies" of one policy.
+pub fn policy_stage(
     sizes: &[u16],
     side: u8,
     kind: &[u8],
     first: &[u16],
     second: &[u16],
 ) -> PolicyAnswer
-    ensures { λ r. ⌜ r ≡ policyAnswer (policiesStage (now (sizes .entry)) (sided side (asLists (now (kind .entry)) (now (first .entry)) (now (second .entry))) ∷ [])) (dupsBelow (asLists (now (kind .entry)) (now (first .entry)) (now (second .entry))) (length (now (kind .entry)))) ⌝ }
+    ensures { λ r. ⌜ r ≡ policyStage (now (sizes .entry)) side (asLists (now (kind .entry)) (now (first .entry)) (now (second .entry))) ⌝ }
 {
     match packet::refused_at(4, side, bad_lengths(kind, first, second)) {
         Tested::Refused(r) => PolicyAnswer::Refused(r),
@@ -327,11 +327,11 @@ fn policy_tested(
 
 // Whether the lists are a legal policy over fields of these sizes: causes 1 to 9, side 0.
 pub fn policy_legality(sizes: &[u16], kind: &[u8], first: &[u16], second: &[u16]) -> PolicyAnswer
-    ensures { λ r. ⌜ r ≡ policyAnswer (policyTests (now (sizes .entry)) (asLists (now (kind .entry)) (now (first .entry)) (now (second .entry)))) (dupsBelow (asLists (now (kind .entry)) (now (first .entry)) (now (second .entry))) (length (now (kind .entry)))) ⌝ }
+    ensures { λ r. ⌜ r ≡ policyLegality (now (sizes .entry)) (asLists (now (kind .entry)) (now (first .entry)) (now (second .entry))) ⌝ }
 {
     match sizes_tested(sizes) {
         Tested::Refused(r) => PolicyAnswer::Refused(r),
-        Tested::Passed => policy_tested(sizes, 0, kind, first, second),
+        Tested::Passed => policy_stage(sizes, 0, kind, first, second),
     }
 }
 
@@ -356,6 +356,24 @@ fn both_tested(left: PolicyAnswer, right: PolicyAnswer) -> PairAnswer
     }
 }
 
+// Inner: stage "policies" of a left and a right policy.
+pub fn pair_stage(
+    sizes: &[u16],
+    left_kind: &[u8],
+    left_first: &[u16],
+    left_second: &[u16],
+    right_kind: &[u8],
+    right_first: &[u16],
+    right_second: &[u16],
+) -> PairAnswer
+    ensures { λ r. ⌜ r ≡ pairStage (now (sizes .entry)) (asLists (now («left_kind» .entry)) (now («left_first» .entry)) (now («left_second» .entry))) (asLists (now («right_kind» .entry)) (now («right_first» .entry)) (now («right_second» .entry))) ⌝ }
+{
+    both_tested(
+        policy_stage(sizes, 1, left_kind, left_first, left_second),
+        policy_stage(sizes, 2, right_kind, right_first, right_second),
+    )
+}
+
 // Whether the lists are two legal policies over fields of these sizes: causes 1 to 9, sides 1 and 2.
 pub fn pair_legality(
     sizes: &[u16],
@@ -366,13 +384,18 @@ pub fn pair_legality(
     right_first: &[u16],
     right_second: &[u16],
 ) -> PairAnswer
-    ensures { λ r. ⌜ r ≡ pairAnswer (pairTests (now (sizes .entry)) (asLists (now («left_kind» .entry)) (now («left_first» .entry)) (now («left_second» .entry))) (asLists (now («right_kind» .entry)) (now («right_first» .entry)) (now («right_second» .entry)))) (dupsBelow (asLists (now («left_kind» .entry)) (now («left_first» .entry)) (now («left_second» .entry))) (length (now («left_kind» .entry)))) (dupsBelow (asLists (now («right_kind» .entry)) (now («right_first» .entry)) (now («right_second» .entry))) (length (now («right_kind» .entry)))) ⌝ }
+    ensures { λ r. ⌜ r ≡ pairLegality (now (sizes .entry)) (asLists (now («left_kind» .entry)) (now («left_first» .entry)) (now («left_second» .entry))) (asLists (now («right_kind» .entry)) (now («right_first» .entry)) (now («right_second» .entry))) ⌝ }
 {
     match sizes_tested(sizes) {
         Tested::Refused(r) => PairAnswer::Refused(r),
-        Tested::Passed => both_tested(
-            policy_tested(sizes, 1, left_kind, left_first, left_second),
-            policy_tested(sizes, 2, right_kind, right_first, right_second),
+        Tested::Passed => pair_stage(
+            sizes,
+            left_kind,
+            left_first,
+            left_second,
+            right_kind,
+            right_first,
+            right_second,
         ),
     }
 }

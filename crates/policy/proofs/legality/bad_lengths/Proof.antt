@@ -1,6 +1,5 @@
 -- `bad_lengths` meets its contract: each way out is one of cause 4's tests.
 -- Assumes nothing.
-use borrow.Author.Needs.{needs}
 use mathlib.Core.Path.{ap, sym}
 use Rattle.packet.specs.Refusals.{atPlace}
 use Rattle.policy.specs.NodeLists.{nodeCount}

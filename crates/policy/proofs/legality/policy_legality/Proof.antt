@@ -15,14 +15,14 @@ enum-known-r c = search needs
 enum-told : tie.Need-enum-told
 enum-told c = search needs
 
-policy-tested-requires : tie.Need-policy-tested-requires
-policy-tested-requires c κs = search needs
+policy-stage-requires : tie.Need-policy-stage-requires
+policy-stage-requires c κs = search needs
 
 returns : tie.Need-returns
-returns c = policy-sizes-refused _ _ _ _ (sym (c .before .before .before .sizes-tested .ensures) ∙ c .before .r .given .1)
+returns c = policy-sizes-refused _ _ _ (sym (c .before .before .before .sizes-tested .ensures) ∙ c .before .r .given .1)
 
 returns-2 : tie.Need-returns-2
-returns-2 c = policy-sizes-passed _ _ _ (sym (c .before .before .before .sizes-tested .ensures) ∙ c .before .enum-told .given .1) (c .policy-tested .ensures)
+returns-2 c = policy-sizes-passed _ _ (sym (c .before .before .before .sizes-tested .ensures) ∙ c .before .enum-told .given .1) (c .policy-stage .ensures)
 
 pub policy-legality-spec : {M : Type 1} → statement M
 policy-legality-spec =
@@ -31,6 +31,6 @@ policy-legality-spec =
     sizes-tested-requires
     enum-known-r
     enum-told
-    policy-tested-requires
+    policy-stage-requires
     returns
     returns-2)
