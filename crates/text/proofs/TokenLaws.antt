@@ -17,7 +17,8 @@ use Rattle.text.specs.Inner.{NumbersOf, FrontAt, Skipped, TokenFrom}
 use Rattle.text.specs.declared.tokens.Token as Found
 use Rattle.text.proofs.Below.{below}
 use Rattle.text.proofs.ByteLaws.{beq-true}
-use Rattle.text.proofs.WordLaws.{and-false, is-true}
+use Rattle.text.proofs.WordLaws.{and-false}
+use Rattle.packet.proofs.Tests.{or-false, T-true}
 
 module _ (names : List (List ℕ)) where
   placed-over : (k at : ℕ) (bs : List ℕ) → placedFrom names k at bs ≡ placedFrom names 0 (k + at) (drop k bs)
@@ -171,21 +172,17 @@ class-double b h = beq-true _ _ (below (λ b. Bool·beq (eqb (classOf b) 4) (beg
 
 single-value : (b : ℕ) → b < 256 → valueOf (singleMark b) ≡ cond (eqb (kindOf (singleMark b)) 5) 2 0
 unfolding singleMark kindOf valueOf comparisonKind
-single-value b h = eqb-true _ _ (is-true _ (below (λ b. eqb (valueOf (singleMark b)) (cond (eqb (kindOf (singleMark b)) 5) 2 0)) 256 tt b h))
-
-not-either : (a b : Bool) → a || b ≡ false → (a ≡ false) × (b ≡ false)
-not-either true b e = absurd (true≢false e)
-not-either false b e = (refl, e)
+single-value b h = eqb-true _ _ (T-true _ (below (λ b. eqb (valueOf (singleMark b)) (cond (eqb (kindOf (singleMark b)) 5) 2 0)) 256 tt b h))
 
 -- a mark of one byte, by its class
 pub single-class : (b a : ℕ) → b < 256 → isBlank b ≡ false → inWord b ≡ false → beginsDouble b ≡ false
     → (markToken b a ≡ singleMark b) × (kindOf (singleMark b) ≡ classOf b) × (valueOf (singleMark b) ≡ cond (eqb (classOf b) 5) 2 0) × (doubleMark b a ≡ bad)
 unfolding markToken classOf inWord beginsDouble
 single-class b a h blank word double =
-    let letter : isLetter b ≡ false = not-either (isLetter b) (isDigit b) word .0 in
-    let digit : isDigit b ≡ false = not-either (isLetter b) (isDigit b) word .1 in
+    let letter : isLetter b ≡ false = or-false (isLetter b) (isDigit b) word .0 in
+    let digit : isDigit b ≡ false = or-false (isLetter b) (isDigit b) word .1 in
     let k : kindOf (singleMark b) ≡ classOf b = sym (rw (blank, letter, digit, double)) in
-    (rw double, k, single-value b h ∙ ap (λ (n : ℕ). cond (eqb n 5) 2 0) k, double-other b a (not-either (eqb b 33) (eqb b 60) double .0) (not-either (eqb b 33) (eqb b 60) double .1))
+    (rw double, k, single-value b h ∙ ap (λ (n : ℕ). cond (eqb n 5) 2 0) k, double-other b a (or-false (eqb b 33) (eqb b 60) double .0) (or-false (eqb b 33) (eqb b 60) double .1))
 
 pub word-within : (text : List ℕ) (at r : ℕ) → at ≤ length text → r ≡ at + length (wordOf (drop at text)) → r ≤ length text
 word-within text at r h e = let l : length (wordOf (drop at text)) ≤ length (drop at text) = word-short (drop at text) in omega (arith, length-drop at text)

@@ -10,20 +10,14 @@ use mathlib.Core.Path.{_≡_, refl, sym, _∙_, ap, ap₂, subst}
 use lib.Dec.{T, eqb, leb, ltb}
 use lib.ListN.{length, getD, take, drop}
 use borrow.Author.Tests.{eqb-true, eq-eqb, le-leb, lt-leb, leb-true, leb-false, le-ltb, lt-ltb}
-use Rattle.packet.specs.Lowest.{lowest, orAt}
+use Rattle.packet.specs.Lowest.{lowest}
+use Rattle.packet.proofs.Lowest.{lowest-found, lowest-none-whole}
+use Rattle.packet.proofs.Tests.{and-true, T-true}
 use Rattle.text.specs.Bytes.{isDigit}
 use Rattle.text.specs.Tokens.{Token, constant, dropped, passed, recorded, field, number, bad, sameWord, allDigits, decimal, leadingZero, isNumber, numberToken, fieldNames, fieldNamed, fieldToken, wordToken}
 use Rattle.text.specs.Kinds.{kindOf, valueOf, constantKind}
 use Rattle.text.specs.Inner.{numberFrom, Named, NumbersOf}
 use Rattle.text.proofs.Below.{below}
-
-and-left : (a b : Bool) → a && b ≡ true → a ≡ true
-and-left true b e = refl
-and-left false b e = absurd (true≢false (sym e))
-
-and-right : (a b : Bool) → a && b ≡ true → b ≡ true
-and-right true b e = e
-and-right false b e = absurd (true≢false (sym e))
 
 pub and-false : (a : Bool) → a && false ≡ false
 and-false true = refl
@@ -34,7 +28,7 @@ unfolding sameWord
 same-eq [] [] e = refl
 same-eq [] (y ∷ ys) e = absurd (true≢false (sym e))
 same-eq (x ∷ xs) [] e = absurd (true≢false (sym e))
-same-eq (x ∷ xs) (y ∷ ys) e = ap₂ _∷_ (eqb-true x y (and-left (eqb x y) (sameWord xs ys) e)) (same-eq xs ys (and-right (eqb x y) (sameWord xs ys) e))
+same-eq (x ∷ xs) (y ∷ ys) e = ap₂ _∷_ (eqb-true x y (and-true (eqb x y) (sameWord xs ys) e .0)) (same-eq xs ys (and-true (eqb x y) (sameWord xs ys) e .1))
 
 pub same-refl : (a : List ℕ) → sameWord a a ≡ true
 unfolding sameWord
@@ -71,24 +65,6 @@ pub number-large : (n : ℕ) (bs : List ℕ) → 65535 < n → numberFrom n bs �
 unfolding numberFrom
 number-large n bs h = rw (lt-leb (decimal n bs) 65535 (let g : n ≤ decimal n bs = decimal-grows n bs in omega arith), and-false (allDigits bs))
 
--- no number below n passes
-pub lowest-none : (test : ℕ → Bool) (n : ℕ) → ((k : ℕ) → k < n → test k ≡ false) → lowest test n ≡ none
-unfolding lowest orAt
-lowest-none test zero h = refl
-lowest-none test (suc n) h = rw (lowest-none test n (λ k l. h k (omega arith)), h n (omega arith))
-
--- i is the lowest that passes
-pub lowest-some : (test : ℕ → Bool) (i n : ℕ) → ((k : ℕ) → k < i → test k ≡ false) → test i ≡ true → i < n → lowest test n ≡ some i
-unfolding lowest orAt
-lowest-some test i zero h e l = absurd (not-suc-le-zero l)
-lowest-some test i (suc n) h e l =
-    ⊎-elim (λ q. subst (λ (k : ℕ). orAt (lowest test k) (test k) k ≡ some i) q (rw (lowest-none test i h, e)))
-    (λ m. rw (lowest-some test i n h e m)) (eq-or-lt-of-le (le-of-suc-le-suc l))
-
-pub is-true : (b : Bool) → T b → b ≡ true
-is-true true t = refl
-is-true false t = absurd t
-
 -- the names as they stand in the table, two bytes each
 abbrev pub nameTable : List ℕ
 nameTable = 102 ∷ 48 ∷ 102 ∷ 49 ∷ 102 ∷ 50 ∷ 102 ∷ 51 ∷ 102 ∷ 52 ∷ 102 ∷ 53 ∷ 102 ∷ 54 ∷ 102 ∷ 55 ∷ []
@@ -97,21 +73,24 @@ name-part : (f : ℕ) → f < 8 → take 2 (drop (f * 2) nameTable) ≡ getD fie
 unfolding sameWord fieldNames
 name-part f h =
     same-eq (take 2 (drop (f * 2) nameTable)) (getD fieldNames f [])
-    (is-true _ (below (λ f. sameWord (take 2 (drop (f * 2) nameTable)) (getD fieldNames f [])) 8 tt f h))
+    (T-true _ (below (λ f. sameWord (take 2 (drop (f * 2) nameTable)) (getD fieldNames f [])) 8 tt f h))
 
 pub named-at : (w : List ℕ) (f : ℕ) (r s : Bool) → f < 8 → r ≡ sameWord w (take (f * 2 + 2 - f * 2) (drop (f * 2) nameTable)) → r ≡ s → sameWord w (getD fieldNames f []) ≡ s
 named-at w f r s h e q =
     let two : f * 2 + 2 - f * 2 ≡ 2 = omega arith in
     sym (ap (sameWord w) (ap (λ (k : ℕ). take k (drop (f * 2) nameTable)) two ∙ name-part f h)) ∙ sym e ∙ q
 
-pub named-found : (w : List ℕ) (f : ℕ) → f < 8 → ((k : ℕ) → k < f → sameWord w (getD fieldNames k []) ≡ false) → sameWord w (getD fieldNames f []) ≡ true → Named (fieldNamed fieldNames w) f
-unfolding fieldNamed fieldNames
-named-found w f h miss e =
-    record { found = λ _. lowest-some (λ f. sameWord w (getD fieldNames f [])) f 8 miss e h; missing = λ l. absurd (omega arith) }
+-- the word is the name of field f
+abbrev pub bears : List ℕ → ℕ → Bool
+bears w f = sameWord w (getD fieldNames f [])
 
-pub named-none : (w : List ℕ) → ((k : ℕ) → k < 8 → sameWord w (getD fieldNames k []) ≡ false) → Named (fieldNamed fieldNames w) 8
+pub named-found : (w : List ℕ) (f : ℕ) → f < 8 → lowest (bears w) f ≡ none → bears w f ≡ true → Named (fieldNamed fieldNames w) f
 unfolding fieldNamed fieldNames
-named-none w miss = record { found = λ l. absurd (omega arith); missing = λ _. lowest-none (λ f. sameWord w (getD fieldNames f [])) 8 miss }
+named-found w f h miss e = record { found = λ _. lowest-found (bears w) f 8 miss e h; missing = λ l. absurd (omega arith) }
+
+pub named-none : (w : List ℕ) (f : ℕ) → lowest (bears w) f ≡ none → f ≡ 8 → Named (fieldNamed fieldNames w) 8
+unfolding fieldNamed fieldNames
+named-none w f miss e = record { found = λ l. absurd (omega arith); missing = λ _. lowest-none-whole (bears w) f 8 miss e }
 
 pub field-is : (o : Option ℕ) (w : List ℕ) (r : ℕ) → Named o r → r < 8 → NumbersOf (fieldToken o w) 3 r
 unfolding fieldToken kindOf valueOf
@@ -154,7 +133,7 @@ unfolding numberToken numberFrom
 number-over w e h = rw (number-test w e) (go (allDigits w && leb (decimal 0 w) 65535) refl h)
   where
     go : (b : Bool) → allDigits w && leb (decimal 0 w) 65535 ≡ b → 65535 < cond b (decimal 0 w) 65536 → cond b (number (decimal 0 w)) bad ≡ bad
-    go true q l = absurd (let m : decimal 0 w ≤ 65535 = leb-true (decimal 0 w) 65535 (and-right (allDigits w) (leb (decimal 0 w) 65535) q) in omega arith)
+    go true q l = absurd (let m : decimal 0 w ≤ 65535 = leb-true (decimal 0 w) 65535 (and-true (allDigits w) (leb (decimal 0 w) 65535) q .1) in omega arith)
     go false q l = refl
 
 pub number-is : (w : List ℕ) (n : ℕ) → leadingZero w ≡ false → n ≡ numberFrom 0 w → n ≤ 65535 → NumbersOf (numberToken w) 4 n
@@ -183,8 +162,8 @@ word-other w k v d i e n = rw (d, i, e) n
 
 pub digit-low : (b : ℕ) → isDigit b ≡ true → 48 ≤ b
 unfolding isDigit
-digit-low b e = leb-true 48 b (and-left (leb 48 b) (leb b 57) e)
+digit-low b e = leb-true 48 b (and-true (leb 48 b) (leb b 57) e .0)
 
 pub digit-high : (b : ℕ) → isDigit b ≡ true → b ≤ 57
 unfolding isDigit
-digit-high b e = leb-true b 57 (and-right (leb 48 b) (leb b 57) e)
+digit-high b e = leb-true b 57 (and-true (leb 48 b) (leb b 57) e .1)

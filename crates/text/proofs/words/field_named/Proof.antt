@@ -1,25 +1,26 @@
 -- `words::field_named` meets its contract. The loop's invariant: no name passed is the word.
 use borrow.Author.Needs.{needs}
-use Prim.Native.Nat.{ℕ, _≤_, _<_, _-_}
+use Prim.Native.Nat.{_≤_, _-_}
 use mathlib.Core.Bool.{true, false}
-use mathlib.Core.List.{[]}
-use mathlib.Core.Path.{_≡_}
+use mathlib.Core.Option.{none}
+use mathlib.Core.Path.{_≡_, refl, ap, _∙_}
 use native.Mathlib.Omega.{arith}
-use lib.ListN.{getD}
-use borrow.Author.Count.{below-none, below-more}
-use Rattle.text.specs.Tokens.{sameWord, fieldNames}
-use Rattle.text.proofs.WordLaws.{named-at, named-found, named-none}
+use native.Mathlib.Numerals.{add-one}
+use Rattle.packet.specs.Lowest.{lowest}
+use Rattle.packet.proofs.Lowest.{lowest-more}
+use Rattle.text.proofs.WordLaws.{bears, named-at, named-found, named-none}
 use Rattle.text.proofs.words.field_named.Statement.{statement}
 use Rattle.text.proofs.words.field_named.Tie as tie
 
 abbrev Inv-loop : tie.InvT-loop
-Inv-loop w names f₀ f = (f ≤ 8) × ((k : ℕ) → k < f → sameWord w (getD fieldNames k []) ≡ false)
+Inv-loop w names f₀ f = (f ≤ 8) × (lowest (bears w) f ≡ none)
 
 abbrev μ-loop : tie.MeasureT-loop
 μ-loop w names f₀ f = 8 - f
 
 loop-holds : tie.Need-loop-holds Inv-loop μ-loop
-loop-holds c = (search needs, below-none _)
+unfolding lowest
+loop-holds c = (search needs, refl)
 
 mul-at : tie.Need-mul-at Inv-loop μ-loop
 mul-at c = search needs
@@ -52,10 +53,10 @@ loop-less : tie.Need-loop-less Inv-loop μ-loop
 loop-less c = search needs
 
 loop-again : tie.Need-loop-again Inv-loop μ-loop
-loop-again c = (omega arith, below-more _ _ (c .before .before .before .before .before .loop .inv .1) (named-at (c .before .before .before .before .before .before .before .args .w .now) (c .before .before .before .before .before .loop .f) (c .before .is .result) false (c .before .before .before .before .loop-test .taken) (c .before .is .ensures) (c .if1 .left)))
+loop-again c = (omega arith, ap (lowest (bears (c .before .before .before .before .before .before .before .args .w .now))) (add-one (c .before .before .before .before .before .loop .f)) ∙ lowest-more (bears (c .before .before .before .before .before .before .before .args .w .now)) (c .before .before .before .before .before .loop .f) (c .before .before .before .before .before .loop .inv .1) (named-at (c .before .before .before .before .before .before .before .args .w .now) (c .before .before .before .before .before .loop .f) (c .before .is .result) false (c .before .before .before .before .loop-test .taken) (c .before .is .ensures) (c .if1 .left)))
 
 returns-2 : tie.Need-returns-2 Inv-loop μ-loop
-returns-2 c = named-none (c .before .before .before .args .w .now) (λ k l. c .before .loop .inv .1 k (omega arith))
+returns-2 c = named-none (c .before .before .before .args .w .now) (c .before .loop .f) (c .before .loop .inv .1) (omega arith)
 
 pub field-named-spec : {M : Type 1} → statement M
 field-named-spec =

@@ -1,0 +1,289 @@
+#!/usr/bin/env python3
+"""Writes the input and the expected output of the program text_cases, worked out from document 01, "Text" and causes 14 to 17.
+
+    tools/text_cases.py            write crates/text_cases/stdin and stdout
+    tools/text_cases.py --check    compare them with what is stored
+"""
+import random
+import string
+import sys
+
+from stored import store
+
+WORD = set((string.ascii_letters + string.digits).encode())
+SINGLE = {ord(c): c for c in "=+;*()"}
+
+
+class Refused(Exception):
+    def __init__(self, number, place):
+        super().__init__()
+        self.answer = (number, place)
+
+
+def word_token(word):
+    """drop, id, dup, f0 to f7, or a number to 65,535 without leading zeros."""
+    if word in ("drop", "id", "dup"):
+        return (word, None)
+    if len(word) == 2 and word[0] == "f" and word[1] in "01234567":
+        return ("field", int(word[1]))
+    if word.isdigit() and (word == "0" or word[0] != "0") and len(word) <= 5 and int(word) <= 65535:
+        return ("number", int(word))
+    return None
+
+
+def tokens(text):
+    """The tokens with the bytes at which they start, or cause 14."""
+    found, at = [], 0
+    while at < len(text):
+        if text[at] in b" \t":
+            at += 1
+            continue
+        start = at
+        if text[at] in WORD:
+            while at < len(text) and text[at] in WORD:
+                at += 1
+            token = word_token(text[start:at].decode())
+        elif text[at:at + 2] in (b"!=", b"<-"):
+            at += 2
+            token = (text[start:at].decode(), None)
+        else:
+            at += 1
+            token = (SINGLE[text[start]], None) if text[start] in SINGLE else None
+        if token is None:
+            raise Refused(14, start)
+        found.append((token, start))
+    return found
+
+
+def depth(found):
+    """Cause 15."""
+    open_now = 0
+    for (name, _), start in found:
+        if name == "(":
+            open_now += 1
+            if open_now > 64:
+                raise Refused(15, start)
+        elif name == ")":
+            open_now = max(0, open_now - 1)
+
+
+class Reader:
+    """Nodes of the text, children first, left before right. The node lists are made here, and not a tree."""
+
+    def __init__(self, found, end):
+        self.found, self.end, self.at, self.nodes = found, end, 0, []
+
+    def peek(self):
+        return self.found[self.at][0][0] if self.at < len(self.found) else "end"
+
+    def take(self, *names):
+        """The value of the next token, which has one of the names; else cause 16."""
+        if self.peek() not in names:
+            raise Refused(16, self.found[self.at][1] if self.at < len(self.found) else self.end)
+        token = self.found[self.at][0]
+        self.at += 1
+        return token
+
+    def node(self, kind, first, second):
+        self.nodes.append((kind, first, second))
+        return len(self.nodes) - 1
+
+    def joined(self, part, mark, kind):
+        left = part()
+        while self.peek() == mark:
+            self.take(mark)
+            right = part()
+            left = self.node(kind, left, right)
+        return left
+
+    def sum(self):
+        return self.joined(self.sequence, "+", 6)
+
+    def sequence(self):
+        return self.joined(self.starred, ";", 7)
+
+    def starred(self):
+        child = self.item()
+        while self.peek() == "*":
+            self.take("*")
+            child = self.node(8, child, 0)
+        return child
+
+    def item(self):
+        name, value = self.take("drop", "id", "dup", "field", "(")
+        if name == "(":
+            inside = self.sum()
+            self.take(")")
+            return inside
+        if name == "field":
+            comparison = self.take("=", "!=", "<-")[0]
+            number = self.take("number")[1]
+            return self.node({"=": 2, "!=": 3, "<-": 4}[comparison], value, number)
+        return self.node({"drop": 0, "id": 1, "dup": 5}[name], 0, 0)
+
+    def whole(self):
+        self.sum()
+        self.take("end")
+
+
+def read(text, lengths):
+    found = tokens(text)
+    depth(found)
+    reader = Reader(found + [(("end", None), len(text))], len(text))
+    reader.whole()
+    if len(reader.nodes) > min(512, min(lengths)):
+        raise Refused(17, len(reader.nodes))
+    return reader.nodes
+
+
+def expected(text, lengths):
+    try:
+        nodes = read(text, lengths)
+        answer = "nodes %d" % len(nodes)
+    except Refused as refused:
+        nodes = []
+        answer = "refused %d 0 %d" % refused.answer
+    lists = []
+    for column, (name, length) in enumerate(zip(("kind", "first", "second"), lengths)):
+        entries = [node[column] for node in nodes] + [7] * (length - len(nodes))
+        lists.append(", " + name + "".join(" %d" % entry for entry in entries))
+    return answer + "".join(lists)
+
+
+def given(parts, lengths):
+    numbers = list(lengths) + [len(parts)]
+    for times, part in parts:
+        numbers += [times, len(part)] + list(part)
+    return " ".join(map(str, numbers))
+
+
+def parts_of(*parts):
+    """A part is bytes, text, or a pair of how often and which."""
+    made = []
+    for part in parts:
+        times, part = part if isinstance(part, tuple) else (1, part)
+        made.append((times, part.encode() if isinstance(part, str) else part))
+    return made
+
+
+def all_cases():
+    for text in TEXTS:
+        yield parts_of(text), (9, 9, 9)
+    for text in ("f0=0;dup", "id+dup;dup*", "(id+dup)*;f3<-65535"):
+        nodes = len(read(text.encode(), (99, 99, 99)))
+        for short in range(3):
+            for less in (0, 1, nodes):
+                lengths = [nodes + 2] * 3
+                lengths[short] = nodes - less
+                yield parts_of(text), tuple(lengths)
+    for parts, length in LONG:
+        yield parts_of(*parts), (length, length, length)
+    source = random.Random(1)
+    for _ in range(150):
+        yield parts_of(damaged(source, random_text(source, 3))), (12, 12, 12)
+
+
+def random_text(source, deep):
+    kind = source.randrange(6)
+    if kind == 0 and deep:
+        return blank(source) + "(" + random_text(source, deep - 1) + ")" + blank(source)
+    if kind == 1 and deep:
+        return random_text(source, deep - 1) + source.choice(["+", ";", " + ", ";\t"]) + random_text(source, deep - 1)
+    if kind == 2 and deep:
+        return random_text(source, deep - 1) + source.choice(["*", " *", "**"])
+    if kind < 5:
+        field = "f%d" % source.randrange(8)
+        return field + blank(source) + source.choice(["=", "!=", "<-"]) + blank(source) + str(source.choice([0, 1, 7, 10, 65535]))
+    return source.choice(["drop", "id", "dup"])
+
+
+def blank(source):
+    return source.choice(["", "", "", " ", "\t"])
+
+
+def damaged(source, text):
+    """Half of the texts with one byte dropped, doubled or changed."""
+    text = text.encode()
+    at = source.randrange(len(text))
+    kind = source.randrange(6)
+    if kind == 0:
+        return text[:at] + text[at + 1:]
+    if kind == 1:
+        return text[:at] + text[at:at + 1] + text[at:]
+    if kind == 2:
+        return text[:at] + bytes([source.choice(b"()*+;=!<-f0 d\x80")]) + text[at + 1:]
+    return text
+
+
+TEXTS = [
+    # the pairs of document 01
+    "drop", "id", "dup", "f0=0;dup", "dup;f0=0", "f0=0+f0=1", "dup*", "id+dup;dup*", "dup;dup", "f0<-1;f0=1", "f0<-1",
+    "f0<-0+f0<-1", "dup;drop",
+    # nothing, and blanks
+    "", " ", "\t", " \t ", "  id", "id  ", "\tid\t", " f0 \t=  1 ", "f0 = 0", "f0 != 0", "f0 <- 0", "( id ) * ; ( dup + drop ) *",
+    "\t(\tid\t+\tdup\t)\t*\t;\tf7\t!=\t65535\t",
+    # marks of two bytes apart
+    "f0 ! = 0", "f0 < - 0", "f0! =0", "f0< -0", "!", "<", "f0!", "f0<", "f0=!", "f0!!=0", "f0<=0", "f0<<-0", "f0-0", "-",
+    # joins and stars
+    "id;drop;dup", "id+drop+dup", "id+drop;dup", "id;drop+dup", "id;drop*", "id+drop*", "(id;drop)*", "(id+drop);dup",
+    "id;(drop+dup)", "id;(drop;dup)", "id+(drop+dup)", "id**", "(id*)*", "((id))", "id+dup;drop+f1=2;id*",
+    # words
+    "f7=0", "f8=0", "F0=0", "f=0", "f00=0", "f10=0", "g0=0", "dup2", "Dup", "DROP", "iD", "idid", "id2", "2id", "drop1",
+    "f0=65535", "f0=65536", "f0=99999", "f0=100000", "f0=4294967296", "f0=00", "f0=01", "f0=0", "f0=10", "f0=007", "00", "0",
+    "f0=f1", "f0=id", "f0=", "f0", "f0!=", "f0<-", "0=f0", "=", "f0==0", "f0=0=0", "f0 0", "f0=0 1",
+    # bytes that start no token
+    b"\0", b"\x7f", b"\x80", b"\xff", b"id\0", b"id\x80", b"id;\xffid", b"\x80id", b"id\r", b"id\n", b"\rid", b"id\r\n", b"id;\nid",
+    "id,dup", "id.", "_id", "id_", "id&dup", "id|dup", "@id", "[id]", "{id}", "id/dup", "id:dup", "`id", "id\x0bid", "id\x0c",
+    # the first, a middle and the last byte
+    "?id;dup", "id?;dup", "id;dup?", "+id;dup", "id;+dup", "id;dup+", ";id", "id;;dup", "id;", "*id", "id;*dup", "id*;", "id dup",
+    "id id", "id(dup)", "(id", "id)", "()", "(id))", "((id)", "(id;)", "(+id)", "(", ")", ")))", "(((", "id+)", "(id)(dup)", "(id)dup",
+    "id*dup", "id* *", "id *;dup", "id +", "id ; ", "(id ", "f0 ", "f0= ", " )", "  +",
+    # causes in their order: 14 before 15 and 16, 15 before 16, 16 before 17
+    ")?", "(?", "id;;id?", "id id 00",
+]
+
+LONG = [
+    ([(63, "("), "id", (63, ")")], 3),
+    ([(64, "("), "id", (64, ")")], 3),
+    ([(65, "("), "id", (65, ")")], 3),
+    ([(64, "("), "id", (63, ")")], 3),
+    ([(64, "("), "id", (65, ")")], 3),
+    ([(65, "(")], 3),
+    ([(64, "(")], 3),
+    ([")))", (65, "(")], 3),
+    ([")))", (64, "(")], 3),
+    ([(64, "( "), (64, "\t")], 3),
+    ([(64, "("), ")", "(", "("], 3),
+    ([(40, "("), "id", (40, ")"), "+", (64, "("), "dup", (64, ")")], 9),
+    ([(65, "("), "?"], 3),
+    (["?", (65, "(")], 3),
+    (["id", (510, "*")], 511),
+    (["id", (511, "*")], 512),
+    (["id", (511, "*")], 513),
+    (["id", (511, "*")], 511),
+    (["id", (512, "*")], 600),
+    (["id", (600, "*")], 600),
+    (["f1=1", (255, "+dup")], 511),
+    (["f1=1", (255, ";dup")], 512),
+    (["id", (256, ";id")], 600),
+    (["id;;", (512, "*")], 600),
+    # a megabyte
+    (["id", (349524, ";id")], 5),
+    (["id", (349524, "+id"), ";"], 5),
+    ([(1048576, " ")], 5),
+    ([(1048576, "1")], 5),
+    ([(524288, "( ")], 5),
+    (["dup", (1048573, "*")], 5),
+    (["dup", (1048572, "*"), "!"], 5),
+    ([(64, "("), "id", (64, ")"), (1048000, " "), "?"], 5),
+]
+
+
+def main():
+    cases = list(all_cases())
+    lines = [given(parts, lengths) for parts, lengths in cases]
+    answers = [expected(b"".join(part * times for times, part in parts), lengths) for parts, lengths in cases]
+    store("text_cases", lines, answers, "--check" in sys.argv[1:])
+
+
+main()
