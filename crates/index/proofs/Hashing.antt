@@ -1,0 +1,79 @@
+-- Equal rows have one bucket; a bucket lies within the heads and belongs to one packet.
+use mathlib.Core.Path.{_≡_, refl, sym, _∙_, ap, ap₂, subst}
+use mathlib.Core.Bool.{true}
+use mathlib.Core.List.{List}
+use Prim.Native.Nat.{ℕ, zero, suc, _+_, _*_, _/_, _%_, _≤_, _<_}
+use native.Mathlib.Nat.{mod-lt, div-mul-le-self, mul-comm, mul-le-mul-right, le-trans, le-div-iff-mul-le, one-mul, mul-add-div-right, div-eq-of-lt, add-zero, suc-mul, le-antisymm}
+use native.Mathlib.Numerals.{add-one}
+use native.Mathlib.Omega.{arith}
+use lib.Dec.{eqb}
+use lib.ListN.{getD}
+use borrow.Author.Tests.{eqb-true}
+use Rattle.system.proofs.Basics.{and-true}
+use Rattle.index.specs.declared.Row.{Row}
+use Rattle.index.specs.Columns.{policies, sameStates, sameRow}
+use Rattle.index.specs.Index.{hashOf, bucketOf}
+
+pub hash-below : (k : ℕ) (a : List ℕ) → hashOf k a < 4294967291
+unfolding hashOf
+hash-below zero a = omega arith
+hash-below (suc k) a = mod-lt _ (omega arith)
+
+pub hash-none : (a : List ℕ) → 0 ≡ hashOf 0 a
+unfolding hashOf
+hash-none a = refl
+
+pub hash-more : (a : List ℕ) (h s k : ℕ) → h ≡ hashOf k a → s ≡ getD a k 0 → (h + s) * 1640531527 % 4294967291 ≡ hashOf (k + 1) a
+unfolding hashOf
+hash-more a h s k e f = rw add-one (ap₂ (λ (x y : ℕ). (x + y) * 1640531527 % 4294967291) e f)
+
+pub hash-all : (a : List ℕ) (h k n : ℕ) → k ≤ n → n ≤ k → h ≡ hashOf k a → h ≡ hashOf n a
+hash-all a h k n l g e = e ∙ ap (λ m. hashOf m a) (le-antisymm l g)
+
+same-hash : (k : ℕ) (a b : List ℕ) → sameStates k a b ≡ true → hashOf k a ≡ hashOf k b
+unfolding hashOf sameStates
+same-hash zero a b e = refl
+same-hash (suc k) a b e =
+    let both = and-true (sameStates k a b) (eqb (getD a k 0) (getD b k 0)) e in
+    ap₂ (λ h s. (h + s) * 1640531527 % 4294967291) (same-hash k a b (both .0)) (eqb-true _ _ (both .1))
+
+pub same-bucket : (size count : ℕ) (a b : Row) → sameRow a b ≡ true → bucketOf size count a ≡ bucketOf size count b
+unfolding bucketOf sameRow
+same-bucket size count a b e =
+    let both = and-true (eqb (a .packet) (b .packet)) (sameStates policies (a .states) (b .states)) e in
+    ap₂ (λ p h. p * (size / count) + h % (size / count)) (eqb-true _ _ (both .0)) (same-hash policies (a .states) (b .states) (both .1))
+
+module _ (size count : ℕ) (r : Row) (small : r .packet < count) (room : count ≤ size) where
+  pub count-positive : 0 < count
+  count-positive = omega arith
+
+  -- each packet has a bucket at least
+  pub width-positive : 0 < size / count
+  width-positive = le-div-iff-mul-le count-positive .1 (rw one-mul room)
+
+  -- the packet's range ends within the buckets
+  pub range-within : r .packet * (size / count) + size / count ≤ size
+  range-within =
+      le-trans (subst (λ n. n ≤ count * (size / count)) (suc-mul (r .packet) (size / count)) (mul-le-mul-right (size / count) small))
+      (subst (λ n. n ≤ size) (mul-comm (size / count) count) (div-mul-le-self size count))
+
+  pub bucket-below : bucketOf size count r < size
+  unfolding bucketOf
+  bucket-below = omega (arith, range-within, mod-lt (hashOf policies (r .states)) width-positive)
+
+  -- packet-major: the bucket tells the packet, so that a chain holds rows of one packet alone
+  pub bucket-packet : bucketOf size count r / (size / count) ≡ r .packet
+  unfolding bucketOf
+  bucket-packet = mul-add-div-right width-positive (r .packet) _ ∙ ap (λ n. r .packet + n) (div-eq-of-lt (mod-lt _ width-positive)) ∙ add-zero _
+
+  -- the same with the numbers that the code holds
+  module _ (c p : ℕ) (isCount : c ≡ count) (isPacket : p ≡ r .packet) where
+    pub held-positive : 0 < size / c
+    held-positive = rw isCount width-positive
+
+    pub held-range : p * (size / c) + size / c ≤ size
+    held-range = rw (isCount, isPacket) range-within
+
+    pub held-bucket : (h : ℕ) → h ≡ hashOf policies (r .states) → p * (size / c) + h % (size / c) ≡ bucketOf size count r
+    unfolding bucketOf
+    held-bucket h isHash = rw (isCount, isPacket, isHash)

@@ -1,0 +1,63 @@
+-- `index::hash` meets its contract: the states passed are hashed. Assumes nothing.
+use borrow.Author.Needs.{needs}
+use mathlib.Core.Path.{_≡_}
+use Prim.Native.Nat.{_≤_, _-_}
+use native.Mathlib.Omega.{arith}
+use Rattle.index.specs.Columns.{policies}
+use Rattle.index.specs.Index.{hashOf}
+use Rattle.index.proofs.Hashing.{hash-below, hash-none, hash-more, hash-all}
+use Rattle.index.proofs.hash.Statement.{statement}
+use Rattle.index.proofs.hash.Tie as tie
+
+abbrev Inv-loop : tie.InvT-loop
+Inv-loop states h₀ k₀ h k = (k ≤ policies) × (h ≡ hashOf k states)
+
+abbrev μ-loop : tie.MeasureT-loop
+μ-loop states h₀ k₀ h k = policies - k
+
+loop-holds : tie.Need-loop-holds Inv-loop μ-loop
+loop-holds c = (search needs, hash-none _)
+
+mul-wide-mask : tie.Need-mul-wide-mask Inv-loop μ-loop
+mul-wide-mask c = search needs
+
+array-read-wide-mask : tie.Need-array-read-wide-mask Inv-loop μ-loop
+array-read-wide-mask c = search needs
+
+wide-mask-requires : tie.Need-wide-mask-requires Inv-loop μ-loop
+wide-mask-requires c κs = search needs
+
+add-h : tie.Need-add-h Inv-loop μ-loop
+add-h c = record { fits = omega (arith, hash-below (c .before .before .loop .k) (c .before .before .before .args .t1)) }
+
+mul-h : tie.Need-mul-h Inv-loop μ-loop
+mul-h c = record { fits = omega (arith, hash-below (c .before .before .loop .k) (c .before .before .before .args .t1)) }
+
+add-k : tie.Need-add-k Inv-loop μ-loop
+add-k c = search needs
+
+loop-less : tie.Need-loop-less Inv-loop μ-loop
+loop-less c = search needs
+
+loop-again : tie.Need-loop-again Inv-loop μ-loop
+loop-again c = (search needs, hash-more _ _ _ _ (c .before .before .loop .inv .1) (c .wide-mask .ensures .0))
+
+returns : tie.Need-returns Inv-loop μ-loop
+returns c = hash-all _ _ _ _ (c .before .loop .inv .0) (c .loop-test .left) (c .before .loop .inv .1)
+
+pub hash-spec : {M : Type 1} → statement M
+hash-spec =
+    tie.close
+    (tie.spec
+    Inv-loop
+    μ-loop
+    loop-holds
+    mul-wide-mask
+    array-read-wide-mask
+    wide-mask-requires
+    add-h
+    mul-h
+    add-k
+    loop-less
+    loop-again
+    returns)

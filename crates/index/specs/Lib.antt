@@ -1,0 +1,4 @@
+pub mod Columns
+pub mod Index
+pub mod Appending
+pub mod Entries
