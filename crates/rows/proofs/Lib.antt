@@ -1,2 +1,4 @@
 pub mod Written
 pub mod Clearing
+pub mod Standing
+pub mod Growing

@@ -2,10 +2,19 @@
 ghost use mathlib.Core.Path.{_≡_};
 ghost use mathlib.Core.Bool.{_||_, not};
 ghost use mathlib.Core.List.{[], _∷_};
+ghost use Prim.Native.Nat.{_≤_};
 ghost use lib.Dec.{eqb, ltb};
 ghost use lib.ListN.{length, replicate};
 ghost use Rattle.packet.specs.Refusals.{refusedAt, atZero};
+ghost use Rattle.index.specs.Index.{Indexed};
+ghost use Rattle.index.specs.Appending.{lists};
 ghost use Rattle.rows.specs.Lent.{listsStage};
+ghost use Rattle.rows.specs.Standing.{Started, NextAppended};
+use index::Appended;
+use index::Mask;
+use index::POLICIES;
+use index::Row;
+use index::append;
 use packet::Refusal;
 use packet::Tested;
 
@@ -84,4 +93,99 @@ pub fn clear(work: &mut [u32])
         work[i] = 0;
         i += 1;
     }
+}
+
+fn wide(x: u16) -> usize
+    ensures { λ r. ⌜ r ≡ x ⌝ }
+{
+    x as usize
+}
+
+// Inner: lists the starting rows (α, 1, 1), each its own parent.
+pub fn start(
+    packets: &mut [u16],
+    left: &mut [Mask],
+    right: &mut [Mask],
+    parents: &mut [u16],
+    count: u16,
+    heads: &mut [u16],
+    links: &mut [u16],
+) -> Appended
+    requires { ⌜ Indexed (now packets) (now left) (now right) count 0 (now heads) (now links) ⌝ }
+    requires { ⌜ length (now parents) ≡ length (now packets) ⌝ }
+    ensures { λ r. ⌜ Started (lists (now (packets .entry)) (now (left .entry)) (now (right .entry)) (now (parents .entry)) (now (heads .entry)) (now (links .entry))) (lists (now (packets .exit)) (now (left .exit)) (now (right .exit)) (now (parents .exit)) (now (heads .exit)) (now (links .exit))) count r ⌝ }
+{
+    let mut n = 0;
+    let mut packet: u16 = 0;
+    while packet < count {
+        let row = Row {
+            packet,
+            states: [1; POLICIES],
+        };
+        let Appended::Rows(m) = append(
+            packets,
+            left,
+            right,
+            parents,
+            n,
+            count,
+            heads,
+            links,
+            row,
+            packet,
+        ) else {
+            return Appended::Full;
+        };
+        n = m;
+        packet += 1;
+    }
+    Appended::Rows(n)
+}
+
+// Inner: row `handled` has been handled; the rows next of it, whose masks the two lists hold, are appended to the first `listed`.
+pub fn append_next(
+    packets: &mut [u16],
+    left: &mut [Mask],
+    right: &mut [Mask],
+    parents: &mut [u16],
+    listed: usize,
+    count: u16,
+    heads: &mut [u16],
+    links: &mut [u16],
+    handled: u16,
+    lefts: &[Mask],
+    rights: &[Mask],
+) -> Appended
+    requires { ⌜ Indexed (now packets) (now left) (now right) count listed (now heads) (now links) ⌝ }
+    requires { ⌜ length (now parents) ≡ length (now packets) ⌝ }
+    requires { ⌜ count ≤ length (now lefts) ⌝ }
+    requires { ⌜ count ≤ length (now rights) ⌝ }
+    ensures { λ r. ⌜ NextAppended (lists (now (packets .entry)) (now (left .entry)) (now (right .entry)) (now (parents .entry)) (now (heads .entry)) (now (links .entry))) (lists (now (packets .exit)) (now (left .exit)) (now (right .exit)) (now (parents .exit)) (now (heads .exit)) (now (links .exit))) count listed handled (now (lefts .entry)) (now (rights .entry)) r ⌝ }
+{
+    let mut n = listed;
+    let mut packet: u16 = 0;
+    while packet < count {
+        let i = wide(packet);
+        let row = Row {
+            packet,
+            states: [lefts[i], rights[i]],
+        };
+        let Appended::Rows(m) = append(
+            packets,
+            left,
+            right,
+            parents,
+            n,
+            count,
+            heads,
+            links,
+            row,
+            handled,
+        ) else {
+            return Appended::Full;
+        };
+        n = m;
+        packet += 1;
+    }
+    Appended::Rows(n)
 }
