@@ -2,3 +2,4 @@ pub mod Written
 pub mod Clearing
 pub mod Standing
 pub mod Growing
+pub mod Lines

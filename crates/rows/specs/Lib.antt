@@ -1,3 +1,4 @@
 pub mod Written
 pub mod Lent
 pub mod Standing
+pub mod Lines

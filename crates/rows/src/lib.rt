@@ -1,8 +1,8 @@
 // What the search does around the evaluator: lent lists, rows appended, traces read off (document 01, "States and rows").
 ghost use mathlib.Core.Path.{_≡_};
 ghost use mathlib.Core.Bool.{_||_, not};
-ghost use mathlib.Core.List.{[], _∷_};
-ghost use Prim.Native.Nat.{_≤_};
+ghost use mathlib.Core.List.{[], _∷_, _++_};
+ghost use Prim.Native.Nat.{_+_, _<_, _≤_};
 ghost use lib.Dec.{eqb, ltb};
 ghost use lib.ListN.{length, replicate};
 ghost use Rattle.packet.specs.Refusals.{refusedAt, atZero};
@@ -10,6 +10,8 @@ ghost use Rattle.index.specs.Index.{Indexed};
 ghost use Rattle.index.specs.Appending.{lists};
 ghost use Rattle.rows.specs.Lent.{listsStage};
 ghost use Rattle.rows.specs.Standing.{Started, NextAppended};
+ghost use Rattle.rows.specs.Written.{written};
+ghost use Rattle.rows.specs.Lines.{lineDepth, linePath, lineStart, Rooted};
 use index::Appended;
 use index::Mask;
 use index::POLICIES;
@@ -188,4 +190,64 @@ pub fn append_next(
         packet += 1;
     }
     Appended::Rows(n)
+}
+
+// Inner: the length of the trace that ends at row h: one packet for each row above it, and the last.
+pub fn trace_length(parents: &[u16], listed: usize, h: usize) -> usize
+    requires { ⌜ Rooted (now parents) listed ⌝ }
+    requires { ⌜ h < listed ⌝ }
+    ensures { λ r. ⌜ r ≡ lineDepth (now (parents .entry)) h + 1 ⌝ }
+{
+    let mut length = 1;
+    let mut i = h;
+    let mut parent = wide(parents[i]);
+    while parent != i {
+        length += 1;
+        i = parent;
+        parent = wide(parents[i]);
+    }
+    length
+}
+
+// Inner: the packet that enters where row h's line of parents starts.
+pub fn entering(packets: &[u16], parents: &[u16], listed: usize, h: usize) -> u16
+    requires { ⌜ Rooted (now parents) listed ⌝ }
+    requires { ⌜ listed ≤ length (now packets) ⌝ }
+    requires { ⌜ h < listed ⌝ }
+    ensures { λ r. ⌜ r ≡ lineStart (now (packets .entry)) (now (parents .entry)) h ⌝ }
+{
+    let mut i = h;
+    let mut parent = wide(parents[i]);
+    while parent != i {
+        i = parent;
+        parent = wide(parents[i]);
+    }
+    packets[i]
+}
+
+// Inner: writes the trace that ends at row h with the packet `last`, which the list has room for.
+pub fn write_trace(
+    packets: &[u16],
+    parents: &[u16],
+    listed: usize,
+    h: usize,
+    last: u16,
+    trace: &mut [u16],
+)
+    requires { ⌜ Rooted (now parents) listed ⌝ }
+    requires { ⌜ listed ≤ length (now packets) ⌝ }
+    requires { ⌜ h < listed ⌝ }
+    requires { ⌜ lineDepth (now parents) h < length (now trace) ⌝ }
+    ensures { λ _. ⌜ now (trace .exit) ≡ written (linePath (now (packets .entry)) (now (parents .entry)) h ++ (last ∷ [])) (now (trace .entry)) ⌝ }
+{
+    let mut k = trace_length(parents, listed, h) - 1;
+    trace[k] = last;
+    let mut i = h;
+    let mut parent = wide(parents[i]);
+    while parent != i {
+        k -= 1;
+        trace[k] = packets[i];
+        i = parent;
+        parent = wide(parents[i]);
+    }
 }
