@@ -3,3 +3,4 @@ pub mod Clearing
 pub mod Standing
 pub mod Growing
 pub mod Lines
+pub mod Searching

@@ -21,7 +21,7 @@ use Rattle.index.proofs.Entries.{Grew, Stuck, Beyond, appended-rows, appended-f
 use Rattle.rows.specs.Standing.{answerFor, rowsIn, Standing, Continues}
 
 -- lists that agree beyond n agree beyond any later place
-drop-later : (a b : List ℕ) (n m : ℕ) → n ≤ m → drop n a ≡ drop n b → drop m a ≡ drop m b
+pub drop-later : (a b : List ℕ) (n m : ℕ) → n ≤ m → drop n a ≡ drop n b → drop m a ≡ drop m b
 drop-later a b n m l e = go (m - n) (omega arith)
   where
     go : (k : ℕ) → n + k ≡ m → drop m a ≡ drop m b
