@@ -1,11 +1,11 @@
 -- The ways an append ends: nothing to append, no room, the row appended.
-use mathlib.Core.Path.{_≡_, refl, sym, _∙_, ap, ap₂, subst}
+use mathlib.Core.Path.{_≡_, sym, _∙_, ap, ap₂, subst}
 use mathlib.Core.Bool.{Bool, true, false, _&&_, _||_, not}
 use mathlib.Core.List.{List, [], _∷_}
-use Prim.Native.Nat.{ℕ, zero, suc, _+_, _≤_, _<_}
+use Prim.Native.Nat.{ℕ, _+_, _≤_, _<_}
 use native.Mathlib.Numerals.{add-one}
 use native.Mathlib.Omega.{arith}
-use lib.Dec.{eqb, ltb}
+use lib.Dec.{ltb}
 use lib.ListN.{length, getD, set, replicate, length-set}
 use lib.Seq.{getD-set-same, getD-set-other}
 use borrow.Author.Tests.{eq-eqb, lt-ltb, le-ltb}
@@ -52,13 +52,13 @@ module _ (P L R : List ℕ) (n : ℕ) (r : Row) where
         (ap₂ _&&_ (eq-eqb _ _ (getD-set-same L n (getD (r .states) 0 0) 0 (subst (λ m. n < m) (sym (t .left)) l)))
         (eq-eqb _ _ (getD-set-same R n (getD (r .states) 1 0) 0 (subst (λ m. n < m) (sym (t .right)) l))))
 
-changed-yes : (b : Bool) (new old : List ℕ) → b ≡ true → new ≡ changed b new old
+pub changed-true : (b : Bool) (new was : List ℕ) → b ≡ true → changed b new was ≡ new
 unfolding changed
-changed-yes b new old e = ap (λ t. changed t new old) (sym e)
+changed-true b new was e = ap (λ t. changed t new was) e
 
-changed-no : (b : Bool) (new old : List ℕ) → b ≡ false → old ≡ changed b new old
+pub changed-false : (b : Bool) (new was : List ℕ) → b ≡ false → changed b new was ≡ was
 unfolding changed
-changed-no b new old e = ap (λ t. changed t new old) (sym e)
+changed-false b new was e = ap (λ t. changed t new was) e
 
 module _ (x : Lists) (count n : ℕ) (r : Row) (parent : ℕ) (I : Indexed (x .packets) (x .left) (x .right) count n (x .heads) (x .links)) where
   abbrev new : Bool
@@ -70,12 +70,12 @@ module _ (x : Lists) (count n : ℕ) (r : Row) (parent : ℕ) (I : Indexed (x .p
   kept answer a e =
       record {
         answers = a;
-        packets = changed-no _ _ _ e;
-        left = changed-no _ _ _ e;
-        right = changed-no _ _ _ e;
-        parents = changed-no _ _ _ e;
-        heads = changed-no _ _ _ e;
-        links = changed-no _ _ _ e;
+        packets = sym (changed-false _ _ _ e);
+        left = sym (changed-false _ _ _ e);
+        right = sym (changed-false _ _ _ e);
+        parents = sym (changed-false _ _ _ e);
+        heads = sym (changed-false _ _ _ e);
+        links = sym (changed-false _ _ _ e);
         indexed = subst (λ b. Indexed (x .packets) (x .left) (x .right) count (rowsAfter b n) (x .heads) (x .links)) (sym e) I;
       }
 
@@ -97,12 +97,12 @@ module _ (x : Lists) (count n : ℕ) (r : Row) (parent : ℕ) (I : Indexed (x .p
       let added : isAdded x n r ≡ true = ap₂ _&&_ e room in
       record {
         answers = ap Rows (add-one n) ∙ ap₂ (λ s t. answerOf s t n) (sym e) (sym room);
-        packets = isP ∙ changed-yes _ _ _ added;
-        left = isL ∙ changed-yes _ _ _ added;
-        right = isR ∙ changed-yes _ _ _ added;
-        parents = isQ ∙ changed-yes _ _ _ added;
-        heads = isH ∙ changed-yes _ _ _ added;
-        links = isK ∙ changed-yes _ _ _ added;
+        packets = isP ∙ sym (changed-true _ _ _ added);
+        left = isL ∙ sym (changed-true _ _ _ added);
+        right = isR ∙ sym (changed-true _ _ _ added);
+        parents = isQ ∙ sym (changed-true _ _ _ added);
+        heads = isH ∙ sym (changed-true _ _ _ added);
+        links = isK ∙ sym (changed-true _ _ _ added);
         indexed =
             rw (added, isP, isL, isR, isH, isK)
             (indexed-more I _ _ _ r (put-table (x .packets) (x .left) (x .right) n r (I .table)) (length-set (x .packets) n _)

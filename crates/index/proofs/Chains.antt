@@ -10,7 +10,7 @@ use lib.Dec.{eqb}
 use lib.ListN.{length, getD, set, length-set}
 use lib.Seq.{getD-set-same, getD-set-other}
 use borrow.Author.Tests.{eqb-true, eqb-false, eq-eqb, ne-eqb}
-use Rattle.system.proofs.Basics.{clash, last-or-before}
+use Rattle.system.proofs.Basics.{last-or-before}
 use Rattle.index.specs.declared.Row.{Row}
 use Rattle.index.specs.Columns.{sameRow, listedBelow}
 use Rattle.index.specs.Index.{lastWith, Chained}

@@ -2,7 +2,6 @@
 use mathlib.Core.Path.{_≡_, refl, sym, _∙_, ap, ap₂, subst}
 use mathlib.Core.Bool.{Bool, true, false, _&&_, _||_, not, or-false, or-assoc}
 use mathlib.Core.List.{List, [], _∷_, _++_, map, map-append}
-use mathlib.Core.Logic.{_⊎_, inl, inr}
 use Prim.Native.Nat.{ℕ, zero, suc, _≤_, _<_}
 use native.Mathlib.Nat.{le-refl, le-antisymm, not-suc-le-zero}
 use native.Mathlib.Omega.{arith}
@@ -19,13 +18,13 @@ use Rattle.system.proofs.Listing.{append-kept, append-new}
 use Rattle.index.specs.declared.Row.{Row}
 use Rattle.index.specs.declared.Appended.{Appended}
 use Rattle.index.specs.declared.Appended.the-variants.{Rows, Full}
-use Rattle.index.specs.Columns.{policies, Table, rowAt, sameStates, sameRow, allZero, listedBelow}
+use Rattle.index.specs.Columns.{policies, rowAt, sameStates, sameRow, allZero, listedBelow}
 use Rattle.index.specs.Index.{Indexed, headsWith, linksWith}
-use Rattle.index.specs.Appending.{isNew, Lists, answerOf, rowsAfter, changed, isAdded, Appending}
+use Rattle.index.specs.Appending.{isNew, Lists, answerOf, rowsAfter, isAdded, Appending}
 use Rattle.index.specs.Entries.{Masks, rowOf, entriesOf, entries}
-use Rattle.index.proofs.Adding.{put-below, put-here}
+use Rattle.index.proofs.Adding.{put-below, put-here, changed-true, changed-false}
 
-listed-snoc : (S : System) (es : List (Entry S)) (e : Entry S) (r : system.Row S) → listed S (es ++ (e ∷ [])) r ≡ (listed S es r || order.sameRow S (e .row) r)
+pub listed-snoc : (S : System) (es : List (Entry S)) (e : Entry S) (r : system.Row S) → listed S (es ++ (e ∷ [])) r ≡ (listed S es r || order.sameRow S (e .row) r)
 unfolding listed
 listed-snoc S [] e r = or-false (order.sameRow S (e .row) r)
 listed-snoc S (x ∷ es) e r = ap (λ t. order.sameRow S (x .row) r || t) (listed-snoc S es e r) ∙ sym (or-assoc (order.sameRow S (x .row) r) (listed S es r) (order.sameRow S (e .row) r))
@@ -57,13 +56,13 @@ module _ (S : System) (M : Masks S) where
       tested : (S .dead (M .state (r .states)) || listed S (entriesOf S M f q n) (rowOf S M r)) ≡ (allZero (r .states) || listedBelow f n r)
       tested = ap₂ _||_ (M .dead-states (r .states)) (listed-entries n r)
 
-      append-listed : isNew f n r ≡ false → append S p (entriesOf S M f q n) (rowOf S M r) ≡ entriesOf S M f q n
+      entries-listed : isNew f n r ≡ false → append S p (entriesOf S M f q n) (rowOf S M r) ≡ entriesOf S M f q n
       unfolding isNew
-      append-listed e = append-kept S p (entriesOf S M f q n) (rowOf S M r) (tested ∙ not-injective (allZero (r .states) || listedBelow f n r) true e)
+      entries-listed e = append-kept S p (entriesOf S M f q n) (rowOf S M r) (tested ∙ not-injective (allZero (r .states) || listedBelow f n r) true e)
 
-      append-unlisted : isNew f n r ≡ true → append S p (entriesOf S M f q n) (rowOf S M r) ≡ entriesOf S M f q n ++ (record { row = rowOf S M r; parent = p } ∷ [])
+      entries-unlisted : isNew f n r ≡ true → append S p (entriesOf S M f q n) (rowOf S M r) ≡ entriesOf S M f q n ++ (record { row = rowOf S M r; parent = p } ∷ [])
       unfolding isNew
-      append-unlisted e = append-new S p (entriesOf S M f q n) (rowOf S M r) (tested ∙ not-injective (allZero (r .states) || listedBelow f n r) false e)
+      entries-unlisted e = append-new S p (entriesOf S M f q n) (rowOf S M r) (tested ∙ not-injective (allZero (r .states) || listedBelow f n r) false e)
 
     -- the entry at a place
     pub entries-at : (n i : ℕ) → i < n → entryAt S (entriesOf S M f q n) i ≡ record { row = rowOf S M (f i); parent = q i }
@@ -111,14 +110,6 @@ outcome {x} {n = n} {r = r} {answer = answer} A = go (isNew (rowAt (x .packets) 
     go false true e l = known e (ap₂ _&&_ e l) (A .answers ∙ ap₂ (λ s t. answerOf s t n) e l)
     go false false e l = known e (ap₂ _&&_ e l) (A .answers ∙ ap₂ (λ s t. answerOf s t n) e l)
 
-changed-true : (b : Bool) (new was : List ℕ) → b ≡ true → changed b new was ≡ new
-unfolding changed
-changed-true b new was e = ap (λ t. changed t new was) e
-
-changed-false : (b : Bool) (new was : List ℕ) → b ≡ false → changed b new was ≡ was
-unfolding changed
-changed-false b new was e = ap (λ t. changed t new was) e
-
 -- the lists with row r appended
 unfoldable pub grown : Lists → ℕ → ℕ → Row → ℕ → Lists
 grown x count n r parent =
@@ -155,8 +146,21 @@ module _ {x y : Lists} {count n : ℕ} {r : Row} {parent : ℕ} {answer : Append
         links = (A .links ∙ changed-false _ _ _ e) k;
       }
 
-  indexed-at : (b : Bool) (m : ℕ) → isAdded x n r ≡ b → rowsAfter b n ≡ m → Indexed (y .packets) (y .left) (y .right) count m (y .heads) (y .links)
-  indexed-at b m e l = subst (λ k. Indexed (y .packets) (y .left) (y .right) count k (y .heads) (y .links)) (ap (λ t. rowsAfter t n) e ∙ l) (A .indexed)
+  full-is-no-count : {B : Type 0} (m : ℕ) → answer ≡ Full → answer ≡ Rows m → B
+  full-is-no-count m e a = let z : _≡_ {A = ℕ} 0 1 = cc in absurd (omega arith)
+
+  -- the index after the answer `Rows m`
+  pub appended-indexed : (m : ℕ) → answer ≡ Rows m → Indexed (y .packets) (y .left) (y .right) count m (y .heads) (y .links)
+  unfolding rowsAfter
+  appended-indexed m e = go (outcome A)
+    where
+      at : (b : Bool) → isAdded x n r ≡ b → rowsAfter b n ≡ m → Indexed (y .packets) (y .left) (y .right) count m (y .heads) (y .links)
+      at b isIn l = subst (λ k. Indexed (y .packets) (y .left) (y .right) count k (y .heads) (y .links)) (ap (λ t. rowsAfter t n) isIn ∙ l) (A .indexed)
+
+      go : Outcome x n r answer → Indexed (y .packets) (y .left) (y .right) count m (y .heads) (y .links)
+      go (added new l isIn a) = at true isIn (cc)
+      go (full new l notIn a) = full-is-no-count m a e
+      go (known new notIn a) = at false notIn (cc)
 
 -- the columns beyond the first m rows are as they were
 pub record Beyond (x y : Lists) (m : ℕ) : Type 0 where
@@ -216,11 +220,8 @@ module _ (S : System) (M : Masks S) (lawful : Lawful S) where
         (ap₂ (λ a b. record { row = a; parent = b } ∷ []) (row-same _ r (put-here (x .packets) (x .left) (x .right) n r (I .table) l))
         (getD-set-same (x .parents) n parent 0 (subst (λ m. n < m) (sym long) l)))
 
-    known-no : {A : Type 0} (m : ℕ) → answer ≡ Full → answer ≡ Rows m → A
-    known-no m e a = let z : _≡_ {A = ℕ} 0 1 = cc in absurd (omega arith)
-
     pub appended-rows : (m : ℕ) → answer ≡ Rows m → Grew S M x y count n m r parent
-    unfolding rowsAfter grown
+    unfolding grown
     appended-rows m e = go (outcome A)
       where
         go : Outcome x n r answer → Grew S M x y count n m r parent
@@ -228,18 +229,18 @@ module _ (S : System) (M : Masks S) (lawful : Lawful S) where
             let m-is : m ≡ suc n = cc in
             let y-is : y ≡ grown x count n r parent = grows A isIn in
             record {
-              entries = ap₂ (entriesIn S M) y-is m-is ∙ snoc l ∙ sym (append-unlisted S M _ _ n r parent new);
-              indexed = indexed-at A true m isIn (sym m-is);
+              entries = ap₂ (entriesIn S M) y-is m-is ∙ snoc l ∙ sym (entries-unlisted S M _ _ n r parent new);
+              indexed = appended-indexed A m e;
               more = omega arith;
               beyond = subst (λ k. Beyond x y k) (sym m-is) (subst (λ z. Beyond x z (suc n)) (sym y-is) (beyond-grown x count n r parent));
             }
-        go (full new l notIn a) = known-no m a e
+        go (full new l notIn a) = full-is-no-count A m a e
         go (known new notIn a) =
             let m-is : m ≡ n = cc in
             let y-is : y ≡ x = stays A notIn in
             record {
-              entries = ap₂ (entriesIn S M) y-is m-is ∙ sym (append-listed S M _ _ n r parent new);
-              indexed = indexed-at A false m notIn (sym m-is);
+              entries = ap₂ (entriesIn S M) y-is m-is ∙ sym (entries-listed S M _ _ n r parent new);
+              indexed = appended-indexed A m e;
               more = omega arith;
               beyond = subst (λ z. Beyond x z m) (sym y-is) (record { packets = refl; left = refl; right = refl; parents = refl });
             }
@@ -248,9 +249,9 @@ module _ (S : System) (M : Masks S) (lawful : Lawful S) where
     appended-full e = go (outcome A)
       where
         go : Outcome x n r answer → Stuck S M x y n r parent
-        go (added new l isIn a) = known-no (suc n) e a
-        go (full new l notIn a) = record { room = le-antisymm (I .within) l; same = stays A notIn; needed = append-unlisted S M _ _ n r parent new }
-        go (known new notIn a) = known-no n e a
+        go (added new l isIn a) = full-is-no-count A (suc n) e a
+        go (full new l notIn a) = record { room = le-antisymm (I .within) l; same = stays A notIn; needed = entries-unlisted S M _ _ n r parent new }
+        go (known new notIn a) = full-is-no-count A n e a
 
 -- a state made of two masks: same and dead as the masks are
 pub pair-masks : (S : System) (state : ℕ → ℕ → S .State) → ((a b c d : ℕ) → S .same (state a b) (state c d) ≡ (eqb a c && eqb b d)) → ((a b : ℕ) → S .dead (state a b) ≡ (eqb a 0 && eqb b 0))

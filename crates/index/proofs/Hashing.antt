@@ -12,9 +12,9 @@ use borrow.Author.Tests.{eqb-true}
 use Rattle.system.proofs.Basics.{and-true}
 use Rattle.index.specs.declared.Row.{Row}
 use Rattle.index.specs.Columns.{policies, sameStates, sameRow}
-use Rattle.index.specs.Index.{hashOf, bucketOf}
+use Rattle.index.specs.Index.{hashFactor, hashPrime, hashOf, bucketOf}
 
-pub hash-below : (k : ℕ) (a : List ℕ) → hashOf k a < 4294967291
+pub hash-below : (k : ℕ) (a : List ℕ) → hashOf k a < hashPrime
 unfolding hashOf
 hash-below zero a = omega arith
 hash-below (suc k) a = mod-lt _ (omega arith)
@@ -23,9 +23,9 @@ pub hash-none : (a : List ℕ) → 0 ≡ hashOf 0 a
 unfolding hashOf
 hash-none a = refl
 
-pub hash-more : (a : List ℕ) (h s k : ℕ) → h ≡ hashOf k a → s ≡ getD a k 0 → (h + s) * 1640531527 % 4294967291 ≡ hashOf (k + 1) a
+pub hash-more : (a : List ℕ) (h s k : ℕ) → h ≡ hashOf k a → s ≡ getD a k 0 → (h + s) * hashFactor % hashPrime ≡ hashOf (k + 1) a
 unfolding hashOf
-hash-more a h s k e f = rw add-one (ap₂ (λ (x y : ℕ). (x + y) * 1640531527 % 4294967291) e f)
+hash-more a h s k e f = rw add-one (ap₂ (λ (x y : ℕ). (x + y) * hashFactor % hashPrime) e f)
 
 pub hash-all : (a : List ℕ) (h k n : ℕ) → k ≤ n → n ≤ k → h ≡ hashOf k a → h ≡ hashOf n a
 hash-all a h k n l g e = e ∙ ap (λ m. hashOf m a) (le-antisymm l g)
@@ -35,7 +35,7 @@ unfolding hashOf sameStates
 same-hash zero a b e = refl
 same-hash (suc k) a b e =
     let both = and-true (sameStates k a b) (eqb (getD a k 0) (getD b k 0)) e in
-    ap₂ (λ h s. (h + s) * 1640531527 % 4294967291) (same-hash k a b (both .0)) (eqb-true _ _ (both .1))
+    ap₂ (λ h s. (h + s) * hashFactor % hashPrime) (same-hash k a b (both .0)) (eqb-true _ _ (both .1))
 
 pub same-bucket : (size count : ℕ) (a b : Row) → sameRow a b ≡ true → bucketOf size count a ≡ bucketOf size count b
 unfolding bucketOf sameRow
@@ -61,8 +61,8 @@ module _ (size count : ℕ) (r : Row) (small : r .packet < count) (room : count 
   unfolding bucketOf
   bucket-below = omega (arith, range-within, mod-lt (hashOf policies (r .states)) width-positive)
 
-  -- packet-major: the bucket tells the packet, so that a chain holds rows of one packet alone
-  pub bucket-packet : bucketOf size count r / (size / count) ≡ r .packet
+  -- packet-major: the bucket tells the packet
+  bucket-packet : bucketOf size count r / (size / count) ≡ r .packet
   unfolding bucketOf
   bucket-packet = mul-add-div-right width-positive (r .packet) _ ∙ ap (λ n. r .packet + n) (div-eq-of-lt (mod-lt _ width-positive)) ∙ add-zero _
 
@@ -77,3 +77,8 @@ module _ (size count : ℕ) (r : Row) (small : r .packet < count) (room : count 
     pub held-bucket : (h : ℕ) → h ≡ hashOf policies (r .states) → p * (size / c) + h % (size / c) ≡ bucketOf size count r
     unfolding bucketOf
     held-bucket h isHash = rw (isCount, isPacket, isHash)
+
+-- a chain holds rows of one packet alone
+pub chain-packet : (size count : ℕ) (a b : Row) → a .packet < count → b .packet < count → count ≤ size → bucketOf size count a ≡ bucketOf size count b → a .packet ≡ b .packet
+chain-packet size count a b l m room e =
+    sym (bucket-packet size count a l room) ∙ ap (λ n. n / (size / count)) e ∙ bucket-packet size count b m room

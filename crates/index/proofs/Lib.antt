@@ -5,3 +5,4 @@ pub mod Lookup
 pub mod Growth
 pub mod Adding
 pub mod Entries
+pub mod Starting

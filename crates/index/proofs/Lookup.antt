@@ -1,15 +1,15 @@
 -- The index of the columns: a look along a chain, and a row linked.
-use mathlib.Core.Path.{_≡_, refl, sym, _∙_, ap, ap₂, subst}
+use mathlib.Core.Path.{_≡_, sym, _∙_, ap}
 use mathlib.Core.Bool.{Bool, true, false}
 use mathlib.Core.List.{List}
-use Prim.Native.Nat.{ℕ, suc, _+_, _-_, _≤_, _<_}
+use Prim.Native.Nat.{ℕ, _+_, _-_, _≤_, _<_}
 use native.Mathlib.Numerals.{add-one}
 use native.Mathlib.Omega.{arith}
-use lib.ListN.{length, getD, set, length-set}
+use lib.ListN.{length, getD, set}
 use Rattle.index.specs.declared.Row.{Row}
-use Rattle.index.specs.Columns.{Table, rowAt, sameRow, listedBelow}
-use Rattle.index.specs.Index.{bucketOf, lastWith, Chained, Indexed, headsWith, linksWith}
-use Rattle.index.proofs.Hashing.{same-bucket, bucket-below}
+use Rattle.index.specs.Columns.{rowAt, sameRow, listedBelow}
+use Rattle.index.specs.Index.{bucketOf, lastWith, Indexed, headsWith, linksWith}
+use Rattle.index.proofs.Hashing.{same-bucket}
 use Rattle.index.proofs.Chains.{Walk, walk-start, walk-hit, walk-more, walk-less, walk-end}
 
 -- a look for the row r among the first n of the columns, at an entry of its chain

@@ -1,6 +1,6 @@
 -- Two rows' states, policy by policy.
 use mathlib.Core.Path.{_≡_, refl, sym, _∙_, ap, ap₂, subst}
-use mathlib.Core.Bool.{Bool, true, false, _&&_, and-false}
+use mathlib.Core.Bool.{true, false, _&&_, and-false}
 use mathlib.Core.List.{List}
 use mathlib.Core.Logic.{_⊎_, inl, inr}
 use Prim.Native.Nat.{ℕ, zero, suc, _+_, _≤_, _<_}
@@ -41,7 +41,7 @@ states-refl (suc k) a = ap₂ _&&_ (states-refl k a) (eq-eqb (getD a k 0) (getD 
 
 pub same-refl : (a : Row) → sameRow a a ≡ true
 unfolding sameRow
-same-refl a = ap₂ _&&_ (eq-eqb (a .packet) (a .packet) refl) (states-refl policies (a .states))
+same-refl a = ap₂ _&&_ (eq-eqb (a .packet) (a .packet) refl) (states-refl _ (a .states))
 
 module _ (a b : Row) where
   pub packets-differ : (a .packet ≡ b .packet → ⊥) → sameRow a b ≡ false

@@ -4,14 +4,21 @@ use mathlib.Core.Bool.{true, false}
 use mathlib.Core.List.{List}
 use Prim.Native.Nat.{ℕ, zero, suc, _+_, _*_, _/_, _%_, _≤_, _<_}
 use lib.Dec.{eqb}
-use lib.ListN.{length, getD, set, replicate}
+use lib.ListN.{length, getD, set}
 use Rattle.index.specs.declared.Row.{Row}
 use Rattle.index.specs.Columns.{policies, Table, rowAt}
+
+-- any odd number and prime would serve: the hash decides how long the chains are and nothing else
+abbrev pub hashFactor : ℕ
+hashFactor = 1640531527
+
+abbrev pub hashPrime : ℕ
+hashPrime = 4294967291
 
 -- the states of the first k policies, hashed
 unfoldable pub hashOf : ℕ → List ℕ → ℕ
 hashOf zero a = 0
-hashOf (suc k) a = (hashOf k a + getD a k 0) * 1640531527 % 4294967291
+hashOf (suc k) a = (hashOf k a + getD a k 0) * hashFactor % hashPrime
 
 -- the row's bucket of `size` buckets: each packet has a range of its own, and the states are hashed within it
 unfoldable pub bucketOf : ℕ → ℕ → Row → ℕ

@@ -80,14 +80,18 @@ fn same_row(a: Row, b: Row) -> bool
     same_states(x, y)
 }
 
-// The factor and the modulus (a prime) make every bit of every mask count, whatever the number of buckets.
+// A prime modulus makes every bit of every mask count, also where the number of buckets is a power of 2.
+const HASH_FACTOR: usize = 1640531527;
+
+const HASH_PRIME: usize = 4294967291;
+
 fn hash(states: [Mask; POLICIES]) -> usize
     ensures { λ r. ⌜ r ≡ hashOf policies states ⌝ }
 {
     let mut h = 0;
     let mut k = 0;
     while k < POLICIES {
-        h = (h + wide_mask(states[k])) * 1640531527 % 4294967291;
+        h = (h + wide_mask(states[k])) * HASH_FACTOR % HASH_PRIME;
         k += 1;
     }
     h

@@ -1,10 +1,10 @@
 -- A list is cleared entry by entry.
-use mathlib.Core.Path.{_≡_, refl, sym, _∙_, ap, subst}
+use mathlib.Core.Path.{_≡_, sym, _∙_, ap, subst}
 use mathlib.Core.List.{List, [], _∷_, _++_}
 use Prim.Native.Nat.{ℕ, _+_, _≤_, _<_}
 use native.Mathlib.Nat.{le-antisymm}
 use native.Mathlib.Omega.{arith}
-use lib.ListN.{length, set, replicate, length-replicate, length-set, replicate-append-replicate}
+use lib.ListN.{length, set, replicate, length-replicate, replicate-append-replicate}
 use Rattle.rows.specs.Written.{written}
 use Rattle.rows.proofs.Written.{written-none, written-whole, written-snoc, length-written}
 

@@ -1,22 +1,20 @@
 -- The loops that list the starting rows and the rows next of a handled one.
-use mathlib.Core.Path.{_≡_, refl, sym, _∙_, ap, ap₂, subst}
-use mathlib.Core.Bool.{Bool, true, false, _||_}
-use mathlib.Core.List.{List, [], _∷_, _++_}
-use Prim.Native.Nat.{ℕ, zero, suc, _+_, _≤_, _<_}
-use native.Mathlib.Nat.{le-refl, le-antisymm}
+use mathlib.Core.Path.{_≡_, refl, sym, _∙_, ap, subst}
+use mathlib.Core.Bool.{Bool, true, false}
+use mathlib.Core.List.{List, [], _∷_}
+use Prim.Native.Nat.{ℕ, suc, _+_, _≤_, _<_}
+use native.Mathlib.Nat.{le-antisymm}
 use native.Mathlib.Numerals.{add-one}
 use native.Mathlib.Omega.{arith}
 use lib.ListN.{length, getD, length-set}
 use Rattle.packet.specs.Sizes.{product}
 use Rattle.system.specs.System as system
-use Rattle.system.specs.System.{System, Lawful, startRow, nextRow}
-use Rattle.system.specs.RowOrder.{Entry, startEntry, entryAt, starts, listed, append, appendNext}
-use Rattle.system.specs.Tables.{Listed}
-use Rattle.system.proofs.Basics.{Prefix, prefix-at, length-snoc}
-use Rattle.system.proofs.Listing.{append-new, listed-true, Listing, listing-starts}
+use Rattle.system.specs.System.{Lawful, nextRow}
+use Rattle.system.specs.RowOrder.{starts, listed, append, appendNext}
+use Rattle.system.proofs.Basics.{Prefix}
 use Rattle.system.proofs.Answers.{starts-longer, appendNext-longer}
 use Rattle.pair.specs.Sides.{left, right, Pair, at, onBoth, Labelled}
-use Rattle.pair.specs.Pair.{nextAt, bothZero, pairSystem}
+use Rattle.pair.specs.Pair.{bothZero, pairSystem}
 use Rattle.index.specs.declared.Row.{Row}
 use Rattle.index.specs.declared.Appended.{Appended}
 use Rattle.index.specs.declared.Appended.the-variants.{Rows, Full}
@@ -24,9 +22,10 @@ use Rattle.index.specs.Index.{Indexed}
 use Rattle.index.specs.Appending.{Lists, isAdded, rowsAfter, Appending}
 use Rattle.index.specs.Entries.{rowOf, entriesOf}
 use Rattle.index.proofs.Growth.{length-heads, length-links}
+use Rattle.index.proofs.Starting.{append-start}
 use Rattle.index.proofs.Entries.{grown, grows, stays, Outcome, outcome, added, full, known}
-use Rattle.rows.specs.Standing.{rowsIn, Standing, Continues, pairMasks, Nexts, Started, NextAppended}
-use Rattle.rows.proofs.Standing.{stands-none, stands-length, continues-rows, stands-rows, stands-full}
+use Rattle.rows.specs.Standing.{rowsIn, Standing, pairMasks, Nexts, Started, NextAppended}
+use Rattle.rows.proofs.Standing.{stands-none, continues-rows, stands-rows, stands-full}
 
 -- no list has changed its length
 pub record SameLengths (x y : Lists) : Type 0 where
@@ -99,32 +98,6 @@ pub record StartedTo (x y : Lists) (count n γ : ℕ) : Type 0 where
   pub stands : (sizes : List ℕ) (ps : Pair Labelled) → Lawful (pairSystem sizes ps) → product sizes ≡ count
       → Standing (pairSystem sizes ps) (pairMasks sizes ps) x y count n (starts (pairSystem sizes ps) γ)
 
-length-starts : (S : System) (n : ℕ) → length (starts S n) ≡ n
-unfolding starts
-length-starts S zero = refl
-length-starts S (suc n) = length-snoc (starts S n) (startEntry S n) ∙ ap suc (length-starts S n)
-
-module _ (S : System) (lawful : Lawful S) where
-  -- no starting row is listed before its turn
-  start-new : (α : ℕ) → α < S .packets → listed S (starts S α) (startRow S α) ≡ false
-  start-new α l = go (listed S (starts S α) (startRow S α)) refl
-    where
-      go : (b : Bool) → listed S (starts S α) (startRow S α) ≡ b → listed S (starts S α) (startRow S α) ≡ false
-      go false e = e
-      go true e = absurd (twice (listed-true S lawful (starts S α) (startRow S α) e))
-        where
-          twice : Listed S (starts S α) (startRow S α) → ⊥
-          twice p =
-              let inside : p .place < α = subst (λ k. p .place < k) (length-starts S α) (p .inside) in
-              let kept : entryAt S (starts S (S .packets)) (p .place) ≡ entryAt S (starts S α) (p .place) = prefix-at (starts-longer S α (S .packets) (omega arith)) (startEntry S 0) (p .place) (p .inside) in
-              let same : startEntry S (p .place) .row ≡ startRow S α = ap (λ e. e .row) (sym (listing-starts S lawful .starting (p .place) (omega arith)) ∙ kept) ∙ p .there in
-              let equal : p .place ≡ α = ap (λ r. r .packet) same in
-              omega arith
-
-  starts-append : (α : ℕ) → α < S .packets → S .dead (S .start) ≡ false → append S α (starts S α) (startRow S α) ≡ starts S (suc α)
-  unfolding starts
-  starts-append α l living = append-new S α (starts S α) (startRow S α) (ap₂ _||_ living (start-new α l))
-
 -- the row that a starting row is in the lists
 abbrev pub startingRow : ℕ → Row
 startingRow α = record { packet = α; states = 1 ∷ 1 ∷ [] }
@@ -138,9 +111,9 @@ module _ (sizes : List ℕ) (ps : Pair Labelled) where
   unfolding bothZero onBoth at
   living = refl
 
-  starting-append : Lawful (pairSystem sizes ps) → (α : ℕ) → α < product sizes
+  starting-append : (α : ℕ)
       → append (pairSystem sizes ps) α (starts (pairSystem sizes ps) α) (rowOf (pairSystem sizes ps) (pairMasks sizes ps) (startingRow α)) ≡ starts (pairSystem sizes ps) (suc α)
-  starting-append lawful α l = starts-append (pairSystem sizes ps) lawful α l living
+  starting-append α = append-start (pairSystem sizes ps) living α
 
   next-row : (r : system.Row (pairSystem sizes ps)) (lefts rights : List ℕ) → Nexts sizes ps r lefts rights → (γ : ℕ) → γ < product sizes
       → rowOf (pairSystem sizes ps) (pairMasks sizes ps) (nextIn lefts rights γ γ) ≡ nextRow (pairSystem sizes ps) r γ
@@ -157,7 +130,7 @@ module _ {x y : Lists} {count n α : ℕ} (T : StartedTo x y count n α) (small 
         going = going-more (T .going) A e;
         stands = λ sizes ps lawful q.
             subst (Standing (pairSystem sizes ps) (pairMasks sizes ps) x z count m)
-            (starting-append sizes ps lawful α (omega arith) ∙ ap (starts (pairSystem sizes ps)) (sym (add-one α)))
+            (starting-append sizes ps α ∙ ap (starts (pairSystem sizes ps)) (sym (add-one α)))
             (stands-rows (pairSystem sizes ps) (pairMasks sizes ps) (T .stands sizes ps lawful q) lawful A (going-long (T .going)) m e);
       }
 
@@ -167,7 +140,7 @@ module _ {x y : Lists} {count n α : ℕ} (T : StartedTo x y count n α) (small 
         started = λ sizes ps lawful q.
             stands-full (pairSystem sizes ps) (pairMasks sizes ps) (T .stands sizes ps lawful q) lawful A (going-long (T .going)) e (T .going .same .packets)
             (starts (pairSystem sizes ps) (product sizes))
-            (subst (λ l. Prefix l (starts (pairSystem sizes ps) (product sizes))) (sym (starting-append sizes ps lawful α (omega arith)))
+            (subst (λ l. Prefix l (starts (pairSystem sizes ps) (product sizes))) (sym (starting-append sizes ps α))
             (starts-longer (pairSystem sizes ps) (suc α) (product sizes) (omega arith)));
       }
 

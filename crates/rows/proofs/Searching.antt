@@ -2,7 +2,7 @@
 use mathlib.Core.Path.{_≡_, refl, sym, _∙_, subst, ap, ap₂}
 use mathlib.Core.Bool.{Bool, true, false, cond}
 use mathlib.Core.List.{List, [], _∷_, _++_, map}
-use Prim.Native.Nat.{ℕ, zero, suc, _+_, _≤_, _<_}
+use Prim.Native.Nat.{ℕ, suc, _≤_, _<_}
 use native.Mathlib.Omega.{arith}
 use lib.Dec.{ltb}
 use lib.ListN.{length, getD, take, drop, take-append-drop, length-map}
@@ -10,21 +10,19 @@ use lib.Seq.{take-all, length-take-le}
 use borrow.Author.Tests.{ltb-true, ltb-false}
 use Rattle.packet.specs.Sizes.{product}
 use Rattle.system.specs.System.{System, Lawful}
-use Rattle.system.specs.RowOrder.{Entry, Run, entryAt, starts, append, appendNext, current, turn, finished, telling, handling, handle, begin, run, depth, path, entering, answer, held, full as moreRows}
-use Rattle.system.proofs.Basics.{Prefix, prefix-length}
+use Rattle.system.specs.RowOrder.{Entry, entryAt, appendNext, current, turn, finished, telling, handling, handle, run, depth, path, entering, answer, held}
+use Rattle.system.proofs.Basics.{prefix-length}
 use Rattle.system.proofs.Climb.{Earlier}
 use Rattle.system.proofs.Runs.{finished≢handling, telling≢handling, turn-end, run-begin, run-handle}
 use Rattle.system.proofs.Answers.{appendNext-longer, full-iff, held-first, held-stopped}
 use Rattle.pair.specs.Sides.{Pair, Labelled}
 use Rattle.pair.specs.Pair.{pairSystem}
-use Rattle.pair.specs.Search.{SearchAnswer, equal, rowsFull, reported, sideOf, searchAnswer, columnsOf}
+use Rattle.pair.specs.Search.{equal, rowsFull, reported, sideOf, searchAnswer, columnsOf}
 use Rattle.pair.proofs.Verdicts.{search-full, search-finished, search-telling}
-use Rattle.index.specs.declared.Appended.{Appended}
 use Rattle.index.specs.declared.Appended.the-variants.{Rows, Full}
 use Rattle.index.specs.Columns.{rowAt}
-use Rattle.index.specs.Index.{Indexed}
 use Rattle.index.specs.Appending.{Lists}
-use Rattle.index.specs.Entries.{Masks, entriesOf}
+use Rattle.index.specs.Entries.{Masks, rowOf}
 use Rattle.index.proofs.Entries.{column, entries-at}
 use Rattle.rows.specs.Written.{written}
 use Rattle.rows.specs.Standing.{answerFor, rowsIn, Standing, Continues, pairMasks, Nexts, Started, NextAppended}
@@ -105,29 +103,30 @@ module _ (sizes : List ℕ) (ps : Pair Labelled) where
           parents = holds-column (λ e. e .parent) (y .parents) (x .parents) (omega (arith, T .indexed .within)) (λ i l. refl) (T .parents);
         }
 
-    at : (i : ℕ) → i < n → entryAt S es i ≡ record { row = record { packet = getD (y .packets) i 0; state = record { left = getD (y .left) i 0; right = getD (y .right) i 0 } }; parent = getD (y .parents) i 0 }
-    at i l = ap (λ l. entryAt S l i) (sym (T .entries)) ∙ entries-at S M _ _ n i l
+    -- row i is the row at place i of the columns
+    pub entry-at : (i : ℕ) → i < n → entryAt S es i ≡ record { row = record { packet = getD (y .packets) i 0; state = record { left = getD (y .left) i 0; right = getD (y .right) i 0 } }; parent = getD (y .parents) i 0 }
+    entry-at i l = ap (λ l. entryAt S l i) (sym (T .entries)) ∙ entries-at S M _ _ n i l
 
     pub rooted : Earlier S es → Rooted (y .parents) n
     rooted E =
         record {
           within = omega (arith, T .indexed .within);
-          earlier = λ i l. subst (λ e. e .parent ≤ i) (at i l) (E .earlier i (subst (λ m. i < m) (sym (stands-length S M T)) l));
+          earlier = λ i l. subst (λ e. e .parent ≤ i) (entry-at i l) (E .earlier i (subst (λ m. i < m) (sym (stands-length S M T)) l));
         }
 
     -- what the columns say of a row's line is what the entries say
     module _ (E : Earlier S es) (h : ℕ) (h<n : h < n) where
       pub depth-line : depth S es h ≡ lineDepth (y .parents) h
       unfolding depth lineDepth
-      depth-line = climb-rise _ _ (rooted E) S es (λ i l. ap (λ e. e .parent) (at i l)) _ _ (λ i l. refl) (λ i l a. refl) h h<n
+      depth-line = climb-rise _ _ (rooted E) S es (λ i l. ap (λ e. e .parent) (entry-at i l)) _ _ (λ i l. refl) (λ i l a. refl) h h<n
 
       pub path-line : path S es h ≡ linePath (y .packets) (y .parents) h
       unfolding path linePath
-      path-line = climb-rise _ _ (rooted E) S es (λ i l. ap (λ e. e .parent) (at i l)) _ _ (λ i l. refl) (λ i l a. ap (λ e. a ++ (e .row .packet ∷ [])) (at i l)) h h<n
+      path-line = climb-rise _ _ (rooted E) S es (λ i l. ap (λ e. e .parent) (entry-at i l)) _ _ (λ i l. refl) (λ i l a. ap (λ e. a ++ (e .row .packet ∷ [])) (entry-at i l)) h h<n
 
       pub entering-line : entering S es h ≡ lineStart (y .packets) (y .parents) h
       unfolding entering lineStart
-      entering-line = climb-rise _ _ (rooted E) S es (λ i l. ap (λ e. e .parent) (at i l)) _ _ (λ i l. ap (λ e. e .row .packet) (at i l)) (λ i l a. refl) h h<n
+      entering-line = climb-rise _ _ (rooted E) S es (λ i l. ap (λ e. e .parent) (entry-at i l)) _ _ (λ i l. ap (λ e. e .row .packet) (entry-at i l)) (λ i l a. refl) h h<n
 
   -- After k rows of the row order: n rows are listed, h of them handled.
   pub record Running (x y : Lists) (count n h k : ℕ) : Type 0 where
@@ -162,6 +161,10 @@ module _ (sizes : List ℕ) (ps : Pair Labelled) where
         (subst (λ z. Standing S M x y count (length (x .packets)) (take (length (x .packets)) (z .rows))) (sym (run-begin S)) (o .1))
 
     module _ {x y : Lists} {n h k : ℕ} (R : Running x y count n h k) where
+      -- the row to handle is row h of the columns
+      pub search-row : length (y .parents) ≡ length (y .packets) → h < n → current S (run S k) ≡ rowOf S M (rowAt (y .packets) (y .left) (y .right) h)
+      search-row long l = ap (λ i. entryAt S (run S k .rows) i .row) (R .handled) ∙ ap (λ e. e .row) (entry-at (R .standing) long h l)
+
       -- a row is handled
       module _ (goes : turn S (run S k) ≡ handling) where
         next-rows : appendNext S (product sizes) h (current S (run S k)) (rowsIn S M y n) ≡ run S (suc k) .rows

@@ -1,12 +1,11 @@
 -- The row lists grow row by row: how they stand after an append, and what they answer in the end.
-use mathlib.Core.Path.{_≡_, refl, sym, _∙_, ap, ap₂, subst}
+use mathlib.Core.Path.{_≡_, refl, sym, _∙_, ap, subst}
 use mathlib.Core.Bool.{cond}
 use mathlib.Core.List.{List, [], _∷_, _++_}
-use Prim.Native.Nat.{ℕ, suc, _+_, _-_, _≤_, _<_}
-use native.Mathlib.Nat.{le-refl}
+use Prim.Native.Nat.{ℕ, _+_, _-_, _≤_}
 use native.Mathlib.Omega.{arith}
 use lib.ListN.{length, take, drop}
-use lib.Seq.{drop-drop, take-all, take-append-le, take-at}
+use lib.Seq.{drop-drop, take-all, take-at}
 use borrow.Author.Tests.{lt-ltb, le-ltb}
 use Rattle.system.specs.System.{System, Lawful}
 use Rattle.system.specs.RowOrder.{Entry, append}
@@ -17,7 +16,7 @@ use Rattle.index.specs.declared.Appended.the-variants.{Rows, Full}
 use Rattle.index.specs.Index.{Indexed}
 use Rattle.index.specs.Appending.{Lists, Appending}
 use Rattle.index.specs.Entries.{Masks, rowOf, entries}
-use Rattle.index.proofs.Entries.{Grew, Stuck, Beyond, appended-rows, appended-full, length-entries}
+use Rattle.index.proofs.Entries.{Grew, Stuck, appended-rows, appended-full, length-entries}
 use Rattle.rows.specs.Standing.{answerFor, rowsIn, Standing, Continues}
 
 -- lists that agree beyond n agree beyond any later place

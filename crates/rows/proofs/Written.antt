@@ -1,10 +1,10 @@
 -- Laws of what is written first into a list that keeps its contents beyond.
-use mathlib.Core.Path.{_≡_, refl, sym, _∙_, ap, ap₂, subst}
-use mathlib.Core.List.{List, [], _∷_, _++_, append-assoc, append-nil}
-use Prim.Native.Nat.{ℕ, suc, _+_, _-_, _≤_, _<_}
+use mathlib.Core.Path.{_≡_, refl, sym, _∙_, ap, subst}
+use mathlib.Core.List.{List, [], _∷_, _++_, append-nil}
+use Prim.Native.Nat.{ℕ, _+_, _-_, _≤_, _<_}
 use native.Mathlib.Omega.{arith}
 use lib.ListN.{length, getD, set, take, drop, length-append, length-drop, drop-of-length-le, List·getD-append}
-use lib.Seq.{drop-cons, drop-append-seam, drop-append-le, drop-append-add, drop-drop, take-append-le, take-append-seam, getD-append-seam, set-append-seam, drop-length, append-snoc}
+use lib.Seq.{drop-cons, drop-append-seam, drop-append-add, drop-drop, take-append-seam, set-append-seam, append-snoc}
 use Rattle.system.proofs.Basics.{length-snoc}
 use Rattle.rows.specs.Written.{written}
 

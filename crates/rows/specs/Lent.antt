@@ -1,5 +1,5 @@
 -- Stage "lists": cause 10, "row lists (packet, left, right, parent) unequal or over 65,535, or work list under 16,384 32-bit numbers", over the lists' lengths.
-use mathlib.Core.Bool.{Bool, true, false, _||_, not}
+use mathlib.Core.Bool.{Bool, false, _||_, not}
 use mathlib.Core.List.{List, [], _∷_}
 use Prim.Native.Nat.{ℕ}
 use lib.Dec.{eqb, ltb}

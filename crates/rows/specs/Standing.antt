@@ -1,7 +1,7 @@
 -- What the lent row lists stand for: the first rows are a list of the system's entries, and the lists keep their contents beyond.
 use mathlib.Core.Path.{_≡_, refl}
 use mathlib.Core.Bool.{cond}
-use mathlib.Core.List.{List, [], _∷_}
+use mathlib.Core.List.{List}
 use Prim.Native.Nat.{ℕ, _<_}
 use lib.Dec.{ltb}
 use lib.ListN.{length, getD, take, drop}

@@ -1,6 +1,6 @@
 -- `index::find` meets its contract: the rows outside the chain and those passed are not the row. Assumes nothing.
 use borrow.Author.Needs.{needs}
-use mathlib.Core.Path.{sym, _∙_}
+use mathlib.Core.Path.{sym}
 use native.Mathlib.Omega.{arith}
 use Rattle.index.proofs.Lookup.{Look, look-start, look-place, look-linked, look-hit, look-more, look-less, look-end}
 use Rattle.index.proofs.find.Statement.{statement}

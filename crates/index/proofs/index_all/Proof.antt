@@ -1,8 +1,6 @@
 -- `index::index_all` meets its contract: row by row. Assumes nothing.
 use borrow.Author.Needs.{needs}
-use mathlib.Core.Path.{sym}
-use Prim.Native.Nat.{_≤_, _-_}
-use native.Mathlib.Omega.{arith}
+use Prim.Native.Nat.{_-_}
 use lib.ListN.{length}
 use Rattle.index.proofs.Growth.{IndexedTo, to-none, to-insert, to-more, to-all}
 use Rattle.index.proofs.index_all.Statement.{statement}

@@ -1,6 +1,5 @@
 -- `index::insert` meets its contract. Assumes nothing.
 use borrow.Author.Needs.{needs}
-use native.Mathlib.Omega.{arith}
 use Rattle.index.proofs.Lookup.{heads-are, links-are}
 use Rattle.index.proofs.insert.Statement.{statement}
 use Rattle.index.proofs.insert.Tie as tie

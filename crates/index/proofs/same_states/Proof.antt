@@ -3,7 +3,6 @@ use borrow.Author.Needs.{needs}
 use mathlib.Core.Path.{_≡_, sym}
 use mathlib.Core.Bool.{true}
 use Prim.Native.Nat.{_≤_, _-_}
-use native.Mathlib.Omega.{arith}
 use Rattle.index.specs.Columns.{policies, sameStates}
 use Rattle.index.proofs.States.{states-none, states-more, states-differ, states-all}
 use Rattle.index.proofs.same_states.Statement.{statement}

@@ -1,6 +1,5 @@
 -- `rows::append_next` meets its contract: a row is appended after another. Assumes nothing.
 use borrow.Author.Needs.{needs}
-use mathlib.Core.Path.{refl, sym, _∙_}
 use Prim.Native.Nat.{_≤_, _-_}
 use native.Mathlib.Omega.{arith}
 use Rattle.index.specs.Appending.{lists}

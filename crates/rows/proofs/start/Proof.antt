@@ -1,6 +1,5 @@
 -- `rows::start` meets its contract: a starting row is listed after another. Assumes nothing.
 use borrow.Author.Needs.{needs}
-use mathlib.Core.Path.{refl, sym, _∙_}
 use Prim.Native.Nat.{_≤_, _-_}
 use native.Mathlib.Omega.{arith}
 use Rattle.index.specs.Appending.{lists}
