@@ -1,0 +1,207 @@
+-- The loops that list the starting rows and the rows next of a handled one.
+use mathlib.Core.Path.{_≡_, refl, sym, _∙_, ap, subst}
+use mathlib.Core.Bool.{Bool, true, false}
+use mathlib.Core.List.{List, [], _∷_}
+use Prim.Native.Nat.{ℕ, suc, _+_, _≤_, _<_}
+use native.Mathlib.Nat.{le-antisymm}
+use native.Mathlib.Numerals.{add-one}
+use native.Mathlib.Omega.{arith}
+use lib.ListN.{length, getD, length-set}
+use Rattle.packet.specs.Sizes.{product}
+use Rattle.system.specs.System as system
+use Rattle.system.specs.System.{Lawful, nextRow}
+use Rattle.system.specs.RowOrder.{starts, listed, append, appendNext}
+use Rattle.system.proofs.Basics.{Prefix}
+use Rattle.system.proofs.Answers.{starts-longer, appendNext-longer}
+use Rattle.pair.specs.Sides.{left, right, Pair, at, onBoth, Labelled}
+use Rattle.pair.specs.Pair.{bothZero, pairSystem}
+use Rattle.index.specs.declared.Row.{Row}
+use Rattle.index.specs.declared.Appended.{Appended}
+use Rattle.index.specs.declared.Appended.the-variants.{Rows, Full}
+use Rattle.index.specs.Index.{Indexed}
+use Rattle.index.specs.Appending.{Lists, isAdded, rowsAfter, Appending}
+use Rattle.index.specs.Entries.{rowOf, entriesOf}
+use Rattle.index.proofs.Growth.{length-heads, length-links}
+use Rattle.index.proofs.Starting.{append-start}
+use Rattle.index.proofs.Entries.{grown, grows, stays, Outcome, outcome, added, full, known}
+use Rattle.rows.specs.Standing.{rowsIn, Standing, pairMasks, Nexts, Started, NextAppended}
+use Rattle.rows.proofs.Standing.{stands-none, continues-rows, stands-rows, stands-full}
+
+-- no list has changed its length
+pub record SameLengths (x y : Lists) : Type 0 where
+  pub packets : length (y .packets) ≡ length (x .packets)
+  pub left : length (y .left) ≡ length (x .left)
+  pub right : length (y .right) ≡ length (x .right)
+  pub parents : length (y .parents) ≡ length (x .parents)
+  pub heads : length (y .heads) ≡ length (x .heads)
+  pub links : length (y .links) ≡ length (x .links)
+
+pub lengths-none : {x : Lists} → SameLengths x x
+lengths-none = record { packets = refl; left = refl; right = refl; parents = refl; heads = refl; links = refl }
+
+pub lengths-then : {x y z : Lists} → SameLengths x y → SameLengths y z → SameLengths x z
+lengths-then a b =
+    record {
+      packets = b .packets ∙ a .packets;
+      left = b .left ∙ a .left;
+      right = b .right ∙ a .right;
+      parents = b .parents ∙ a .parents;
+      heads = b .heads ∙ a .heads;
+      links = b .links ∙ a .links;
+    }
+
+pub lengths-appended : {x y : Lists} {count n : ℕ} {r : Row} {p : ℕ} {answer : Appended} → Appending x y count n r p answer → SameLengths x y
+unfolding grown
+lengths-appended {x} {y} {count} {n} {r} {p} A = go (isAdded x n r) refl
+  where
+    go : (b : Bool) → isAdded x n r ≡ b → SameLengths x y
+    go false e = subst (SameLengths x) (sym (stays A e)) lengths-none
+    go true e =
+        subst (SameLengths x) (sym (grows A e))
+        (record {
+          packets = length-set (x .packets) n _;
+          left = length-set (x .left) n _;
+          right = length-set (x .right) n _;
+          parents = length-set (x .parents) n _;
+          heads = length-heads count r n (x .heads);
+          links = length-links count r n (x .heads) (x .links);
+        })
+
+-- n rows are listed in y, which was x
+pub record Going (x y : Lists) (count n : ℕ) : Type 0 where
+  pub indexed : Indexed (y .packets) (y .left) (y .right) count n (y .heads) (y .links)
+  pub same : SameLengths x y
+  pub long : length (x .parents) ≡ length (x .packets)
+
+pub going-long : {x y : Lists} {count n : ℕ} → Going x y count n → length (y .parents) ≡ length (y .packets)
+going-long G = G .same .parents ∙ G .long ∙ sym (G .same .packets)
+
+going-none : {x : Lists} {count n : ℕ} → Indexed (x .packets) (x .left) (x .right) count n (x .heads) (x .links) → length (x .parents) ≡ length (x .packets) → Going x x count n
+going-none I l = record { indexed = I; same = lengths-none; long = l }
+
+-- one more row, if there is room and it is new
+going-more : {x y z : Lists} {count n m : ℕ} {r : Row} {p : ℕ} {answer : Appended} → Going x y count n → Appending y z count n r p answer → answer ≡ Rows m → Going x z count m
+unfolding rowsAfter
+going-more {x} {y} {z} {count} {n} {m} {r} {p} {answer} G A e = record { indexed = linked (outcome A); same = lengths-then (G .same) (lengths-appended A); long = G .long }
+  where
+    to : (b : Bool) → isAdded y n r ≡ b → rowsAfter b n ≡ m → Indexed (z .packets) (z .left) (z .right) count m (z .heads) (z .links)
+    to b q s = subst (λ k. Indexed (z .packets) (z .left) (z .right) count k (z .heads) (z .links)) (ap (λ t. rowsAfter t n) q ∙ s) (A .indexed)
+
+    linked : Outcome y n r answer → Indexed (z .packets) (z .left) (z .right) count m (z .heads) (z .links)
+    linked (added new l isIn a) = to true isIn (let q : suc n ≡ m = cc in q)
+    linked (known new notIn a) = to false notIn (let q : n ≡ m = cc in q)
+    linked (full new l notIn a) = let q : _≡_ {A = ℕ} 0 1 = cc in absurd (omega arith)
+
+-- The starting rows: γ of them are listed.
+pub record StartedTo (x y : Lists) (count n γ : ℕ) : Type 0 where
+  pub going : Going x y count n
+  pub stands : (sizes : List ℕ) (ps : Pair Labelled) → Lawful (pairSystem sizes ps) → product sizes ≡ count
+      → Standing (pairSystem sizes ps) (pairMasks sizes ps) x y count n (starts (pairSystem sizes ps) γ)
+
+-- the row that a starting row is in the lists
+abbrev pub startingRow : ℕ → Row
+startingRow α = record { packet = α; states = 1 ∷ 1 ∷ [] }
+
+-- the row next at γ, whose masks stand at place i
+abbrev pub nextIn : List ℕ → List ℕ → ℕ → ℕ → Row
+nextIn lefts rights i γ = record { packet = γ; states = getD lefts i 0 ∷ getD rights i 0 ∷ [] }
+
+module _ (sizes : List ℕ) (ps : Pair Labelled) where
+  living : pairSystem sizes ps .dead (pairSystem sizes ps .start) ≡ false
+  unfolding bothZero onBoth at
+  living = refl
+
+  starting-append : (α : ℕ)
+      → append (pairSystem sizes ps) α (starts (pairSystem sizes ps) α) (rowOf (pairSystem sizes ps) (pairMasks sizes ps) (startingRow α)) ≡ starts (pairSystem sizes ps) (suc α)
+  starting-append α = append-start (pairSystem sizes ps) living α
+
+  next-row : (r : system.Row (pairSystem sizes ps)) (lefts rights : List ℕ) → Nexts sizes ps r lefts rights → (γ : ℕ) → γ < product sizes
+      → rowOf (pairSystem sizes ps) (pairMasks sizes ps) (nextIn lefts rights γ γ) ≡ nextRow (pairSystem sizes ps) r γ
+  next-row r lefts rights N γ l = λ k. record { packet = γ; state = record { left = N .left-next γ l k; right = N .right-next γ l k } }
+
+pub started-none : {x : Lists} {count : ℕ} → Indexed (x .packets) (x .left) (x .right) count 0 (x .heads) (x .links) → length (x .parents) ≡ length (x .packets) → StartedTo x x count 0 0
+unfolding starts entriesOf
+started-none {x} {count} I l = record { going = going-none I l; stands = λ sizes ps lawful q. stands-none (pairSystem sizes ps) (pairMasks sizes ps) x count 0 I }
+
+module _ {x y : Lists} {count n α : ℕ} (T : StartedTo x y count n α) (small : α < count) {z : Lists} {answer : Appended} (A : Appending y z count n (startingRow α) α answer) where
+  pub started-more : (m : ℕ) → answer ≡ Rows m → StartedTo x z count m (α + 1)
+  started-more m e =
+      record {
+        going = going-more (T .going) A e;
+        stands = λ sizes ps lawful q.
+            subst (Standing (pairSystem sizes ps) (pairMasks sizes ps) x z count m)
+            (starting-append sizes ps α ∙ ap (starts (pairSystem sizes ps)) (sym (add-one α)))
+            (stands-rows (pairSystem sizes ps) (pairMasks sizes ps) (T .stands sizes ps lawful q) lawful A (going-long (T .going)) m e);
+      }
+
+  pub started-full : answer ≡ Full → Started x z count Full
+  started-full e =
+      record {
+        started = λ sizes ps lawful q.
+            stands-full (pairSystem sizes ps) (pairMasks sizes ps) (T .stands sizes ps lawful q) lawful A (going-long (T .going)) e (T .going .same .packets)
+            (starts (pairSystem sizes ps) (product sizes))
+            (subst (λ l. Prefix l (starts (pairSystem sizes ps) (product sizes))) (sym (starting-append sizes ps α))
+            (starts-longer (pairSystem sizes ps) (suc α) (product sizes) (omega arith)));
+      }
+
+pub started-all : {x y : Lists} {count n α : ℕ} → StartedTo x y count n α → α ≤ count → count ≤ α → Started x y count (Rows n)
+started-all {x} {y} {count} {n} {α} T l g =
+    record {
+      started = λ sizes ps lawful q.
+          continues-rows (pairSystem sizes ps) (pairMasks sizes ps)
+          (subst (λ k. Standing (pairSystem sizes ps) (pairMasks sizes ps) x y count n (starts (pairSystem sizes ps) k)) (le-antisymm l g ∙ sym q) (T .stands sizes ps lawful q))
+          (omega (arith, T .going .indexed .within, T .going .same .packets));
+    }
+
+-- The rows next of row p: those at the packets below γ are appended.
+pub record NextTo (x y : Lists) (count before n γ p : ℕ) (lefts rights : List ℕ) : Type 0 where
+  pub going : Going x y count n
+  pub stands : (sizes : List ℕ) (ps : Pair Labelled) → Lawful (pairSystem sizes ps) → product sizes ≡ count
+      → (r : system.Row (pairSystem sizes ps)) → Nexts sizes ps r lefts rights
+      → Standing (pairSystem sizes ps) (pairMasks sizes ps) x y count n (appendNext (pairSystem sizes ps) γ p r (rowsIn (pairSystem sizes ps) (pairMasks sizes ps) x before))
+
+pub next-none : {x : Lists} {count n p : ℕ} {lefts rights : List ℕ} → Indexed (x .packets) (x .left) (x .right) count n (x .heads) (x .links) → length (x .parents) ≡ length (x .packets)
+    → NextTo x x count n n 0 p lefts rights
+unfolding appendNext
+next-none {x} {count} {n} I l = record { going = going-none I l; stands = λ sizes ps lawful q r N. stands-none (pairSystem sizes ps) (pairMasks sizes ps) x count n I }
+
+module _ {x y : Lists} {count before n γ p : ℕ} {lefts rights : List ℕ} (T : NextTo x y count before n γ p lefts rights) (small : γ < count)
+    {z : Lists} {answer : Appended} (i : ℕ) (here : i ≡ γ) (appends : Appending y z count n (nextIn lefts rights i γ) p answer) where
+  A : Appending y z count n (nextIn lefts rights γ γ) p answer
+  A = subst (λ j. Appending y z count n (nextIn lefts rights j γ) p answer) here appends
+
+  module _ (sizes : List ℕ) (ps : Pair Labelled) (q : product sizes ≡ count) (r : system.Row (pairSystem sizes ps)) (N : Nexts sizes ps r lefts rights) where
+    appending : append (pairSystem sizes ps) p (appendNext (pairSystem sizes ps) γ p r (rowsIn (pairSystem sizes ps) (pairMasks sizes ps) x before)) (rowOf (pairSystem sizes ps) (pairMasks sizes ps) (nextIn lefts rights γ γ))
+        ≡ appendNext (pairSystem sizes ps) (suc γ) p r (rowsIn (pairSystem sizes ps) (pairMasks sizes ps) x before)
+    unfolding appendNext
+    appending = ap (append (pairSystem sizes ps) p (appendNext (pairSystem sizes ps) γ p r (rowsIn (pairSystem sizes ps) (pairMasks sizes ps) x before))) (next-row sizes ps r lefts rights N γ (omega arith))
+
+  pub next-more : (m : ℕ) → answer ≡ Rows m → NextTo x z count before m (γ + 1) p lefts rights
+  next-more m e =
+      record {
+        going = going-more (T .going) A e;
+        stands = λ sizes ps lawful q r N.
+            subst (Standing (pairSystem sizes ps) (pairMasks sizes ps) x z count m)
+            (appending sizes ps q r N ∙ ap (λ k. appendNext (pairSystem sizes ps) k p r (rowsIn (pairSystem sizes ps) (pairMasks sizes ps) x before)) (sym (add-one γ)))
+            (stands-rows (pairSystem sizes ps) (pairMasks sizes ps) (T .stands sizes ps lawful q r N) lawful A (going-long (T .going)) m e);
+      }
+
+  pub next-full : answer ≡ Full → NextAppended x z count before p lefts rights Full
+  next-full e =
+      record {
+        appended = λ sizes ps lawful q r N.
+            stands-full (pairSystem sizes ps) (pairMasks sizes ps) (T .stands sizes ps lawful q r N) lawful A (going-long (T .going)) e (T .going .same .packets) _
+            (subst (λ l. Prefix l (appendNext (pairSystem sizes ps) (product sizes) p r (rowsIn (pairSystem sizes ps) (pairMasks sizes ps) x before))) (sym (appending sizes ps q r N))
+            (appendNext-longer (pairSystem sizes ps) p r _ (suc γ) (product sizes) (omega arith)));
+      }
+
+pub next-all : {x y : Lists} {count before n γ p : ℕ} {lefts rights : List ℕ} → NextTo x y count before n γ p lefts rights → γ ≤ count → count ≤ γ
+    → NextAppended x y count before p lefts rights (Rows n)
+next-all {x} {y} {count} {before} {n} {γ} {p} T l g =
+    record {
+      appended = λ sizes ps lawful q r N.
+          continues-rows (pairSystem sizes ps) (pairMasks sizes ps)
+          (subst (λ k. Standing (pairSystem sizes ps) (pairMasks sizes ps) x y count n (appendNext (pairSystem sizes ps) k p r (rowsIn (pairSystem sizes ps) (pairMasks sizes ps) x before)))
+          (le-antisymm l g ∙ sym q) (T .stands sizes ps lawful q r N))
+          (omega (arith, T .going .indexed .within, T .going .same .packets));
+    }

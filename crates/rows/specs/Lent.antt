@@ -1,0 +1,23 @@
+-- Stage "lists": cause 10, "row lists (packet, left, right, parent) unequal or over 65,535, or work list under 16,384 32-bit numbers", over the lists' lengths.
+use mathlib.Core.Bool.{Bool, false, _||_, not}
+use mathlib.Core.List.{List, [], _∷_}
+use Prim.Native.Nat.{ℕ}
+use lib.Dec.{eqb, ltb}
+use Rattle.packet.specs.declared.Tested.{Tested}
+use Rattle.packet.specs.Refusals.{refusedAt, atZero}
+
+-- a row list has another length than the first, or is over 65,535
+unfoldable pub misfit : ℕ → List ℕ → Bool
+misfit n [] = ltb 65535 n
+misfit n (m ∷ ms) =
+    let later = misfit n ms in
+    not (eqb m n) || later
+
+-- row lists of these lengths don't serve; with no row list at all, nothing is wrong with them
+unfoldable pub rowsMisfit : List ℕ → Bool
+rowsMisfit [] = false
+rowsMisfit (n ∷ ms) = misfit n ms
+
+-- the stage, over the lengths of the row lists and of the work list
+unfoldable pub listsStage : List ℕ → ℕ → Tested
+listsStage rows work = refusedAt 10 0 (atZero (rowsMisfit rows || ltb work 16384))

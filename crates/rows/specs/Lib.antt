@@ -1,0 +1,4 @@
+pub mod Written
+pub mod Lent
+pub mod Standing
+pub mod Lines
