@@ -8,6 +8,7 @@ use Rattle.packet.specs.Sizes.{product, badCount, zeroSize, productOver, fields
 use Rattle.packet.specs.Refusals.{refusal, refusedAt, atPlace, firstOf}
 use Rattle.policy.specs.NodeLists.{nodeCount, nodeOf, nodeAt, children, one, isDup, dupsBelow, grow, treeAt, policyOf}
 use Rattle.policy.specs.Legality.{badLengths, badKind, badField, used, wrongEntries, badEntries, someNotBelow, badChild, occurrences, timesChild, notOnce, maxDups, tooManyDups, cause, policiesStage}
+use Rattle.policy.specs.Answers.{sided, policyTests, pairTests, policyAnswer, pairAnswer, policyLegality, pairLegality}
 use Rattle.policy.specs.NodesOfTree.{entry, actionEntry, treeSize, entriesFrom, listsOf, nodesOf}
 use Rattle.packet_set.specs.Bits.{bit, maskOf, onlyBits}
 use Rattle.automaton.specs.State.{anyBelow, setOf, union, takes, image, rounds, passedOn, flow, enter, outputSet, next, outputMask, nextMask}
@@ -22,8 +23,8 @@ use Rattle.text.specs.Tokens.{fieldNames, sameWord, allDigits, decimal, leading
 use Rattle.text.specs.Grammar.{constantPolicy, fieldAction}
 use Rattle.text.specs.Reading.{nothing, joinSequence, joinSum, upTo, whole, start, close, step, finish, readOn}
 use Rattle.text.specs.Answer.{badPlace, openAfter, deepPlace, stopPlace, treeRead, tooMany, answered, outcome as reading, textTree, tested, answerTo}
-use Rattle.cases.specs.Cases.{Case, bytes, nodes, lent, answerToText, outcome, given, dups, nested, cases}
+use Rattle.cases.specs.Cases.{Case, bytes, nodes, lent, answerToText, asked, whereRead, outcome, given, dups, nested, cases}
 
 pub all-as-stated : map outcome cases ≡ map (λ (c : Case). c .stated) cases
-unfolding xor lowest orAt valueAt changed valuesOf numberOf product nodeCount nodeOf nodeAt one isDup dupsBelow grow treeAt policyOf entry actionEntry treeSize entriesFrom listsOf nodesOf bit maskOf anyBelow setOf union takes image rounds passedOn flow enter outputSet next outputMask nextMask starts sameRow listed append appendNext lowestTelling turn handle runFrom run climbing climb path entering verdict answer held at onBoth outputAt nextAt sameStates bothZero inOneOutput bitsOfDups lastOf sideOf reported searchAnswer refusalOf columnsOf heldColumns andThen brokenAt present breaksA breaksB breaksD checkRow checkRows checkRules evidenceAnswer lent outcome given dups nested cases bytes nodes answerToText isBlank isLetter isDigit inWord fieldNames sameWord allDigits decimal leadingZero isNumber numberToken fieldToken fieldNamed wordToken singleMark doubleMark beginsDouble markToken wordOf frontToken isBad restOfToken placedFrom tokensFrom tokens constantPolicy fieldAction nothing joinSequence joinSum upTo whole start close step finish readOn badPlace openAfter deepPlace stopPlace treeRead tooMany answered reading textTree tested answerTo badCount zeroSize productOver fieldsStage productStage refusal refusedAt atPlace firstOf children badLengths badKind badField used wrongEntries badEntries someNotBelow badChild occurrences timesChild notOnce maxDups tooManyDups cause policiesStage onlyBits
+unfolding xor lowest orAt valueAt changed valuesOf numberOf product nodeCount nodeOf nodeAt one isDup dupsBelow grow treeAt policyOf entry actionEntry treeSize entriesFrom listsOf nodesOf bit maskOf anyBelow setOf union takes image rounds passedOn flow enter outputSet next outputMask nextMask starts sameRow listed append appendNext lowestTelling turn handle runFrom run climbing climb path entering verdict answer held at onBoth outputAt nextAt sameStates bothZero inOneOutput bitsOfDups lastOf sideOf reported searchAnswer refusalOf columnsOf heldColumns andThen brokenAt present breaksA breaksB breaksD checkRow checkRows checkRules evidenceAnswer lent outcome given dups nested cases bytes nodes answerToText asked whereRead policyTests pairTests policyAnswer pairAnswer policyLegality pairLegality sided isBlank isLetter isDigit inWord fieldNames sameWord allDigits decimal leadingZero isNumber numberToken fieldToken fieldNamed wordToken singleMark doubleMark beginsDouble markToken wordOf frontToken isBad restOfToken placedFrom tokensFrom tokens constantPolicy fieldAction nothing joinSequence joinSum upTo whole start close step finish readOn badPlace openAfter deepPlace stopPlace treeRead tooMany answered reading textTree tested answerTo badCount zeroSize productOver fieldsStage productStage refusal refusedAt atPlace firstOf children badLengths badKind badField used wrongEntries badEntries someNotBelow badChild occurrences timesChild notOnce maxDups tooManyDups cause policiesStage onlyBits
 all-as-stated = refl

@@ -6,12 +6,13 @@ use mathlib.Core.List.{List, [], _∷_, _++_}
 use mathlib.Core.Option.{Option, some}
 use lib.ListN.{replicate}
 use Rattle.packet.specs.declared.Refusal.{Refusal}
-use Rattle.packet.specs.declared.Tested.{Tested}
-use Rattle.packet.specs.declared.Tested.the-variants.{Passed, Refused}
-use Rattle.packet.specs.Refusals.{refusal, firstOf}
-use Rattle.packet.specs.Sizes.{fieldsStage, productStage}
+use Rattle.packet.specs.Refusals.{refusal}
 use Rattle.policy.specs.NodeLists.{NodeLists}
-use Rattle.policy.specs.Legality.{policiesStage}
+use Rattle.policy.specs.Answers.{policyLegality, pairLegality}
+use Rattle.policy.specs.declared.legality.PairAnswer.{PairAnswer}
+use Rattle.policy.specs.declared.legality.PairAnswer.the-variants.{Legal, Refused as PairRefused}
+use Rattle.policy.specs.declared.legality.PolicyAnswer.{PolicyAnswer}
+use Rattle.policy.specs.declared.legality.PolicyAnswer.the-variants.{Legal as LegalAlone, Refused as AloneRefused}
 use Rattle.policy.specs.NodesOfTree.{nodesOf}
 use Rattle.pair.specs.Sides.{left, right, policies}
 use Rattle.pair.specs.Search.{SearchAnswer, equal, different, rowsFull, Columns, searchAnswer, refusalOf, heldColumns}
@@ -38,11 +39,12 @@ nodes (reading text) = nodesOf (textTree fieldNames text)
 nodes (lists kind first second) = record { kind = kind; first = first; second = second }
 
 -- what is asked of two policies: the search's answer with so many rows lent; the refusal that it is; what the row lists then hold; the evidence
--- checker's answer to a table; which of causes 1 to 9 holds; the reader's answer to the left text, with lists of so many entries lent
+-- checker's answer to a table; whether both policies are legal; whether the left one is; the reader's answer to the left text, with lists of so
+-- many entries lent
 pub data Question : Type 0 where
   search refusals rowLists : ℕ → Question
   evidence : List ℕ → List ℕ → List ℕ → Question
-  causes : Question
+  bothLegal leftLegal : Question
   reads : ℕ → Question
 
 pub data Outcome : Type 0 where
@@ -50,7 +52,8 @@ pub data Outcome : Type 0 where
   refusedWith : Option Refusal → Outcome
   held : Columns → Outcome
   judged : Checked → Outcome
-  tested : Tested → Outcome
+  legality : PairAnswer → Outcome
+  leftLegality : PolicyAnswer → Outcome
   readAs : Answer → Outcome
 
 -- Two policies with the sizes of the fields, a question, and what is stated.
@@ -69,22 +72,26 @@ unfoldable pub answerToText : ℕ → Source → Answer
 answerToText room (reading text) = answerTo fieldNames text room
 answerToText room (lists kind first second) = Nodes 0
 
-unfoldable pub outcome : Case → Outcome
-outcome c =
+-- what is asked, of two policies that can be read
+unfoldable pub asked : Case → Outcome
+asked c =
     elim (c .question) [
       | search rows ↦ answered (searchAnswer (c .sizes) (policies (nodes (c .left)) (nodes (c .right))) rows lent)
       | refusals rows ↦ refusedWith (refusalOf (searchAnswer (c .sizes) (policies (nodes (c .left)) (nodes (c .right))) rows lent))
       | rowLists rows ↦ held (heldColumns (c .sizes) (policies (nodes (c .left)) (nodes (c .right))) rows)
       | evidence packets lefts rights ↦ judged (evidenceAnswer (c .sizes) (policies (nodes (c .left)) (nodes (c .right))) packets lefts rights)
-      | causes
-          ↦ tested
-          (firstOf
-          (fieldsStage (c .sizes)
-          ∷ productStage (c .sizes)
-          ∷ policiesStage (c .sizes) (record { side = 1; lists = nodes (c .left) } ∷ record { side = 2; lists = nodes (c .right) } ∷ [])
-          ∷ []))
+      | bothLegal ↦ legality (pairLegality (c .sizes) (nodes (c .left)) (nodes (c .right)))
+      | leftLegal ↦ leftLegality (policyLegality (c .sizes) (nodes (c .left)))
       | reads room ↦ readAs (answerToText room (c .left))
     ]
+
+-- a text that is refused with lists of 512 entries lent is refused before anything is asked
+unfoldable pub whereRead : Answer → Outcome → Outcome
+whereRead (Nodes n) o = o
+whereRead (Unread r) o = readAs (Unread r)
+
+unfoldable pub outcome : Case → Outcome
+outcome c = whereRead (answerToText 512 (c .left)) (whereRead (answerToText 512 (c .right)) (asked c))
 
 abbrev of : List ℕ → Source → Source → Question → Outcome → Case
 of sizes l r question stated = record { sizes = sizes; left = l; right = r; question = question; stated = stated }
@@ -129,7 +136,7 @@ pass = lists (1 ∷ []) (0 ∷ []) (0 ∷ [])
 
 -- a refusal of causes 4 to 9: number, side and place
 abbrev refuses : Source → Source → ℕ → ℕ → ℕ → Case
-refuses l r number side place = of (2 ∷ 3 ∷ []) l r causes (tested (Refused (refusal number side place)))
+refuses l r number side place = of (2 ∷ 3 ∷ []) l r bothLegal (legality (PairRefused (refusal number side place)))
 
 -- a refusal of causes 14 to 17: number and place
 abbrev unread : List ℕ → ℕ → ℕ → ℕ → Case
@@ -165,18 +172,19 @@ cases =
     -- P11
     ∷ P2 (evidence (0 ∷ 1 ∷ 0 ∷ []) (1 ∷ 1 ∷ 2 ∷ []) (1 ∷ 1 ∷ 2 ∷ [])) (judged (ruleD 1 1))
     -- sizes 32, 32 pass and 5, 205 give 3 at field 1
-    ∷ of (32 ∷ 32 ∷ []) pass pass causes (tested Passed)
-    ∷ of (5 ∷ 205 ∷ []) pass pass causes (tested (Refused (refusal 3 0 1)))
+    ∷ of (32 ∷ 32 ∷ []) pass pass bothLegal (legality (Legal 0 0))
+    ∷ of (5 ∷ 205 ∷ []) pass pass bothLegal (legality (PairRefused (refusal 3 0 1)))
     -- 31 dups pass, 32 don't: the 32nd dup is node 61
-    ∷ of (1 ∷ []) (reading (dups 30)) (reading (dups 30)) causes (tested Passed)
-    ∷ of (1 ∷ []) (reading (dups 30)) (reading (dups 31)) causes (tested (Refused (refusal 9 2 61)))
+    ∷ of (1 ∷ []) (reading (dups 30)) (reading (dups 30)) bothLegal (legality (Legal 31 31))
+    ∷ of (1 ∷ []) (reading (dups 30)) (reading (dups 31)) bothLegal (legality (PairRefused (refusal 9 2 61)))
     -- 64 parentheses pass, 65 don't
     ∷ of (1 ∷ []) (reading (nested 64)) pass (reads 1) (readAs (Nodes 1))
     ∷ unread (nested 65) 1 15 64
-    -- further pairs: a test of field 1; every kind; the order of a row's successors; dups numbered in node order; two telling packets
+    -- further pairs: `!=` in a text; a test of field 1; every kind; the order of a row's successors; dups numbered in node order; two telling packets
+    ∷ given (2 ∷ []) "f0!=0" "f0=1" (search lent) (answered (equal 2))
     ∷ given (2 ∷ 3 ∷ []) "f1=2" "f0=1" (search lent) (answered (different left 2 (2 ∷ [])))
     ∷ of (2 ∷ []) everyKind (reading (bytes "f0=0;dup;(id+f0<-1)")) (search lent) (answered (equal 3))
-    ∷ of (2 ∷ []) everyKind (reading (bytes "f0=0;dup;(id+f0<-1)")) causes (tested Passed)
+    ∷ of (2 ∷ []) everyKind (reading (bytes "f0=0;dup;(id+f0<-1)")) bothLegal (legality (Legal 1 1))
     ∷ given (2 ∷ []) "f0<-0;dup+f0<-1;dup" "f0<-0;dup+f0<-1;dup" (rowLists lent)
     (columns (0 ∷ 1 ∷ 0 ∷ 1 ∷ []) (1 ∷ 1 ∷ 2 ∷ 4 ∷ []) (1 ∷ 1 ∷ 2 ∷ 4 ∷ []) (0 ∷ 1 ∷ 0 ∷ 0 ∷ []))
     ∷ of (1 ∷ []) turned turned (rowLists lent) (columns (0 ∷ 0 ∷ 0 ∷ []) (1 ∷ 4 ∷ 2 ∷ []) (1 ∷ 4 ∷ 2 ∷ []) (0 ∷ 0 ∷ 1 ∷ []))
@@ -199,6 +207,10 @@ cases =
     ∷ refuses (lists (1 ∷ 8 ∷ []) (0 ∷ 1 ∷ []) (0 ∷ 0 ∷ [])) pass 7 1 1
     ∷ refuses (lists (1 ∷ 6 ∷ []) (0 ∷ 0 ∷ []) (0 ∷ 0 ∷ [])) pass 8 1 0
     ∷ refuses (lists (1 ∷ 1 ∷ []) (0 ∷ 0 ∷ []) (0 ∷ 0 ∷ [])) pass 8 1 0
+    ∷ refuses (lists (1 ∷ 8 ∷ 6 ∷ []) (0 ∷ 0 ∷ 1 ∷ []) (0 ∷ 0 ∷ 1 ∷ [])) pass 8 1 1
+    -- one policy alone: its dups, or a refusal with side 0
+    ∷ of (2 ∷ []) everyKind pass leftLegal (leftLegality (LegalAlone 1))
+    ∷ of (2 ∷ []) (lists (5 ∷ []) (0 ∷ []) (7 ∷ [])) pass leftLegal (leftLegality (AloneRefused (refusal 6 0 0)))
     -- causes 14 to 17: each over the whole text before the next
     ∷ unread (bytes "f0 ! = 0") 9 14 3
     ∷ unread (bytes "id+;00") 9 14 4
