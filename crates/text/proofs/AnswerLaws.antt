@@ -28,7 +28,8 @@ use Rattle.text.specs.declared.tokens.Token as Found
 use Rattle.text.specs.declared.Step as Stepped
 use Rattle.text.proofs.ReadLaws.{top-ends, top-stops}
 use Rattle.text.proofs.StepLaws.{kind-not}
-use Rattle.text.proofs.PutLaws.{entries-length, put-written}
+use Rattle.text.proofs.PutLaws.{put-written}
+use Rattle.policy.proofs.Nodes.{entries-length}
 
 -- no token has the kind of the end
 never-end : (t : Token) → kindOf t ≡ 1 → ⊥

@@ -518,7 +518,7 @@ words-pass : (names : List (List ℕ)) (text : List ℕ) (p : Policy) → outcom
 unfolding outcome
 words-pass names text p e = tree-words (length text) start (tokens names text) p e
 
-tree-read : (names : List (List ℕ)) (text : List ℕ) → stopPlace (outcome names text) ≡ none → outcome names text ≡ tree (textTree names text)
+pub tree-read : (names : List (List ℕ)) (text : List ℕ) → stopPlace (outcome names text) ≡ none → outcome names text ≡ tree (textTree names text)
 unfolding textTree stopPlace treeRead
 tree-read names text e = go (outcome names text) e
   where

@@ -9,3 +9,4 @@ pub mod StepLaws
 pub mod LoopLaws
 pub mod AnswerLaws
 pub mod GrammarLaws
+pub mod NodeLaws

@@ -14,20 +14,11 @@ use Rattle.policy.specs.declared.FieldAction.the-variants.{Equals, Differs, Set
 use Rattle.policy.specs.Tree.{Policy, drop as ⊥ₚ, id, field, dup, sum, seq, star}
 use Rattle.policy.specs.NodeLists.{NodeLists}
 use Rattle.policy.specs.NodesOfTree.{Entry, entry, actionEntry, treeSize, entriesFrom, listsOf}
+use Rattle.policy.proofs.Nodes.{entries-length}
 use Rattle.text.specs.Answer.{written}
 use Rattle.text.specs.Inner.{putAt, putEntry, putAll, lists}
 
--- a tree has as many entries as nodes, and at least one
-pub entries-length : (n : ℕ) (p : Policy) → length (entriesFrom n p) ≡ treeSize p
-unfolding entriesFrom treeSize
-entries-length n ⊥ₚ = refl
-entries-length n id = refl
-entries-length n (field a) = refl
-entries-length n (dup i) = refl
-entries-length n (sum p q) = simp (length-append, entries-length n p, entries-length (n + treeSize p) q)
-entries-length n (seq p q) = simp (length-append, entries-length n p, entries-length (n + treeSize p) q)
-entries-length n (star p) = simp (length-append, entries-length n p)
-
+-- a tree has at least one node
 pub size-pos : (p : Policy) → 0 < treeSize p
 unfolding treeSize
 size-pos ⊥ₚ = omega arith
