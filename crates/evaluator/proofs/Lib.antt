@@ -1,3 +1,4 @@
 pub mod Images
 pub mod Settling
 pub mod Passing
+pub mod Looping

@@ -72,12 +72,12 @@ module _ (sizes : List ℕ) where
   below-flow m β p Z hz X f γ t = below sizes (flow sizes m β p Z) (flow-fits sizes m β p Z hz) γ (f γ t)
 
 module _ {sizes : List ℕ} {L : NodeLists} (w : WellFormed sizes L) (β : ℕ) where
-  fields : (n : ℕ) → n < nodeCount L → InFields sizes (treeOf L n)
+  pub fields : (n : ℕ) → n < nodeCount L → InFields sizes (treeOf L n)
   unfolding treeOf
   fields n l = tree-fields w (suc n) n (omega arith) l
 
   -- the tree of a node of the given kind
-  tree-at : (n : ℕ) → n < nodeCount L → (d : Node) → nodeAt L n ≡ d → treeOf L n ≡ grow (treeOf L) (dupsBelow L (suc n)) d
+  pub tree-at : (n : ℕ) → n < nodeCount L → (d : Node) → nodeAt L n ≡ d → treeOf L n ≡ grow (treeOf L) (dupsBelow L (suc n)) d
   tree-at n l d e = tree-grow w n l ∙ ap (grow (treeOf L) (dupsBelow L (suc n))) e
 
   module _ (marks live : Marks) (X F : Members) (S S1 : ℕ → Members) (n : ℕ) (l : n < nodeCount L) (ti : TakesIn n S X F S1) (b : Below sizes X) where
@@ -85,7 +85,7 @@ module _ {sizes : List ℕ} {L : NodeLists} (w : WellFormed sizes L) (β : ℕ) 
     P p R S′ = Passes sizes L β p n marks X S R S′
 
     -- a node that is no dup changes no slot of a dup
-    dup-slots : (d : Node) → isDup d ≡ false → nodeAt L n ≡ d → (j : ℕ) → nodeAt L j ≡ Dup → Within (S1 j) (S j)
+    pub dup-slots : (d : Node) → isDup d ≡ false → nodeAt L n ≡ d → (j : ℕ) → nodeAt L j ≡ Dup → Within (S1 j) (S j)
     unfolding isDup
     dup-slots d z e j dj γ t = subst T (sym (ti .others j (λ q. not-dup (ap isDup (sym (ap (nodeAt L) q) ∙ dj))) γ)) t
       where
@@ -323,7 +323,7 @@ module _ {sizes : List ℕ} {L : NodeLists} (w : WellFormed sizes L) (β : ℕ) 
       settled = λ before Q h.
           let k = subst (λ z. Within (S n) (S (leftOf z)) × Within (S n) (S (rightOf z)) × Settled sizes L β before S (treeOf L x) (leftOf z) Q × Settled sizes L β before S (treeOf L y) (rightOf z) Q) e h in
           subst (λ z. Within (S3 n) (S3 (leftOf z)) × Within (S3 n) (S3 (rightOf z)) × Settled sizes L β (or before marks) S3 (treeOf L x) (leftOf z) (or Q R)
-              × Settled sizes L β (or before marks) S3 (treeOf L y) (rightOf z) (or Q R)) (sym e) (
+          × Settled sizes L β (or before marks) S3 (treeOf L y) (rightOf z) (or Q R)) (sym e) (
             both .to-x (k .0),
             both .to-y (λ γ t. t) (k .1),
             both .settle-x before Q (or Q R) (or-map Q A Q R (λ γ t. t) (λ γ t. sr γ (or-left A B γ t))) (k .2),
@@ -361,15 +361,15 @@ module _ {sizes : List ℕ} {L : NodeLists} (w : WellFormed sizes L) (β : ℕ) 
       into = λ j dj.
           both .into j dj (En (seq (treeOf L x) (treeOf L y)) j)
           (λ δ s. union-iff sizes _ _ (enter-fits sizes marks β (treeOf L x) XN fit _) (enter-fits sizes marks β (treeOf L y) YN fitY _) δ .1
-              (inl (enter-more sizes β (treeOf L x) (f .0) live marks (v .some) (packetsOf sizes F) XN (packets-fit sizes F) fit (packets-map sizes F X (ti .fresh)) _ δ s)))
+          (inl (enter-more sizes β (treeOf L x) (f .0) live marks (v .some) (packetsOf sizes F) XN (packets-fit sizes F) fit (packets-map sizes F X (ti .fresh)) _ δ s)))
           (λ δ s. union-iff sizes _ _ (enter-fits sizes marks β (treeOf L x) XN fit _) (enter-fits sizes marks β (treeOf L y) YN fitY _) δ .1
-              (inr (enter-more sizes β (treeOf L y) (f .1) live marks (v .some) (packetsOf sizes A) YN (packets-fit sizes A) fitY amid _ δ s)));
+          (inr (enter-more sizes β (treeOf L y) (f .1) live marks (v .some) (packetsOf sizes A) YN (packets-fit sizes A) fitY amid _ δ s)));
       keeps = both .keeps;
       gains = both .gains;
       settled = λ before Q h.
           let k = subst (λ z. Within (S n) (S (leftOf z)) × Settled sizes L β before S (treeOf L x) (leftOf z) (S (rightOf z)) × Settled sizes L β before S (treeOf L y) (rightOf z) Q) e h in
           subst (λ z. Within (S3 n) (S3 (leftOf z)) × Settled sizes L β (or before marks) S3 (treeOf L x) (leftOf z) (S3 (rightOf z))
-              × Settled sizes L β (or before marks) S3 (treeOf L y) (rightOf z) (or Q R)) (sym e) (
+          × Settled sizes L β (or before marks) S3 (treeOf L y) (rightOf z) (or Q R)) (sym e) (
             both .to-x (k .0),
             both .settle-x before (S y) (S3 y) (or-elim (S y) A (S3 y) (both .y-kept) (second .gains)) (k .1),
             both .settle-y before Q (or Q R) (λ γ t. t) (k .2),
