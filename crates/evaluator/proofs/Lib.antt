@@ -2,3 +2,4 @@ pub mod Images
 pub mod Settling
 pub mod Passing
 pub mod Looping
+pub mod Acts

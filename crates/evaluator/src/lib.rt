@@ -1,1 +1,76 @@
-// Output and next of a state, by packet sets. All functions here are inner.
+// Output and next of a state, by packet sets (document 01, "States and rows"). All functions here are inner.
+ghost use mathlib.Core.Path.{_≡_};
+ghost use Prim.Native.Nat.{ℕ, _+_, _*_, _<_, _≤_};
+ghost use lib.ListN.{length, getD};
+ghost use Rattle.policy.specs.Legality.{fieldOf, valueOf};
+ghost use Rattle.packet_set.specs.Members.{member};
+ghost use Rattle.packet_set.specs.declared.Lowest.the-variants.{At};
+ghost use Rattle.evaluator.specs.Actions.{landing, withLanding, Image, Acting};
+use packet_set::Lowest;
+use packet_set::PacketSet;
+use policy::FieldAction;
+
+// Inner. The field that an action tests or changes.
+fn field_of(action: FieldAction) -> u16
+    ensures { λ r. ⌜ r ≡ fieldOf action ⌝ }
+{
+    match action {
+        FieldAction::Equals(f, _) => f,
+        FieldAction::Differs(f, _) => f,
+        FieldAction::Set(f, _) => f,
+    }
+}
+
+// Inner. Where the action takes a packet.
+fn act(action: FieldAction, stride: u16, size: u16, packet: u16) -> Lowest
+    requires { ⌜ (0 < stride) × (0 < size) × (packet < 1024) × (valueOf action * stride < 1024) ⌝ }
+    ensures { λ r. ⌜ r ≡ landing stride size action packet ⌝ }
+{
+    let value = packet / stride % size;
+    match action {
+        FieldAction::Equals(_, v) => {
+            if value == v {
+                return Lowest::At(packet);
+            }
+            Lowest::Nothing
+        }
+        FieldAction::Differs(_, v) => {
+            if value == v {
+                return Lowest::Nothing;
+            }
+            Lowest::At(packet)
+        }
+        FieldAction::Set(_, v) => Lowest::At(packet - value * stride + v * stride),
+    }
+}
+
+// Inner. The set with the packet besides, if there is one.
+fn put(set: PacketSet, at: Lowest) -> PacketSet
+    requires { ⌜ ((γ : ℕ) → at ≡ At γ → γ < 1024) ⌝ }
+    ensures { λ r. ⌜ r ≡ withLanding set at ⌝ }
+{
+    match at {
+        Lowest::At(packet) => packet_set::insert(set, packet),
+        Lowest::Nothing => set,
+    }
+}
+
+// Inner. The packets to which the action takes those of the set.
+fn image(sizes: &[u16], action: FieldAction, set: PacketSet, words: usize) -> PacketSet
+    requires { ⌜ Acting (now sizes) action words (member set) ⌝ }
+    ensures { λ r. ⌜ Image (now (sizes .entry)) action (member set) (member r) ⌝ }
+{
+    let field = field_of(action) as usize;
+    let stride = packet::stride_of(sizes, field);
+    let size = sizes[field];
+    let mut out = packet_set::empty();
+    let mut from: u16 = 0;
+    loop {
+        let Lowest::At(alpha) = packet_set::next_member(&set, from, words) else {
+            return out;
+        };
+        let grown = put(out, act(action, stride, size, alpha));
+        out = grown;
+        from = alpha + 1;
+    }
+}
