@@ -3,3 +3,5 @@ pub mod Settling
 pub mod Passing
 pub mod Looping
 pub mod Acts
+pub mod Entering
+pub mod Evaluating

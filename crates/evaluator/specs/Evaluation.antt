@@ -6,15 +6,16 @@ use mathlib.Core.Logic.{_↔_}
 use mathlib.Core.Path.{_≡_}
 use lib.Dec.{T}
 use lib.ListN.{length, getD, take, replicate}
-use Rattle.packet.specs.Sizes.{product}
+use Rattle.packet.specs.Sizes.{product, LegalSizes}
 use Rattle.policy.specs.declared.Node.{Node}
 use Rattle.policy.specs.declared.Node.the-variants.{Drop, Id, Field, Dup, Sum, Seq, Star}
 use Rattle.policy.specs.NodeLists.{NodeLists, nodeCount, nodeAt, dupsBelow, treeAt}
 use Rattle.policy.specs.Tree.{Policy, drop, id, field, dup, sum, seq, star}
+use Rattle.policy.specs.Legality.{WellFormed}
 use Rattle.policy.specs.Visits.{InTree}
 use Rattle.packet_set.specs.Bits.{bit}
-use Rattle.packet_set.specs.Members.{member}
-use Rattle.packet_set.specs.Slots.{slotAt}
+use Rattle.packet_set.specs.Members.{member, wordsFor, unionOf, differenceOf}
+use Rattle.packet_set.specs.Slots.{slotAt, withSlot}
 use Rattle.automaton.specs.Remainder.{HasDup}
 use Rattle.automaton.specs.State.{Marks, PacketSet, setOf, takes, flow, enter}
 
@@ -104,3 +105,20 @@ pub record Passes (sizes : List ℕ) (L : NodeLists) (β : ℕ) (p : Policy) (n 
 pub record Evaluated (sizes : List ℕ) (L : NodeLists) (k β n marks : ℕ) (X work r work′ : List ℕ) : Type 0 where
   pub passes : Passes sizes L β (treeOf L n) n (bit marks) (member X) (slots k work) (member r) (slots k work′)
   pub elsewhere : (i : ℕ) → (InTree L n (i / 32) → i % 32 < k → ⊥) → getD work′ i 0 ≡ getD work i 0
+
+-- X is recorded in slot n: what was not there before is new
+pub record Took (k n : ℕ) (work X new work′ : List ℕ) : Type 0 where
+  pub fresh : new ≡ differenceOf k X (slotAt k n work)
+  pub stored : work′ ≡ withSlot k n work (unionOf k (slotAt k n work) X)
+
+-- what the evaluator asks: legal sizes, well-formed lists and a node of them, k words for N packets, β and X below N, room for the slots
+pub record Ready (sizes : List ℕ) (L : NodeLists) (k β n : ℕ) (masks X work : List ℕ) : Type 0 where
+  pub legal : LegalSizes sizes
+  pub well : WellFormed sizes L
+  pub words : k ≡ wordsFor (product sizes)
+  pub packet : β < product sizes
+  pub node : n < nodeCount L
+  pub dups : DupMasks L masks
+  pub masked : nodeCount L ≤ length masks
+  pub below : Below sizes (member X)
+  pub long : 16384 ≤ length work

@@ -5,10 +5,14 @@ ghost use lib.ListN.{length, getD};
 ghost use Rattle.policy.specs.Legality.{fieldOf, valueOf};
 ghost use Rattle.packet_set.specs.Members.{member};
 ghost use Rattle.packet_set.specs.declared.Lowest.the-variants.{At};
+ghost use Rattle.policy.specs.AsLists.{asLists};
+ghost use Rattle.evaluator.specs.Evaluation.{Took, Ready, Evaluated};
 ghost use Rattle.evaluator.specs.Actions.{landing, withLanding, Image, Acting};
 use packet_set::Lowest;
+use packet_set::Mask;
 use packet_set::PacketSet;
 use policy::FieldAction;
+use policy::Node;
 
 // Inner. The field that an action tests or changes.
 fn field_of(action: FieldAction) -> u16
@@ -74,3 +78,20 @@ fn image(sizes: &[u16], action: FieldAction, set: PacketSet, words: usize) -> Pa
         from = alpha + 1;
     }
 }
+
+// Inner. Slot n of the work list takes the set; what was not there before is returned.
+fn take_in(work: &mut [u32], n: usize, words: usize, set: PacketSet) -> PacketSet
+    requires { ⌜ (words ≤ 32) × (32 * n + words ≤ length (now work)) ⌝ }
+    ensures { λ r. ⌜ Took words n (now (work .entry)) set r (now (work .exit)) ⌝ }
+{
+    let old = packet_set::load_slot(work, n, words);
+    packet_set::store_slot(work, n, words, packet_set::union(old, set, words));
+    packet_set::difference(set, old, words)
+}
+
+fn wide(x: u16) -> usize
+    ensures { λ r. ⌜ r ≡ x ⌝ }
+{
+    x as usize
+}
+
