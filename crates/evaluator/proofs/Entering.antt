@@ -31,10 +31,13 @@ use Rattle.evaluator.specs.Evaluation.{Members, Within, or, Below, treeO
 use Rattle.evaluator.proofs.Settling.{or-left, or-right, or-elim}
 use Rattle.evaluator.proofs.Passing.{TakesIn, Live, Apart, below-within, below-flow, packets-fit}
 
-pub took : (k n : ℕ) (work X old u new work′ : List ℕ) → old ≡ slotAt k n work → u ≡ unionOf k old X → work′ ≡ withSlot k n work u → new ≡ differenceOf k X old → Took k n work X new work′
-took k n work X old u new work′ eo eu ew en = record {
+pub took : (k n : ℕ) (work X old u new work′ : List ℕ) → old ≡ slotAt k n work → u ≡ unionOf k old X → work′ ≡ withSlot k n work u → new ≡ differenceOf k X old → length X ≡ 32 → length new ≡ 32
+    → Took k n work X new work′
+took k n work X old u new work′ eo eu ew en wide long = record {
   fresh = en ∙ ap (differenceOf k X) eo;
   stored = ew ∙ ap (withSlot k n work) (eu ∙ ap (λ (o : List ℕ). unionOf k o X) eo);
+  wide = wide;
+  long = long;
 }
 
 -- ---- members beyond the first k words
@@ -138,7 +141,7 @@ module _ (sizes : List ℕ) (L : NodeLists) (k β n : ℕ) (masks X work : List 
   unfolding DupMasks
   live-dup marks i t = rd .dups n (rd .node) i .0 (both (bit marks i) (bit (getD masks n 0) i) .0 (subst T (bit-and marks (getD masks n 0) i) t) .1)
 
-module _ (k n : ℕ) (work X new work′ : List ℕ) (few : k ≤ 32) (room : 32 * n + k ≤ length work) (inside : (γ : ℕ) → T (member X γ) → γ < 32 * k) (wide : length X ≡ 32)
+module _ (k n : ℕ) (work X new work′ : List ℕ) (few : k ≤ 32) (room : 32 * n + k ≤ length work) (inside : (γ : ℕ) → T (member X γ) → γ < 32 * k)
     (tk : Took k n work X new work′) where
   abbrev old : List ℕ
   old = slotAt k n work
@@ -170,7 +173,7 @@ module _ (k n : ℕ) (work X new work′ : List ℕ) (few : k ≤ 32) (room : 32
       ∙ member-union k old X γ l (let h = long-old in omega arith)
 
   pub is-new : (γ : ℕ) → γ < 32 * k → member new γ ≡ member X γ && not (member old γ)
-  is-new γ l = ap (λ (s : List ℕ). member s γ) (tk .fresh) ∙ member-difference k X old γ l (omega arith)
+  is-new γ l = ap (λ (s : List ℕ). member s γ) (tk .fresh) ∙ member-difference k X old γ l (let h = tk .wide in omega arith)
 
   room′ : 32 * n + k ≤ length work′
   room′ = let e = took-length in omega arith

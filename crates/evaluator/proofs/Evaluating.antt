@@ -103,10 +103,15 @@ pub record Turning (sizes : List ℕ) (L : NodeLists) (k β n c live : ℕ) (new
 pub toGo : ℕ → ℕ → List ℕ → Bool → ℕ
 toGo k n w again = missing (32 * k) (slots k w n) + cond again 1 0
 
-module _ (sizes : List ℕ) (L : NodeLists) (k β n : ℕ) (masks X work : List ℕ) (rd : Ready sizes L k β n masks X work) (wide : length X ≡ 32) (new work1 : List ℕ)
+module _ (sizes : List ℕ) (L : NodeLists) (k β n : ℕ) (masks X work : List ℕ) (rd : Ready sizes L k β n masks X work) (new work1 : List ℕ)
     (tk : Took k n work X new work1) (marks : ℕ) where
   abbrev live : ℕ
   live = bitAnd marks (getD masks n 0)
+
+  -- the node is in each list
+  pub in-lists : (n < length (L .kind)) × (n < length (L .first)) × (n < length (L .second))
+  unfolding nodeCount
+  in-lists = let a = rd .node in let b = rd .well .firsts in let d = rd .well .seconds in omega arith
 
   inside : (γ : ℕ) → T (member X γ) → γ < 32 * k
   inside = within-words sizes L k β n masks X work rd (member X) (rd .below)
@@ -118,20 +123,20 @@ module _ (sizes : List ℕ) (L : NodeLists) (k β n : ℕ) (masks X work : List 
   room = slot-room sizes L k β n masks X work rd
 
   ti : TakesIn n (slots k work) (member X) (member new) (slots k work1)
-  ti = takes-in k n work X new work1 few room inside wide tk
+  ti = takes-in k n work X new work1 few room inside tk
 
   v : Live (treeOf L n) (bit marks) (bit live)
   v = live-marks sizes L k β n masks X work rd marks
 
   pub entry-length : length work1 ≡ length work
-  entry-length = took-length k n work X new work1 few room inside wide tk
+  entry-length = took-length k n work X new work1 few room inside tk
 
   pub entry-below : Below sizes (member new)
   entry-below = below-within sizes (member new) (member X) (ti .fresh) (rd .below)
 
   -- the words that the entry leaves
   entry-words : (i : ℕ) → (InTree L n (i / 32) → i % 32 < k → ⊥) → getD work1 i 0 ≡ getD work i 0
-  entry-words i h = took-elsewhere k n work X new work1 few room inside wide tk i (λ e m. h (subst (InTree L n) (sym e) (in-tree-self L (children-below (rd .well)) n (rd .node))) m)
+  entry-words i h = took-elsewhere k n work X new work1 few room inside tk i (λ e m. h (subst (InTree L n) (sym e) (in-tree-self L (children-below (rd .well)) n (rd .node))) m)
 
   here : (r : List ℕ) → Passes sizes L β (treeOf L n) n (bit marks) (member X) (slots k work) (member r) (slots k work1) → Evaluated sizes L k β n marks X work r work1
   here r p = record { passes = p; elsewhere = entry-words }
@@ -209,7 +214,7 @@ module _ (sizes : List ℕ) (L : NodeLists) (k β n : ℕ) (masks X work : List 
       split γ t (yes l) = subst T (member-union k a b γ l (let z = few in omega arith)) t
       split γ t (no l) = or-left (member a) (member b) γ (subst T (union-beyond k a b γ (omega arith)) t)
 
-  two-kids : (x y : ℕ) → children (nodeAt L n) ≡ x ∷ y ∷ [] → (x < n) × (y < n)
+  pub two-kids : (x y : ℕ) → children (nodeAt L n) ≡ x ∷ y ∷ [] → (x < n) × (y < n)
   two-kids x y e = two-below L (children-below (rd .well)) n x y (rd .node) e
 
   pub left-ready : (x y : ℕ) → children (nodeAt L n) ≡ x ∷ y ∷ [] → Ready sizes L k β x masks new work1
@@ -253,16 +258,16 @@ module _ (sizes : List ℕ) (L : NodeLists) (k β n : ℕ) (masks X work : List 
     unfolding children
     kid = ap children e
 
-    c< : c < n
+    pub c< : c < n
     c< = one-below L (children-below (rd .well)) n c (rd .node) kid
 
-    pub turning-start : length new ≡ 32 → Turning sizes L k β n c live new work1 work1 new new live true
-    turning-start ln = record {
+    pub turning-start : Turning sizes L k β n c live new work1 work1 new new live true
+    turning-start = record {
       rounds = rounds-start (rd .well) β n c (rd .node) e (bit live) (member new) entry-below (slots k work1);
       elsewhere = λ i h. refl;
       same = refl;
-      longD = ln;
-      longO = ln;
+      longD = tk .long;
+      longO = tk .long;
       stops = λ z. absurd (true≢false z);
     }
 
@@ -283,32 +288,32 @@ module _ (sizes : List ℕ) (L : NodeLists) (k β n : ℕ) (masks X work : List 
         pub turning-room : 32 * n + k ≤ length w2
         turning-room = let a = room in let b = tg .same in let d = entry-length in omega arith
 
-        module _ (G w3 : List ℕ) (lA : length A ≡ 32) (tk2 : Took k n w2 A G w3) where
+        module _ (G w3 : List ℕ) (tk2 : Took k n w2 A G w3) where
           insideA : (γ : ℕ) → T (member A γ) → γ < 32 * k
           insideA = within-words sizes L k β n masks X work rd (member A) belowA
 
           ti2 : TakesIn n (slots k w2) (member A) (member G) (slots k w3)
-          ti2 = takes-in k n w2 A G w3 few turning-room insideA lA tk2
+          ti2 = takes-in k n w2 A G w3 few turning-room insideA tk2
 
           l3 : length w3 ≡ length w2
-          l3 = took-length k n w2 A G w3 few turning-room insideA lA tk2
+          l3 = took-length k n w2 A G w3 few turning-room insideA tk2
 
           apart2 : Apart L c (slots k w) (slots k w2)
           apart2 = apart-slots L k c w w2 few l2 (ev .elsewhere)
 
-          pub turning-turn : (O′ : List ℕ) (again′ : Bool) → length G ≡ 32 → length O′ ≡ 32 → O′ ≡ unionOf k O G → again′ ≡ not (isEmpty k G)
+          pub turning-turn : (O′ : List ℕ) (again′ : Bool) → length O′ ≡ 32 → O′ ≡ unionOf k O G → again′ ≡ not (isEmpty k G)
               → Turning sizes L k β n c live new work1 w3 G O′ 0 again′
-          turning-turn O′ again′ lG lO eO ea =
+          turning-turn O′ again′ lO eO ea =
               let u = union-is O G (tg .longO) belowO (below-within sizes (member G) (member A) (ti2 .fresh) belowA) in record {
                 rounds =
                     rounds-turn (rd .well) β n c (rd .node) e (bit live) (member new) entry-below (slots k work1) (slots k w) (slots k w2) (member D) (member O) (member A) (bit left) (tg .rounds) (ev .passes)
                     (slots k w3) (member G) (member O′) (bit 0) apart2 ti2 (subst (λ (o : List ℕ). Within (or (member O) (member G)) (member o)) (sym eO) (u .1))
                     (subst (λ (o : List ℕ). Within (member o) (or (member O) (member G))) (sym eO) (u .0)) (no-bit 0 refl);
                 elsewhere = λ i h.
-                    took-elsewhere k n w2 A G w3 few turning-room insideA lA tk2 i (λ q m. h (subst (InTree L n) (sym q) (in-tree-self L (children-below (rd .well)) n (rd .node))) m)
+                    took-elsewhere k n w2 A G w3 few turning-room insideA tk2 i (λ q m. h (subst (InTree L n) (sym q) (in-tree-self L (children-below (rd .well)) n (rd .node))) m)
                     ∙ ev .elsewhere i (λ t. h (in-tree-one L (children-below (rd .well)) n c (i / 32) (rd .node) kid t)) ∙ tg .elsewhere i h;
                 same = l3 ∙ l2 ∙ tg .same;
-                longD = lG;
+                longD = tk2 .long;
                 longO = lO;
                 stops = λ z. (flip (isEmpty k G) (sym ea ∙ z), refl);
               }
@@ -340,7 +345,7 @@ module _ (sizes : List ℕ) (L : NodeLists) (k β n : ℕ) (masks X work : List 
               more b z =
                   let g = some-member k G z in
                   let s = missing-lt (32 * k) (slots k w n) (slots k w3 n) up (g .0) (g .1) (ti2 .gains (g .0) (ti2 .fresh (g .0) (g .2)))
-                      (λ t. unnew (g .0) (g .1) (g .2) (ti2-old (g .0) t)) in
+                  (λ t. unnew (g .0) (g .1) (g .2) (ti2-old (g .0) t)) in
                   bound b s
                 where
                   bound : (b : Bool) → missing (32 * k) (slots k w3 n) < missing (32 * k) (slots k w n) → missing (32 * k) (slots k w3 n) + cond b 1 0 < missing (32 * k) (slots k w n) + 1
@@ -352,7 +357,7 @@ module _ (sizes : List ℕ) (L : NodeLists) (k β n : ℕ) (masks X work : List 
 
                   unnew : (γ : ℕ) → γ < 32 * k → T (member G γ) → T (slots k w2 n γ) → ⊥
                   unnew γ l t s =
-                      clash (slots k w2 n γ) (both (member A γ) (not (slots k w2 n γ)) .0 (subst T (is-new k n w2 A G w3 few turning-room insideA lA tk2 γ l) t) .1) s
+                      clash (slots k w2 n γ) (both (member A γ) (not (slots k w2 n γ)) .0 (subst T (is-new k n w2 A G w3 few turning-room insideA tk2 γ l) t) .1) s
                     where
                       clash : (b : Bool) → T (not b) → T b → ⊥
                       clash true p q = p

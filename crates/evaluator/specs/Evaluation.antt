@@ -110,6 +110,8 @@ pub record Evaluated (sizes : List ℕ) (L : NodeLists) (k β n marks : ℕ) (X 
 pub record Took (k n : ℕ) (work X new work′ : List ℕ) : Type 0 where
   pub fresh : new ≡ differenceOf k X (slotAt k n work)
   pub stored : work′ ≡ withSlot k n work (unionOf k (slotAt k n work) X)
+  pub wide : length X ≡ 32
+  pub long : length new ≡ 32
 
 -- what the evaluator asks: legal sizes, well-formed lists and a node of them, k words for N packets, β and X below N, room for the slots
 pub record Ready (sizes : List ℕ) (L : NodeLists) (k β n : ℕ) (masks X work : List ℕ) : Type 0 where

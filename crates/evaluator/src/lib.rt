@@ -89,9 +89,126 @@ fn take_in(work: &mut [u32], n: usize, words: usize, set: PacketSet) -> PacketSe
     packet_set::difference(set, old, words)
 }
 
-fn wide(x: u16) -> usize
-    ensures { λ r. ⌜ r ≡ x ⌝ }
+// Inner. The set through node n: what has not entered the node before in this step goes on, and the marked dups pass on the
+// packet; later visits pass no mark. Slot n of the work list records what has entered node n. masks[n] has the dups in the tree of n.
+fn through(
+    kind: &[u8],
+    first: &[u16],
+    second: &[u16],
+    sizes: &[u16],
+    masks: &[u32],
+    words: usize,
+    packet: u16,
+    n: usize,
+    marks: Mask,
+    set: PacketSet,
+    work: &mut [u32],
+) -> PacketSet
+    requires { ⌜ Ready (now sizes) (asLists (now kind) (now first) (now second)) words packet n (now masks) set (now work) ⌝ }
+    ensures { λ r. ⌜ Evaluated (now (sizes .entry)) (asLists (now (kind .entry)) (now (first .entry)) (now (second .entry))) words packet n marks set (now (work .entry)) r (now (work .exit)) ⌝ }
 {
-    x as usize
+    let fresh = take_in(work, n, words, set);
+    let live = marks & masks[n];
+    if live == 0 {
+        if packet_set::is_empty(fresh, words) {
+            return packet_set::empty();
+        }
+    }
+    match policy::lent::node_at(kind, first, second, n) {
+        Node::Drop => packet_set::empty(),
+        Node::Id => fresh,
+        Node::Field(action) => image(sizes, action, fresh, words),
+        Node::Dup => {
+            if live == 0 {
+                return packet_set::empty();
+            }
+            packet_set::singleton(packet)
+        }
+        Node::Sum(l, r) => {
+            let a = through(
+                kind,
+                first,
+                second,
+                sizes,
+                masks,
+                words,
+                packet,
+                l as usize,
+                live,
+                fresh,
+                work,
+            );
+            let b = through(
+                kind,
+                first,
+                second,
+                sizes,
+                masks,
+                words,
+                packet,
+                r as usize,
+                live,
+                fresh,
+                work,
+            );
+            packet_set::union(a, b, words)
+        }
+        Node::Seq(l, r) => {
+            let a = through(
+                kind,
+                first,
+                second,
+                sizes,
+                masks,
+                words,
+                packet,
+                l as usize,
+                live,
+                fresh,
+                work,
+            );
+            through(
+                kind,
+                first,
+                second,
+                sizes,
+                masks,
+                words,
+                packet,
+                r as usize,
+                live,
+                a,
+                work,
+            )
+        }
+        Node::Star(c) => {
+            let child = c as usize;
+            let mut out = fresh;
+            let mut delta = fresh;
+            let mut left = live;
+            let mut again = true;
+            while again {
+                let given = through(
+                    kind,
+                    first,
+                    second,
+                    sizes,
+                    masks,
+                    words,
+                    packet,
+                    child,
+                    left,
+                    delta,
+                    work,
+                );
+                let new = take_in(work, n, words, given);
+                let grown = packet_set::union(out, new, words);
+                out = grown;
+                delta = new;
+                left = 0;
+                again = !packet_set::is_empty(new, words);
+            }
+            out
+        }
+    }
 }
-

@@ -20,7 +20,7 @@ same-length : tie.Need-same-length
 same-length c = search needs
 
 returns : tie.Need-returns
-returns c = took _ _ _ _ _ _ _ _ (c .before .before .before .before .before .before .load-slot .ensures) (c .before .before .before .before .union .ensures) (c .before .before .before .store-slot .ensures) (c .difference .ensures)
+returns c = took _ _ _ _ _ _ _ _ (c .before .before .before .before .before .before .load-slot .ensures) (c .before .before .before .before .union .ensures) (c .before .before .before .store-slot .ensures) (c .difference .ensures) (search needs) (search needs)
 
 pub take-in-spec : {M : Type 1} → statement M
 take-in-spec =
