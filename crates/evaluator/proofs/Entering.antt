@@ -55,7 +55,7 @@ zero-word zero i = refl
 zero-word (suc n) zero = refl
 zero-word (suc n) (suc i) = zero-word n i
 
-empty-word : (i : ℕ) → getD emptySet i 0 ≡ 0
+pub empty-word : (i : ℕ) → getD emptySet i 0 ≡ 0
 unfolding emptySet
 empty-word i = zero-word 32 i
 

@@ -5,3 +5,4 @@ pub mod Looping
 pub mod Acts
 pub mod Entering
 pub mod Evaluating
+pub mod Stepping

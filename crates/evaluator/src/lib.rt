@@ -6,7 +6,13 @@ ghost use Rattle.policy.specs.Legality.{fieldOf, valueOf};
 ghost use Rattle.packet_set.specs.Members.{member};
 ghost use Rattle.packet_set.specs.declared.Lowest.the-variants.{At};
 ghost use Rattle.policy.specs.AsLists.{asLists};
-ghost use Rattle.evaluator.specs.Evaluation.{Took, Ready, Evaluated};
+ghost use mathlib.Core.Bool.{_&&_};
+ghost use lib.Dec.{T, eqb};
+ghost use Rattle.packet_set.specs.Bits.{bit};
+ghost use Rattle.evaluator.specs.Evaluation.{DupMasks, slots, Took, Ready, Evaluated};
+ghost use Rattle.policy.specs.NodeLists.{nodeCount, isDup, one, dupsBelow, nodeAt};
+ghost use Rattle.packet_set.specs.Slots.{slotAt};
+ghost use Rattle.evaluator.specs.Steps.{nodeMask, KidsBelow, Formed, Marked, MarkedUnless, Gathered, Zeroed, GatherReady, Cleared, StepReady, Stepped};
 ghost use Rattle.evaluator.specs.Actions.{landing, withLanding, Image, Acting};
 use packet_set::Lowest;
 use packet_set::Mask;
@@ -211,4 +217,146 @@ fn through(
             out
         }
     }
+}
+
+// Inner. The number of the dups up to and with a node, where there are d before it.
+fn label_after(node: Node, d: u32) -> u32
+    requires { ⌜ d < 32 ⌝ }
+    ensures { λ r. ⌜ r ≡ d + one (isDup node) ⌝ }
+{
+    match node {
+        Node::Dup => d + 1,
+        Node::Drop => d,
+        Node::Id => d,
+        Node::Field(_) => d,
+        Node::Sum(_, _) => d,
+        Node::Seq(_, _) => d,
+        Node::Star(_) => d,
+    }
+}
+
+// Inner. The mask of the dups in the tree of a node, from the masks of its children.
+fn node_mask(node: Node, label: u32, masks: &[u32]) -> Mask
+    requires { ⌜ (label < 32) × KidsBelow (length (now masks)) node ⌝ }
+    ensures { λ r. ⌜ r ≡ nodeMask (now (masks .entry)) label node ⌝ }
+{
+    match node {
+        Node::Drop => 0,
+        Node::Id => 0,
+        Node::Field(_) => 0,
+        Node::Dup => packet_set::mark(0, label),
+        Node::Sum(l, r) => masks[l as usize] | masks[r as usize],
+        Node::Seq(l, r) => masks[l as usize] | masks[r as usize],
+        Node::Star(c) => masks[c as usize],
+    }
+}
+
+// Inner. The masks of the dups in the tree of each node.
+fn dup_masks(kind: &[u8], first: &[u16], second: &[u16], masks: &mut [u32])
+    requires { ⌜ Formed (asLists (now kind) (now first) (now second)) × (length (now kind) ≤ length (now masks)) ⌝ }
+    ensures { λ _. ⌜ DupMasks (asLists (now (kind .entry)) (now (first .entry)) (now (second .entry))) (now (masks .exit)) ⌝ }
+{
+    let mut label: u32 = 0;
+    let mut n = 0;
+    while n < kind.len() {
+        let node = policy::lent::node_at(kind, first, second, n);
+        let after = label_after(node, label);
+        masks[n] = node_mask(node, after, masks);
+        label = after;
+        n += 1;
+    }
+}
+
+// Inner. Marks the dup in the entry of each member of the set.
+fn mark_members(set: PacketSet, words: usize, label: u32, next: &mut [u32])
+    requires { ⌜ (words ≤ 32) × (label < 32) × ((γ : ℕ) → T (member set γ) → γ < length (now next)) ⌝ }
+    ensures { λ _. ⌜ Marked words label set (now (next .entry)) (now (next .exit)) ⌝ }
+{
+    let mut from: u16 = 0;
+    loop {
+        let Lowest::At(gamma) = packet_set::next_member(&set, from, words) else {
+            return;
+        };
+        let at = gamma as usize;
+        next[at] = packet_set::mark(next[at], label);
+        from = gamma + 1;
+    }
+}
+
+// Inner. Marks the dup at node n, whose number is `after`, in the entry of each packet that has entered it; no dup where none has been counted.
+fn mark_slot(work: &[u32], n: usize, words: usize, before: u32, after: u32, next: &mut [u32])
+    requires { ⌜ (words ≤ 32) × (after < 32) × (32 * n + words ≤ length (now work)) × ((before ≡ after → ⊥) → (γ : ℕ) → T (slots words (now work) n γ) → γ < length (now next)) ⌝ }
+    ensures { λ _. ⌜ MarkedUnless words before after (slotAt words n (now (work .entry))) (now (next .entry)) (now (next .exit)) ⌝ }
+{
+    if before == after {
+        return;
+    }
+    mark_members(packet_set::load_slot(work, n, words), words, after, next);
+}
+
+// Inner. The first entries become 0.
+fn zero_first(list: &mut [u32], count: usize)
+    requires { ⌜ count ≤ length (now list) ⌝ }
+    ensures { λ _. ⌜ Zeroed count (now (list .entry)) (now (list .exit)) ⌝ }
+{
+    let mut i = 0;
+    while i < count {
+        list[i] = 0;
+        i += 1;
+    }
+}
+
+// Inner. Next at each packet below N: the dups that the packet has entered, gathered by walking the dups' slots.
+fn gather(kind: &[u8], first: &[u16], second: &[u16], words: usize, count: usize, work: &[u32], next: &mut [u32])
+    requires { ⌜ GatherReady (asLists (now kind) (now first) (now second)) words count (now work) (now next) ⌝ }
+    ensures { λ _. ⌜ Gathered (asLists (now (kind .entry)) (now (first .entry)) (now (second .entry))) words count (length (now (kind .entry))) (now (work .entry)) (now (next .entry)) (now (next .exit)) ⌝ }
+{
+    zero_first(next, count);
+    let mut label: u32 = 0;
+    let mut n = 0;
+    while n < kind.len() {
+        let node = policy::lent::node_at(kind, first, second, n);
+        let after = label_after(node, label);
+        mark_slot(work, n, words, label, after, next);
+        label = after;
+        n += 1;
+    }
+}
+
+// Inner. The first words of the first slots become 0.
+fn clear(work: &mut [u32], slots: usize, words: usize)
+    requires { ⌜ (words ≤ 32) × (32 * slots ≤ length (now work)) ⌝ }
+    ensures { λ _. ⌜ Cleared words slots (now (work .entry)) (now (work .exit)) ⌝ }
+{
+    let mut n = 0;
+    while n < slots {
+        packet_set::store_slot(work, n, words, packet_set::empty());
+        n += 1;
+    }
+}
+
+// Inner. What enters the root: the packet if the whole policy is marked.
+fn start_set(state: Mask, packet: u16) -> PacketSet
+    requires { ⌜ packet < 1024 ⌝ }
+    ensures { λ r. ⌜ ((γ : ℕ) → member r γ ≡ bit state 0 && eqb γ packet) ⌝ }
+{
+    if packet_set::is_marked(state, 0) {
+        return packet_set::singleton(packet);
+    }
+    packet_set::empty()
+}
+
+// Inner. One step of a state of the policy at the root, at a packet; count is the packet count. Next at each packet goes to the lent list.
+pub fn step(kind: &[u8], first: &[u16], second: &[u16], root: usize, sizes: &[u16], count: u16, state: Mask, packet: u16, next: &mut [u32], work: &mut [u32]) -> PacketSet
+    requires { ⌜ StepReady (now sizes) (asLists (now kind) (now first) (now second)) count root packet (now next) (now work) ⌝ }
+    ensures { λ r. ⌜ Stepped (now (sizes .entry)) (asLists (now (kind .entry)) (now (first .entry)) (now (second .entry))) root state packet (now (next .entry)) (now (work .entry)) r (now (next .exit)) (now (work .exit)) ⌝ }
+{
+    let n = count as usize;
+    let words = packet_set::words_for(n);
+    let mut masks = [0u32; 512];
+    dup_masks(kind, first, second, &mut masks);
+    let out = through(kind, first, second, sizes, &masks, words, packet, root, state, start_set(state, packet), work);
+    gather(kind, first, second, words, n, work, next);
+    clear(work, kind.len(), words);
+    out
 }
