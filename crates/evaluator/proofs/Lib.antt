@@ -6,3 +6,4 @@ pub mod Acts
 pub mod Entering
 pub mod Evaluating
 pub mod Stepping
+pub mod Answering
