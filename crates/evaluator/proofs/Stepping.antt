@@ -354,7 +354,7 @@ module _ (L : NodeLists) (k N : ℕ) (work : List ℕ) where
         rd .few,
         let h = few-labels L (rd .formed) (suc n) l in let q = after-label in omega arith,
         let a = rd .few in let b = rd .slotRoom in omega arith,
-        λ d γ t. let b = rd .below n (is-dup d) γ t in let r = rd .room in omega (arith, g .long),
+        λ d γ t. let b = rd .below n l (is-dup d) γ t in let r = rd .room in omega (arith, g .long),
       )
 
       pub gathering-turn : (next′ : List ℕ) → length next′ ≡ length next → MarkedUnless k label after (slotAt k n work) next next′ → Gathering L k N work next₀ next′ (n + 1) after
@@ -420,7 +420,7 @@ module _ (L : NodeLists) (k N : ℕ) (work : List ℕ) where
               unmarked2 false x y z = refl
 
               outside : (γ : ℕ) → N ≤ γ → Dec (γ < 32 * k) → getD next′ γ 0 ≡ getD next γ 0
-              outside γ b (yes h) = m .inside γ h ∙ unmarked2 (member (slotAt k n work) γ) (marked (getD next γ 0) after) (getD next γ 0) (λ t. let x = rd .below n (is-dup q) γ (unfold slots in t) in absurd (omega arith))
+              outside γ b (yes h) = m .inside γ h ∙ unmarked2 (member (slotAt k n work) γ) (marked (getD next γ 0) after) (getD next γ 0) (λ t. let x = rd .below n l (is-dup q) γ (unfold slots in t) in absurd (omega arith))
               outside γ b (no h) = m .beyond γ (omega arith)
 
   pub gathering-end : (next next₀ next′ : List ℕ) (n label : ℕ) → Zeroed N next next₀ → Gathering L k N work next₀ next′ n label → nodeCount L ≤ n → Gathered L k N (nodeCount L) work next next′

@@ -76,7 +76,7 @@ pub record GatherReady (L : NodeLists) (k N : ℕ) (work next : List ℕ) : Type
   pub slotRoom : 32 * nodeCount L ≤ length work
   pub words : N ≤ 32 * k
   pub room : N ≤ length next
-  pub below : (j : ℕ) → nodeAt L j ≡ Dup → (γ : ℕ) → T (slots k work j γ) → γ < N
+  pub below : (j : ℕ) → j < nodeCount L → nodeAt L j ≡ Dup → (γ : ℕ) → T (slots k work j γ) → γ < N
 
 -- the first k words of the first n slots are 0, and all else is as it was
 pub record Cleared (k n : ℕ) (work work′ : List ℕ) : Type 0 where
