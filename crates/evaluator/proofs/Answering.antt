@@ -69,8 +69,8 @@ module _ (sizes : List ℕ) (L : NodeLists) (count root β : ℕ) (nexts work : 
     hold : product sizes ≤ 32 * k
     hold = subst (λ (x : ℕ). product sizes ≤ 32 * x) (sym words-are) (words-hold (product sizes))
 
-    pub clear-ready : (work1 : List ℕ) → length work1 ≡ length work → (k ≤ 32) × (32 * nodeCount L ≤ length work1)
-    clear-ready work1 e = let a = few in let b = rd .well .few in let d = rd .long in omega arith
+    pub clear-ready : (k ≤ 32) × (32 * nodeCount L ≤ length work)
+    clear-ready = let a = few in let b = rd .well .few in let d = rd .long in omega arith
 
     module _ (state : ℕ) (X : List ℕ) (ex : (γ : ℕ) → member X γ ≡ bit state 0 && eqb γ β) where
       at-β : (γ : ℕ) → T (member X γ) → T (bit state 0) × (γ ≡ β)
@@ -82,7 +82,15 @@ module _ (sizes : List ℕ) (L : NodeLists) (count root β : ℕ) (nexts work : 
 
       pub eval-ready : (masks : List ℕ) → DupMasks L masks → nodeCount L ≤ length masks → Ready sizes L k β root masks X work
       eval-ready masks d l = record {
-        legal = rd .legal; well = rd .well; words = words-are; packet = rd .packet; node = rd .node; dups = d; masked = l; below = belowX; long = rd .long;
+        legal = rd .legal;
+        well = rd .well;
+        words = words-are;
+        packet = rd .packet;
+        node = rd .node;
+        dups = d;
+        masked = l;
+        below = belowX;
+        long = rd .long;
       }
 
       -- what enters the root is what the state's mark of the whole policy passes on
@@ -182,7 +190,7 @@ module _ (sizes : List ℕ) (L : NodeLists) (count root β : ℕ) (nexts work : 
               back : (i : ℕ) → T (bit (nextMask sizes p (dupsBelow L (nodeCount L)) state β γ) i) → Entered L k (nodeCount L) work1 γ i
               back i t =
                   let a = all-in sizes L β (bit state) (slots k work1) (rd .well) p root (rd .node) (tree-of (rd .well) root (rd .node)) (member out) all-settled XN (packets-fit sizes (member X)) entered-root i γ
-                      (subst (λ (Z : PacketSet). T (bit (enter sizes (bit state) β p Z i) γ)) (sym enters-root) (subst T (is i) t)) in
+                  (subst (λ (Z : PacketSet). T (bit (enter sizes (bit state) β p Z i) γ)) (sym enters-root) (subst T (is i) t)) in
                   record { node = a .node; within = a .within; isDup = a .isDup; label = a .label; entered = a .entered }
 
           as-found : work2 ≡ work

@@ -307,7 +307,15 @@ fn zero_first(list: &mut [u32], count: usize)
 }
 
 // Inner. Next at each packet below N: the dups that the packet has entered, gathered by walking the dups' slots.
-fn gather(kind: &[u8], first: &[u16], second: &[u16], words: usize, count: usize, work: &[u32], next: &mut [u32])
+fn gather(
+    kind: &[u8],
+    first: &[u16],
+    second: &[u16],
+    words: usize,
+    count: usize,
+    work: &[u32],
+    next: &mut [u32],
+)
     requires { ⌜ GatherReady (asLists (now kind) (now first) (now second)) words count (now work) (now next) ⌝ }
     ensures { λ _. ⌜ Gathered (asLists (now (kind .entry)) (now (first .entry)) (now (second .entry))) words count (length (now (kind .entry))) (now (work .entry)) (now (next .entry)) (now (next .exit)) ⌝ }
 {
@@ -347,7 +355,18 @@ fn start_set(state: Mask, packet: u16) -> PacketSet
 }
 
 // Inner. One step of a state of the policy at the root, at a packet; count is the packet count. Next at each packet goes to the lent list.
-pub fn step(kind: &[u8], first: &[u16], second: &[u16], root: usize, sizes: &[u16], count: u16, state: Mask, packet: u16, next: &mut [u32], work: &mut [u32]) -> PacketSet
+pub fn step(
+    kind: &[u8],
+    first: &[u16],
+    second: &[u16],
+    root: usize,
+    sizes: &[u16],
+    count: u16,
+    state: Mask,
+    packet: u16,
+    next: &mut [u32],
+    work: &mut [u32],
+) -> PacketSet
     requires { ⌜ StepReady (now sizes) (asLists (now kind) (now first) (now second)) count root packet (now next) (now work) ⌝ }
     ensures { λ r. ⌜ Stepped (now (sizes .entry)) (asLists (now (kind .entry)) (now (first .entry)) (now (second .entry))) root state packet (now (next .entry)) (now (work .entry)) r (now (next .exit)) (now (work .exit)) ⌝ }
 {
@@ -355,7 +374,19 @@ pub fn step(kind: &[u8], first: &[u16], second: &[u16], root: usize, sizes: &[u1
     let words = packet_set::words_for(n);
     let mut masks = [0u32; 512];
     dup_masks(kind, first, second, &mut masks);
-    let out = through(kind, first, second, sizes, &masks, words, packet, root, state, start_set(state, packet), work);
+    let out = through(
+        kind,
+        first,
+        second,
+        sizes,
+        &masks,
+        words,
+        packet,
+        root,
+        state,
+        start_set(state, packet),
+        work,
+    );
     gather(kind, first, second, words, n, work, next);
     clear(work, kind.len(), words);
     out
