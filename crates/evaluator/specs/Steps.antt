@@ -1,0 +1,102 @@
+-- One step of a state: the work around the evaluator.
+use Prim.Native.Nat.{ℕ, zero, suc, _+_, _*_, _/_, _%_, _^_, _<_, _≤_}
+use mathlib.Core.Bool.{Bool, cond}
+use mathlib.Core.List.{List}
+use mathlib.Core.Logic.{_↔_}
+use mathlib.Core.Path.{_≡_}
+use lib.Bits.{bitOr}
+use lib.Dec.{T}
+use lib.ListN.{length, getD}
+use Rattle.packet.specs.Sizes.{product, LegalSizes}
+use Rattle.policy.specs.declared.Node.{Node}
+use Rattle.policy.specs.declared.Node.the-variants.{Drop, Id, Field, Dup, Sum, Seq, Star}
+use Rattle.policy.specs.Legality.{WellFormed}
+use Rattle.policy.specs.NodeLists.{NodeLists, nodeCount, nodeAt, children, dupsBelow}
+use Rattle.packet_set.specs.Bits.{bit, marked}
+use Rattle.packet_set.specs.Members.{member, wordsFor}
+use Rattle.automaton.specs.State.{outputMask, nextMask}
+use Rattle.evaluator.specs.Evaluation.{Members, Below, treeOf, slots}
+
+-- the mask of the dups in the tree of a node, from the masks of its children; `label` is the number of a dup node
+unfoldable pub nodeMask : List ℕ → ℕ → Node → ℕ
+nodeMask masks label Drop = 0
+nodeMask masks label Id = 0
+nodeMask masks label (Field a) = 0
+nodeMask masks label Dup = marked 0 label
+nodeMask masks label (Sum l r) = bitOr (getD masks l 0) (getD masks r 0)
+nodeMask masks label (Seq l r) = bitOr (getD masks l 0) (getD masks r 0)
+nodeMask masks label (Star c) = getD masks c 0
+
+-- the children of a node are below n
+unfoldable pub KidsBelow : ℕ → Node → Type 0
+KidsBelow n Drop = Unit
+KidsBelow n Id = Unit
+KidsBelow n (Field a) = Unit
+KidsBelow n Dup = Unit
+KidsBelow n (Sum l r) = (l < n) × (r < n)
+KidsBelow n (Seq l r) = (l < n) × (r < n)
+KidsBelow n (Star c) = c < n
+
+-- lists that are well formed for some sizes
+unfoldable pub Formed : NodeLists → Type 0
+Formed L = (sizes : List ℕ) × WellFormed sizes L
+
+-- bit `label` of the entry is marked for each member of the set
+pub record Marked (k label : ℕ) (X next next′ : List ℕ) : Type 0 where
+  pub inside : (γ : ℕ) → γ < 32 * k → getD next′ γ 0 ≡ cond (member X γ) (marked (getD next γ 0) label) (getD next γ 0)
+  pub beyond : (γ : ℕ) → 32 * k ≤ γ → getD next′ γ 0 ≡ getD next γ 0
+
+-- the same, unless no dup has been counted
+pub record MarkedUnless (k before after : ℕ) (X next next′ : List ℕ) : Type 0 where
+  pub same : before ≡ after → next′ ≡ next
+  pub marks : (before ≡ after → ⊥) → Marked k after X next next′
+
+-- a dup of the first n nodes has number i, and γ has entered it
+pub record Entered (L : NodeLists) (k n : ℕ) (work : List ℕ) (γ i : ℕ) : Type 0 where
+  pub node : ℕ
+  pub within : node < n
+  pub isDup : nodeAt L node ≡ Dup
+  pub label : i ≡ dupsBelow L (suc node)
+  pub entered : T (slots k work node γ)
+
+-- the entries below N mark the dups of the first n nodes that have been entered; the others are as they were
+pub record Gathered (L : NodeLists) (k N n : ℕ) (work next next′ : List ℕ) : Type 0 where
+  pub inside : (γ i : ℕ) → γ < N → T (bit (getD next′ γ 0) i) ↔ Entered L k n work γ i
+  pub beyond : (γ : ℕ) → N ≤ γ → getD next′ γ 0 ≡ getD next γ 0
+
+-- the first n entries are 0, the others as they were
+pub record Zeroed (n : ℕ) (list list′ : List ℕ) : Type 0 where
+  pub inside : (i : ℕ) → i < n → getD list′ i 0 ≡ 0
+  pub beyond : (i : ℕ) → n ≤ i → getD list′ i 0 ≡ getD list i 0
+
+-- what gathering asks: only packets below N have entered the dups
+pub record GatherReady (L : NodeLists) (k N : ℕ) (work next : List ℕ) : Type 0 where
+  pub formed : Formed L
+  pub few : k ≤ 32
+  pub slotRoom : 32 * nodeCount L ≤ length work
+  pub words : N ≤ 32 * k
+  pub room : N ≤ length next
+  pub below : (j : ℕ) → j < nodeCount L → nodeAt L j ≡ Dup → (γ : ℕ) → T (slots k work j γ) → γ < N
+
+-- the first k words of the first n slots are 0, and all else is as it was
+pub record Cleared (k n : ℕ) (work work′ : List ℕ) : Type 0 where
+  pub inside : (i : ℕ) → i / 32 < n → i % 32 < k → getD work′ i 0 ≡ 0
+  pub beyond : (i : ℕ) → (i / 32 < n → i % 32 < k → ⊥) → getD work′ i 0 ≡ getD work i 0
+
+-- what a step asks
+pub record StepReady (sizes : List ℕ) (L : NodeLists) (count root β : ℕ) (next work : List ℕ) : Type 0 where
+  pub legal : LegalSizes sizes
+  pub well : WellFormed sizes L
+  pub packets : count ≡ product sizes
+  pub node : root < nodeCount L
+  pub packet : β < product sizes
+  pub room : product sizes ≤ length next
+  pub long : 16384 ≤ length work
+  pub zero : (i : ℕ) → i < 16384 → getD work i 0 ≡ 0
+
+-- one step of a state of the policy at the root: the output, next at each packet, and the lent lists else as they were
+pub record Stepped (sizes : List ℕ) (L : NodeLists) (root state β : ℕ) (next work out next′ work′ : List ℕ) : Type 0 where
+  pub output : (γ : ℕ) → member out γ ≡ bit (outputMask sizes (treeOf L root) state β) γ
+  pub nexts : (γ : ℕ) → γ < product sizes → getD next′ γ 0 ≡ nextMask sizes (treeOf L root) (dupsBelow L (nodeCount L)) state β γ
+  pub beyond : (γ : ℕ) → product sizes ≤ γ → getD next′ γ 0 ≡ getD next γ 0
+  pub kept : work′ ≡ work
