@@ -157,6 +157,9 @@ def edges():
     yield sizes, [lists(chain([(DUP, 0, 0)] * 33, SUM))]
     yield sizes, [lists([(DUP, 0, 0), (SUM, 0, 0)])]
     yield sizes, [lists([(ID, 0, 0), (ID, 0, 0), (SEQ, 1, 1)])]
+    yield sizes, [lists([(ID, 0, 0), (STAR, 0, 0), (SUM, 1, 1)])]
+    for field in (0, 6, 7, 8):
+        yield [1, 2, 1, 2, 1, 2, 1, 2], [lists([(EQ, field, 1)])]
     yield sizes, [lists([(ID, 0, 0), (STAR, 0, 1)])]
     yield sizes, [lists([(ID, 0, 0), (ID, 0, 0)])]
     for kind in (EQ, NE, SET):

@@ -33,7 +33,7 @@ labels (sum p q) = labels p ++ labels q
 labels (seq p q) = labels p ++ labels q
 labels (star p) = labels p
 
--- no two dups have the same label, and the labels are 1 to k
+-- no two dups have the same label, and each label is between 1 and k
 pub record Labelled (k : ℕ) (p : Policy) : Type 0 where
   pub distinct : (i : ℕ) → occurrences i (labels p) ≤ 1
   pub least : (i : ℕ) → 0 < occurrences i (labels p) → 1 ≤ i

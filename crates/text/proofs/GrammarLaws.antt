@@ -359,7 +359,7 @@ read-derives names text p = (
 
 -- ---- cause 16
 
--- a legal text begins with these tokens
+-- some tokens complete these to a sequence that derives a tree
 unfoldable pub Viable : List Token → Type 0
 Viable ts = (us : List Token) × (p : Policy) × Sum (ts ++ us) p
 
