@@ -1,5 +1,5 @@
 -- The stages and the answer.
-use Prim.Native.Nat.{ℕ, zero, suc, pred, _+_, _≤_, _<_, min}
+use Prim.Native.Nat.{ℕ, pred, _+_, _≤_, _<_, min}
 use native.Mathlib.Omega.{arith}
 use native.Mathlib.Nat.{zero-add}
 use native.Mathlib.Numerals.{add-one}
@@ -12,7 +12,6 @@ use lib.ListN.{length}
 use borrow.Author.Tests.{lt-ltb, le-ltb, ltb-false, eqb-true, eqb-false, ne-eqb}
 use Rattle.packet.specs.Refusals.{refusal, refusedAt, firstOf}
 use Rattle.packet.specs.declared.Refusal.{Refusal}
-use Rattle.packet.specs.declared.Tested.{Tested}
 use Rattle.packet.specs.declared.Tested.the-variants.{Passed, Refused as Failed}
 use Rattle.policy.specs.Tree.{Policy}
 use Rattle.policy.specs.NodeLists.{NodeLists}
@@ -21,9 +20,9 @@ use Rattle.text.specs.declared.Answer.{Answer}
 use Rattle.text.specs.declared.Answer.the-variants.{Nodes, Refused}
 use Rattle.text.specs.Tokens.{Token, Placed, constant, field, number, comparison, plus, semicolon, asterisk, opening, closing, bad, isBad, tokensFrom, tokens, fieldNames}
 use Rattle.text.specs.Kinds.{kindOf, kindAt, placeAt, afterFront}
-use Rattle.text.specs.Reading.{Before, nothing, whole, upTo, joinSequence, joinSum, wants, has, start, Outcome, tree, stop, readOn}
+use Rattle.text.specs.Reading.{nothing, whole, upTo, joinSequence, joinSum, has, start, Outcome, tree, stop, readOn}
 use Rattle.text.specs.Answer.{badPlace, openAfter, deepPlace, stopPlace, treeRead, tooMany, answered, outcome, textTree, tested, answerTo, written, leftBy, shortest, TextRead}
-use Rattle.text.specs.Inner.{TokenFrom, openAfterKind, Ended, Counted, Entered, Past, sum, lists, putAll, Ready, Got, Done}
+use Rattle.text.specs.Inner.{TokenFrom, openAfterKind, Ended, Counted, Entered, Past, sum, lists, Ready, Got, Done}
 use Rattle.text.specs.declared.tokens.Token as Found
 use Rattle.text.specs.declared.Step as Stepped
 use Rattle.text.proofs.ReadLaws.{top-ends, top-stops}

@@ -1,6 +1,6 @@
 -- What the class of a byte tells.
 use Prim.Native.Nat.{ℕ, _<_}
-use mathlib.Core.Bool.{Bool, true, false, Bool·beq, _&&_, _||_}
+use mathlib.Core.Bool.{Bool, true, false, Bool·beq, _||_}
 use mathlib.Core.Path.{_≡_, refl}
 use lib.Dec.{T, eqb}
 use Rattle.text.specs.Bytes.{isBlank, isLetter, isDigit, inWord}

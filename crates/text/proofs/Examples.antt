@@ -1,20 +1,20 @@
 -- The definitions at small texts, by computation.
 use Prim.Native.Nat.{ℕ}
-use mathlib.Core.List.{List, [], _∷_, _++_}
+use mathlib.Core.List.{List, [], _∷_}
 use mathlib.Core.Path.{_≡_, refl}
 use lib.ListN.{replicate}
 use Rattle.packet.specs.Lowest.{lowest, orAt}
 use Rattle.packet.specs.Refusals.{refusal, refusedAt, firstOf}
-use Rattle.policy.specs.Tree.{Policy, drop, id, dup, sum, seq, star}
+use Rattle.policy.specs.Tree.{drop, id, dup, sum, seq, star}
 use Rattle.policy.specs.Tree
 use Rattle.policy.specs.NodesOfTree.{treeSize}
-use Rattle.policy.specs.declared.FieldAction.the-variants.{Equals, Differs, Set}
+use Rattle.policy.specs.declared.FieldAction.the-variants.{Equals}
 use Rattle.text.specs.declared.Answer.{Answer}
 use Rattle.text.specs.declared.Answer.the-variants.{Nodes, Refused}
 use Rattle.text.specs.Bytes.{isBlank, isLetter, isDigit, inWord}
 use Rattle.text.specs.Tokens.{sameWord, allDigits, decimal, leadingZero, isNumber, numberToken, fieldToken, fieldNamed, wordToken, singleMark, doubleMark, beginsDouble, markToken, wordOf, frontToken, isBad, restOfToken, placedFrom, tokensFrom, tokens, fieldNames}
 use Rattle.text.specs.Grammar.{constantPolicy, fieldAction}
-use Rattle.text.specs.Reading.{Outcome, tree, stop, nothing, joinSequence, joinSum, upTo, whole, start, close, step, finish, readOn}
+use Rattle.text.specs.Reading.{Outcome, tree, nothing, joinSequence, joinSum, upTo, whole, start, close, step, finish, readOn}
 use Rattle.text.specs.Answer.{badPlace, openAfter, deepPlace, stopPlace, treeRead, tooMany, answered, outcome, textTree, tested, answerTo}
 
 -- a text's reading and answer, which compute where these two are opened

@@ -1,22 +1,22 @@
 -- The reading finds exactly the trees that the tokens derive: at most one tree, and the byte of cause 16 is that of the first token (or the end)
 -- that no legal text continues with.
-use Prim.Native.Nat.{ℕ, zero, suc, _≤_, min}
+use Prim.Native.Nat.{ℕ, _≤_, min}
 use native.Mathlib.Omega.{arith}
 use mathlib.Core.Bool.{Bool, true, false, true≢false}
 use mathlib.Core.List.{List, [], _∷_, _++_, map, append-assoc, append-nil}
 use mathlib.Core.Logic.{_↔_}
 use mathlib.Core.Option.{Option, none, some}
-use mathlib.Core.Path.{_≡_, refl, sym, _∙_, ap, ap₂, subst, subst₂}
+use mathlib.Core.Path.{_≡_, refl, sym, _∙_, ap, subst, subst₂}
 use lib.ListN.{length}
 use Rattle.policy.specs.Tree.{Policy, sum, seq, star}
 use Rattle.policy.specs.Tree
 use Rattle.policy.specs.NodesOfTree.{treeSize}
-use Rattle.text.specs.declared.Answer.the-variants.{Nodes, Refused}
+use Rattle.text.specs.declared.Answer.the-variants.{Nodes}
 use Rattle.text.specs.Tokens.{Token, Placed, Constant, Comparison, passed, equals, constant, field, number, comparison, plus, semicolon, asterisk, opening, closing, bad, isBad, tokens}
 use Rattle.text.specs.Kinds.{placeAt}
 use Rattle.text.specs.Grammar.{constantPolicy, fieldAction, Item, Starred, Sequence, Sum, word, action, parentheses, item, starred, single, sequenced, alone, summed}
 use Rattle.text.specs.Reading.{Before, nothing, joinSequence, joinSum, upTo, whole, State, wants, named, compared, has, start, close, step, Outcome, tree, stop, finish, readOn}
-use Rattle.text.specs.Answer.{badPlace, deepPlace, stopPlace, treeRead, tooMany, outcome, textTree, answerTo}
+use Rattle.text.specs.Answer.{badPlace, deepPlace, stopPlace, treeRead, outcome, textTree, answerTo}
 use Rattle.text.proofs.AnswerLaws.{few-enough, count-parts, count-answers}
 
 -- the tokens without their places

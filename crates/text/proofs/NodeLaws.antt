@@ -3,14 +3,14 @@
 use Prim.Native.Nat.{ℕ, pred, _≤_, min}
 use native.Mathlib.Omega.{arith}
 use mathlib.Core.List.{List, [], _∷_}
-use mathlib.Core.Option.{Option, none, some}
-use mathlib.Core.Path.{_≡_, refl, sym, _∙_, ap, ap₂, subst}
+use mathlib.Core.Option.{Option, none}
+use mathlib.Core.Path.{_≡_, refl, sym, _∙_, ap, ap₂}
 use Rattle.packet.specs.Lowest.{lowest}
 use Rattle.packet.specs.Refusals.{refusedAt, atPlace, atZero, firstOf}
 use Rattle.packet.specs.declared.Tested.{Tested}
 use Rattle.packet.specs.declared.Tested.the-variants.{Passed, Refused as Failed}
 use Rattle.packet.proofs.Lowest.{none-lowest}
-use Rattle.policy.specs.Tree.{Policy, dup, sum, seq, star}
+use Rattle.policy.specs.Tree.{Policy, sum, seq, star}
 use Rattle.policy.specs.Meaning.{Packets, Traces}
 use Rattle.policy.specs.NodeLists.{NodeLists, nodeCount, policyOf}
 use Rattle.policy.specs.NodesOfTree.{treeSize, nodesOf, unlabelled}
@@ -19,11 +19,11 @@ use Rattle.policy.specs.Answers.{sided}
 use Rattle.policy.proofs.Congruence.{traces-unlabelled}
 use Rattle.policy.proofs.Nodes.{nodes-count, nodes-read-back, nodes-lengths, nodes-kinds, nodes-below, nodes-once}
 use Rattle.text.specs.declared.Answer.the-variants.{Nodes}
-use Rattle.text.specs.Tokens.{Token, Constant, Comparison, dropped, passed, recorded, tokens}
+use Rattle.text.specs.Tokens.{Token, Constant, Comparison, dropped, passed, recorded}
 use Rattle.text.specs.Grammar.{constantPolicy, fieldAction, Item, Starred, Sequence, Sum, word, action, parentheses, item, starred, single, sequenced, alone, summed}
 use Rattle.text.specs.Answer.{textTree, answerTo}
 use Rattle.text.proofs.AnswerLaws.{few-enough, count-parts}
-use Rattle.text.proofs.GrammarLaws.{bare, read-derives, tree-read}
+use Rattle.text.proofs.GrammarLaws.{read-derives, tree-read}
 
 -- the tree of a text has no numbers at its dups
 constant-unlabelled : (c : Constant) → unlabelled (constantPolicy c) ≡ constantPolicy c

@@ -1,19 +1,18 @@
 -- Writing entries one after the other, as far as there is room.
-use Prim.Native.Nat.{ℕ, zero, suc, pred, _+_, _-_, _≤_, _<_}
+use Prim.Native.Nat.{ℕ, suc, pred, _+_, _-_, _≤_, _<_}
 use native.Mathlib.Nat.{add-zero, zero-add}
 use native.Mathlib.Numerals.{sub-one}
 use native.Mathlib.Omega.{arith}
-use mathlib.Core.Bool.{Bool, true, false, cond}
-use mathlib.Core.List.{List, [], _∷_, _++_, map}
-use mathlib.Core.Path.{_≡_, refl, sym, _∙_, ap, ap₂, subst}
+use mathlib.Core.Bool.{Bool, true, false}
+use mathlib.Core.List.{List, [], _∷_, _++_}
+use mathlib.Core.Path.{_≡_, refl, sym, _∙_, ap, ap₂}
 use lib.Dec.{ltb}
-use lib.ListN.{length, set, drop, length-append, length-map, length-set}
+use lib.ListN.{length, set, drop, length-append, length-map}
 use lib.Seq.{sets, sets-eq}
 use borrow.Author.Tests.{lt-ltb, le-ltb, ltb-true}
-use Rattle.policy.specs.declared.FieldAction.the-variants.{Equals, Differs, Set}
 use Rattle.policy.specs.Tree.{Policy, drop as ⊥ₚ, id, field, dup, sum, seq, star}
 use Rattle.policy.specs.NodeLists.{NodeLists}
-use Rattle.policy.specs.NodesOfTree.{Entry, entry, actionEntry, treeSize, entriesFrom, listsOf}
+use Rattle.policy.specs.NodesOfTree.{Entry, entry, treeSize, entriesFrom, listsOf}
 use Rattle.policy.proofs.Nodes.{entries-length}
 use Rattle.text.specs.Answer.{written}
 use Rattle.text.specs.Inner.{putAt, putEntry, putAll, lists}

@@ -3,13 +3,13 @@ use Prim.Native.Nat.{ℕ, zero, suc, _<_}
 use native.Mathlib.Omega.{arith}
 use mathlib.Core.List.{List, [], _∷_}
 use mathlib.Core.Option.{Option, none, some}
-use mathlib.Core.Path.{_≡_, refl, sym, _∙_, ap, subst}
+use mathlib.Core.Path.{_≡_, refl, sym, _∙_, ap}
 use Rattle.policy.specs.Tree.{Policy, sum, seq, star}
 use Rattle.policy.specs.Tree
 use Rattle.text.specs.Tokens.{Token, Placed, Constant, Comparison, dropped, passed, recorded, equals, differs, assigned, constant, field, number, comparison, plus, semicolon, asterisk, opening, closing, bad}
 use Rattle.text.specs.Kinds.{kindOf, valueOf, constantKind, comparisonKind, kindAt, valueAt, placeAt, afterFront}
 use Rattle.text.specs.Grammar.{constantPolicy, fieldAction}
-use Rattle.text.specs.Reading.{Before, nothing, joinSequence, joinSum, upTo, whole, State, wants, named, compared, has, close, step, Outcome, tree, stop, finish, readOn}
+use Rattle.text.specs.Reading.{Before, nothing, joinSequence, joinSum, upTo, whole, State, wants, named, compared, has, close, step, tree, stop, finish, readOn}
 
 abbrev pub constantOf : ℕ → Constant
 constantOf zero = dropped

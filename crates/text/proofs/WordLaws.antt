@@ -1,20 +1,19 @@
 -- What the word functions go by.
-use Prim.Native.Nat.{ℕ, zero, suc, _+_, _-_, _*_, _≤_, _<_}
-use native.Mathlib.Nat.{le-of-suc-le-suc, not-suc-le-zero, eq-or-lt-of-le, le-refl, le-trans}
+use Prim.Native.Nat.{ℕ, _+_, _-_, _*_, _≤_, _<_}
+use native.Mathlib.Nat.{le-refl}
 use native.Mathlib.Omega.{arith}
-use mathlib.Core.Bool.{Bool, true, false, not, _&&_, cond, true≢false}
+use mathlib.Core.Bool.{Bool, true, false, _&&_, cond, true≢false}
 use mathlib.Core.List.{List, [], _∷_}
-use mathlib.Core.Logic.{⊎-elim}
-use mathlib.Core.Option.{Option, none, some}
+use mathlib.Core.Option.{Option, none}
 use mathlib.Core.Path.{_≡_, refl, sym, _∙_, ap, ap₂, subst}
-use lib.Dec.{T, eqb, leb, ltb}
+use lib.Dec.{eqb, leb}
 use lib.ListN.{length, getD, take, drop}
-use borrow.Author.Tests.{eqb-true, eq-eqb, le-leb, lt-leb, leb-true, leb-false, le-ltb, lt-ltb}
+use borrow.Author.Tests.{eqb-true, eq-eqb, le-leb, lt-leb, leb-true, le-ltb, lt-ltb}
 use Rattle.packet.specs.Lowest.{lowest}
 use Rattle.packet.proofs.Lowest.{lowest-found, lowest-none-whole}
 use Rattle.packet.proofs.Tests.{and-true, T-true}
 use Rattle.text.specs.Bytes.{isDigit}
-use Rattle.text.specs.Tokens.{Token, constant, dropped, passed, recorded, field, number, bad, sameWord, allDigits, decimal, leadingZero, isNumber, numberToken, fieldNames, fieldNamed, fieldToken, wordToken}
+use Rattle.text.specs.Tokens.{Token, number, bad, sameWord, allDigits, decimal, leadingZero, isNumber, numberToken, fieldNames, fieldNamed, fieldToken, wordToken}
 use Rattle.text.specs.Kinds.{kindOf, valueOf, constantKind}
 use Rattle.text.specs.Inner.{numberFrom, Named, NumbersOf}
 use Rattle.text.proofs.Below.{below}

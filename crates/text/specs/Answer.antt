@@ -1,6 +1,6 @@
 -- What the reader answers and leaves in the lent lists: causes 14 to 17 of document 01, each over the whole text before the next.
-use Prim.Native.Nat.{ℕ, zero, suc, pred, min}
-use mathlib.Core.Bool.{Bool, true, false, cond}
+use Prim.Native.Nat.{ℕ, suc, pred, min}
+use mathlib.Core.Bool.{true, false, cond}
 use mathlib.Core.List.{List, [], _∷_, _++_}
 use mathlib.Core.Option.{Option, none, some}
 use mathlib.Core.Path.{_≡_}

@@ -1,6 +1,6 @@
 -- Classes of bytes, by ranges of the byte (document 01, "Text").
 use Prim.Native.Nat.{ℕ}
-use mathlib.Core.Bool.{Bool, cond, _&&_, _||_}
+use mathlib.Core.Bool.{Bool, _&&_, _||_}
 use lib.Dec.{leb, eqb}
 
 -- space and tab

@@ -1,7 +1,7 @@
 -- What the inner functions of the reader promise.
-use Prim.Native.Nat.{ℕ, zero, suc, pred, _+_, _-_, _≤_, _<_}
+use Prim.Native.Nat.{ℕ, suc, pred, _+_, _-_, _≤_, _<_}
 use mathlib.Core.Bool.{true, false, cond, _&&_}
-use mathlib.Core.List.{List, [], _∷_, _++_}
+use mathlib.Core.List.{List, [], _∷_}
 use mathlib.Core.Option.{Option, none, some}
 use mathlib.Core.Path.{_≡_}
 use lib.Dec.{leb, ltb, eqb}
@@ -10,9 +10,9 @@ use Rattle.policy.specs.Tree.{Policy}
 use Rattle.policy.specs.NodeLists.{NodeLists}
 use Rattle.policy.specs.NodesOfTree.{Entry, entry, treeSize, entriesFrom}
 use Rattle.text.specs.Bytes.{isBlank}
-use Rattle.text.specs.Tokens.{Token, Placed, allDigits, decimal, frontToken, restOfToken, tokensFrom, fieldNames}
+use Rattle.text.specs.Tokens.{Token, allDigits, decimal, frontToken, restOfToken, tokensFrom, fieldNames}
 use Rattle.text.specs.Kinds.{kindOf, valueOf, kindAt, valueAt, placeAt, afterFront}
-use Rattle.text.specs.Reading.{Before, nothing, State, wants, has, Outcome, stop, readOn}
+use Rattle.text.specs.Reading.{Before, nothing, wants, has, stop, readOn}
 use Rattle.text.specs.Answer.{stopPlace, outcome, textTree}
 use Rattle.text.specs.declared.tokens.Token as Found
 use Rattle.text.specs.declared.Step as Stepped

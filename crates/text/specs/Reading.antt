@@ -4,7 +4,7 @@ use mathlib.Core.List.{List, [], _∷_}
 use mathlib.Core.Option.{Option, none, some}
 use Rattle.policy.specs.Tree.{Policy, sum, seq, star}
 use Rattle.policy.specs.Tree
-use Rattle.text.specs.Tokens.{Token, Placed, Constant, Comparison, constant, field, number, comparison, plus, semicolon, asterisk, opening, closing, bad}
+use Rattle.text.specs.Tokens.{Token, Placed, Comparison, constant, field, number, comparison, plus, semicolon, asterisk, opening, closing, bad}
 use Rattle.text.specs.Grammar.{constantPolicy, fieldAction}
 
 -- what stands before the present item inside the same parentheses: sequences joined by +, then starred items joined by ;

@@ -1,12 +1,12 @@
 -- Tokens of a text (document 01, "Text"). The table of field names is a parameter.
-use Prim.Native.Nat.{ℕ, zero, suc, pred, _+_, _-_, _*_}
+use Prim.Native.Nat.{ℕ, zero, suc, _+_, _-_, _*_}
 use mathlib.Core.Bool.{Bool, true, false, cond, not, _&&_, _||_}
 use mathlib.Core.List.{List, [], _∷_}
 use mathlib.Core.Option.{Option, none, some}
 use lib.Dec.{leb, ltb, eqb}
 use lib.ListN.{length, getD, drop}
 use Rattle.packet.specs.Lowest.{lowest}
-use Rattle.text.specs.Bytes.{isBlank, isLetter, isDigit, inWord}
+use Rattle.text.specs.Bytes.{isBlank, isDigit, inWord}
 
 -- drop, id and dup
 pub data Constant : Type 0 where

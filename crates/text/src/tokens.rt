@@ -6,8 +6,8 @@ ghost use mathlib.Core.Bool.{true, false};
 ghost use Prim.Native.Nat.{_+_, _≤_, _<_};
 ghost use lib.ListN.{length, getD, drop};
 ghost use Rattle.text.specs.Bytes.{isBlank, inWord};
-ghost use Rattle.text.specs.Tokens.{wordOf, doubleMark, beginsDouble, singleMark};
-ghost use Rattle.text.specs.Kinds.{valueOf, classOf};
+ghost use Rattle.text.specs.Tokens.{wordOf, doubleMark, beginsDouble};
+ghost use Rattle.text.specs.Kinds.{valueOf};
 ghost use Rattle.text.specs.Inner.{Skipped, FrontAt, TokenFrom};
 
 // A token by its numbers, with the byte at which it starts and the byte after it.

@@ -4,7 +4,6 @@
 use text::Answer;
 ghost use mathlib.Core.Path.{_≡_};
 ghost use Prim.Native.Nat.{_≤_};
-ghost use lib.ListN.{length};
 
 // How long a text is so far, and the place of the input behind what was read.
 struct Built {

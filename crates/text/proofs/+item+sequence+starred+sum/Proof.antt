@@ -1,9 +1,8 @@
 -- The cycle of readers: sum, sequence, starred item, item. Only a parenthesis goes deeper, and it takes a byte: the measure is four times
 -- the bytes left, and the reader's rank.
-use borrow.Author.Needs.{needs}
 use Prim.Native.Nat.{ℕ, _<_, _+_, _-_, _*_}
 use native.Mathlib.Omega.{arith}
-use mathlib.Core.Path.{_≡_, _∙_}
+use mathlib.Core.Path.{_∙_}
 use lib.ListN.{length}
 use Rattle.text.specs.Inner as level
 use Rattle.text.proofs.StepLaws.{kind-not, opened, sequence-next, sum-next}

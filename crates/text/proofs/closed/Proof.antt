@@ -1,5 +1,4 @@
 -- `closed` meets its contract.
-use borrow.Author.Needs.{needs}
 use Rattle.text.proofs.StepLaws.{closed-shut, closed-unshut, closed-failed}
 use Rattle.text.proofs.closed.Statement.{statement}
 use Rattle.text.proofs.closed.Tie as tie

@@ -1,5 +1,4 @@
 -- `ended` meets its contract.
-use borrow.Author.Needs.{needs}
 use Rattle.text.proofs.AnswerLaws.{ended-over, ended-more, ended-failed}
 use Rattle.text.proofs.ended.Statement.{statement}
 use Rattle.text.proofs.ended.Tie as tie

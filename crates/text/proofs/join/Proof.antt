@@ -1,6 +1,5 @@
 -- `join` meets its contract.
 use borrow.Author.Needs.{needs}
-use Prim.Native.Nat.{ℕ, _<_, _^_}
 use mathlib.Core.List.{[]}
 use native.Mathlib.Omega.{arith}
 use Rattle.text.proofs.StepLaws.{joined-made, joined-failed}

@@ -1,7 +1,6 @@
 -- `leaf_item` meets its contract.
 use borrow.Author.Needs.{needs}
 use mathlib.Core.Path.{sym, subst}
-use borrow.Author.Tests.{not-true, not-false}
 use Rattle.text.specs.Inner.{LeafDone}
 use Rattle.text.proofs.StepLaws.{leaf-constant, leaf-none, leaf-named, leaf-compared, leaf-action}
 use Rattle.text.proofs.leaf_item.Statement.{statement}

@@ -1,5 +1,4 @@
 -- `refuse` meets its contract.
-use borrow.Author.Needs.{needs}
 use mathlib.Core.Path.{refl}
 use Rattle.packet.specs.Refusals.{refusal}
 use Rattle.text.proofs.refuse.Statement.{statement}

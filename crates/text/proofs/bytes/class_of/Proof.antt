@@ -2,11 +2,10 @@
 use Prim.Native.Nat.{ℕ, _<_}
 use mathlib.Core.Path.{_∙_, ap, sym, subst}
 use native.Mathlib.Nat.{zero-add}
-use lib.ListN.{getD}
 use Rattle.text.specs.Bytes.{isBlank, isLetter, isDigit}
 use Rattle.text.specs.Tokens.{singleMark, beginsDouble}
 use Rattle.text.specs.Kinds.{classOf, kindOf}
-use Rattle.text.proofs.Below.{table, table-at}
+use Rattle.text.proofs.Below.{table-at}
 use borrow.Author.Needs.{needs}
 use Rattle.text.proofs.bytes.class_of.Statement.{statement}
 use Rattle.text.proofs.bytes.class_of.Tie as tie

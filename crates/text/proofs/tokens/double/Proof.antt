@@ -1,9 +1,6 @@
 -- `tokens::double` meets its contract.
-use borrow.Author.Needs.{needs}
-use Prim.Native.Nat.{ℕ}
-use mathlib.Core.Path.{_≡_, refl, sym, _∙_, ap}
+use mathlib.Core.Path.{sym, ap}
 use borrow.Author.Tests.{eq-eqb, ne-eqb}
-use Rattle.text.specs.Tokens.{doubleMark}
 use Rattle.text.specs.Kinds.{valueOf}
 use Rattle.text.proofs.TokenLaws.{double-33, double-60, double-other}
 use Rattle.text.proofs.tokens.double.Statement.{statement}

@@ -1,13 +1,12 @@
 -- `tokens::skip` meets its contract.
 use borrow.Author.Needs.{needs}
-use Prim.Native.Nat.{ℕ, _≤_, _<_, _-_, _+_, suc}
-use mathlib.Core.Bool.{true, false}
+use Prim.Native.Nat.{_≤_, _-_}
 use mathlib.Core.Path.{_≡_, refl, sym, _∙_, ap}
 use native.Mathlib.Omega.{arith}
 use native.Mathlib.Numerals.{add-one}
 use native.Mathlib.Nat.{not-le-of-lt}
 use borrow.Author.Tests.{not-true, not-false}
-use lib.ListN.{length, getD, drop}
+use lib.ListN.{length}
 use Rattle.text.specs.Tokens.{tokensFrom, fieldNames}
 use Rattle.text.proofs.TokenLaws.{from-blank}
 use Rattle.text.proofs.tokens.skip.Statement.{statement}

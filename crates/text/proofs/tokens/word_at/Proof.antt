@@ -1,6 +1,5 @@
 -- `tokens::word_at` meets its contract.
 use borrow.Author.Needs.{needs}
-use native.Mathlib.Omega.{arith}
 use native.Mathlib.Nat.{le-of-lt}
 use Rattle.text.proofs.TokenLaws.{front-word, word-within}
 use Rattle.text.proofs.tokens.word_at.Statement.{statement}

@@ -1,12 +1,11 @@
 -- `tokens::word_end` meets its contract.
 use borrow.Author.Needs.{needs}
-use Prim.Native.Nat.{ℕ, _≤_, _<_, _-_, _+_, suc}
-use mathlib.Core.Bool.{true, false}
+use Prim.Native.Nat.{_≤_, _-_, _+_}
 use mathlib.Core.Path.{_≡_, refl, sym, _∙_, ap}
 use native.Mathlib.Omega.{arith}
 use native.Mathlib.Numerals.{add-one}
 use borrow.Author.Tests.{not-true, not-false}
-use lib.ListN.{length, getD, drop}
+use lib.ListN.{length, drop}
 use Rattle.text.specs.Tokens.{wordOf}
 use Rattle.text.proofs.TokenLaws.{word-more, word-stops, word-none}
 use Rattle.text.proofs.tokens.word_end.Statement.{statement}

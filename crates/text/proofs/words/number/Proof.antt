@@ -1,9 +1,7 @@
 -- `words::number` meets its contract.
 use borrow.Author.Needs.{needs}
-use mathlib.Core.Path.{_≡_, sym, _∙_}
+use mathlib.Core.Path.{sym, _∙_}
 use native.Mathlib.Omega.{arith}
-use Prim.Native.Nat.{_<_}
-use Rattle.text.specs.Inner.{numberFrom}
 use Rattle.text.proofs.WordLaws.{bad-numbers, number-zero, number-over, number-is}
 use Rattle.text.proofs.words.number.Statement.{statement}
 use Rattle.text.proofs.words.number.Tie as tie

@@ -1,8 +1,8 @@
 -- `words::number_from` meets its contract. The loop's invariant: what is left makes the same number after the digits passed.
 use borrow.Author.Needs.{needs}
-use Prim.Native.Nat.{ℕ, _≤_, _-_, _+_, _*_, suc}
+use Prim.Native.Nat.{_≤_, _-_}
 use mathlib.Core.Path.{_≡_, refl, sym, _∙_, ap}
-use mathlib.Core.Bool.{true, false}
+use mathlib.Core.Bool.{true}
 use native.Mathlib.Omega.{arith}
 use native.Mathlib.Numerals.{add-one}
 use borrow.Author.Tests.{not-true, not-false}
@@ -10,7 +10,7 @@ use lib.ListN.{length, getD, drop, drop-of-length-le}
 use lib.Seq.{drop-cons}
 use Rattle.text.specs.Bytes.{isDigit}
 use Rattle.text.specs.Inner.{numberFrom}
-use Rattle.text.proofs.WordLaws.{number-none, number-more, number-not, number-large, digit-high, digit-low}
+use Rattle.text.proofs.WordLaws.{number-none, number-more, number-not, number-large, digit-high}
 use Rattle.text.proofs.words.number_from.Statement.{statement}
 use Rattle.text.proofs.words.number_from.Tie as tie
 
