@@ -339,8 +339,8 @@ fn ended(text: &[u8], s: Step) -> Step
     s
 }
 
-// The nodes of the whole text, none of them written. Cause 15 must have passed: that no more than 64 parentheses are open bounds the depth of
-// the recursion.
+// The nodes of the whole text, none of them written. The test of cause 15 must have passed: at most 64 open parentheses bound the depth of the
+// recursion.
 fn count(text: &[u8]) -> Step
     ensures { λ r. ⌜ Counted (now (text .entry)) r ⌝ }
 {
