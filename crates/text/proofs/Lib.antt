@@ -3,6 +3,7 @@ pub mod Below
 pub mod ByteLaws
 pub mod WordLaws
 pub mod TokenLaws
+pub mod TokensLeft
 pub mod ReadLaws
 pub mod PutLaws
 pub mod StepLaws

@@ -1,20 +1,22 @@
 -- What the loops of the readers keep, and what their calls ask.
-use Prim.Native.Nat.{ℕ, suc, _+_, _-_, _≤_, _<_, _^_}
+use Prim.Native.Nat.{ℕ, zero, suc, _+_, _-_, _≤_, _<_, _^_}
+use native.Mathlib.Nat.{le-refl, le-of-lt}
 use native.Mathlib.Omega.{arith}
-use mathlib.Core.Bool.{Bool, true, false, cond}
+use mathlib.Core.Bool.{Bool, true, false, cond, true≢false}
 use mathlib.Core.List.{List}
-use mathlib.Core.Path.{_≡_, refl, sym, _∙_, ap}
+use mathlib.Core.Path.{_≡_, refl, sym, _∙_, ap, subst}
 use lib.ListN.{length}
 use Rattle.policy.specs.NodeLists.{NodeLists}
-use Rattle.policy.specs.NodesOfTree.{entry}
+use Rattle.policy.specs.NodesOfTree.{entry, treeSize}
 use Rattle.text.specs.Tokens.{tokensFrom, fieldNames}
 use Rattle.text.specs.Kinds.{kindAt}
 use Rattle.text.specs.Inner.{Level, item, starred, joined, sequence, added, sum, Entered, lists, putEntry, Ready, TokenFrom, LeafDone, Joined, Got, Done}
 use Rattle.text.specs.declared.tokens.Token as Found
 use Rattle.text.specs.declared.Step as Stepped
 use Rattle.text.specs.declared.Leaf as Leaves
+use Rattle.text.proofs.TokensLeft.{no-more, fewer-next}
 use Rattle.text.proofs.PutLaws.{size-pos}
-use Rattle.text.proofs.StepLaws.{leaf-item, star-turn, star-ends, sequence-starts, sequence-ends, sum-starts, sum-ends, done-got, done-stopped, done-as}
+use Rattle.text.proofs.StepLaws.{kind-not, leaf-item, star-turn, star-ends, sequence-starts, sequence-ends, sum-starts, sum-ends, done-got, done-stopped, done-as, sequence-next, sum-next}
 
 -- from where the loop begins to where it is: the lengths, and what has been done since the reader began at the lists E
 pub record Kept (l : Level) (text : List ℕ) (at nodes room : ℕ) (K₀ F₀ S₀ : List ℕ) (s₀ : Stepped.Step) (K F S : List ℕ) (s : Stepped.Step) : Type 0 where
@@ -23,9 +25,9 @@ pub record Kept (l : Level) (text : List ℕ) (at nodes room : ℕ) (K₀ F₀ S
   pub seconds : length S ≡ length S₀
   pub chain : (E : NodeLists) → Done l text at nodes room E s₀ (lists K₀ F₀ S₀) → Done l text at nodes room E s (lists K F S)
 
--- what is left to read, and nothing once a reader has stopped
+-- the tokens left to read and the end, and nothing once a reader has stopped
 abbrev pub left : List ℕ → Stepped.Step → ℕ
-left text s = cond (s .ok) (suc (length text - s .at)) 0
+left text s = cond (s .ok) (suc (length (tokensFrom fieldNames text (s .at)))) 0
 
 module _ (text : List ℕ) (room : ℕ) where
   pub kept-none : {l : Level} {at nodes : ℕ} (K F S : List ℕ) (s : Stepped.Step) → Kept l text at nodes room K F S s K F S s
@@ -102,7 +104,7 @@ module _ (text : List ℕ) (room : ℕ) where
 
   -- a turn that has read one more * leaves less
   pub star-less : (s : Stepped.Step) (n : ℕ) {k : ℕ} {t : Found.Token} → s .ok ≡ true → TokenFrom text (s .at) t → t .kind ≡ k → (k ≡ 1 → ⊥) → left text (record { ok = true; at = t .next; nodes = n }) < left text s
-  star-less s n o f e h = rw o (omega (arith, onward f e h, f .within))
+  star-less s n o f e h = rw o (omega (arith, fewer-next text (le-refl (s .at)) f e h))
 
   -- a turn that has read one more operand, or stopped at it, leaves less
   pub join-less : {l : Level} {k j left₀ : ℕ} {L₁ L₂ L₃ : NodeLists} {s r s′ : Stepped.Step} {t : Found.Token} → s .ok ≡ true → TokenFrom text (s .at) t → t .kind ≡ k → (k ≡ 1 → ⊥)
@@ -110,7 +112,7 @@ module _ (text : List ℕ) (room : ℕ) where
   join-less {s = s} {r = r} {s′ = s′} {t = t} o f e h d j = go (r .ok) refl
     where
       go : (b : Bool) → r .ok ≡ b → left text s′ < left text s
-      go true q = rw (j .made q .0, o) (omega (arith, onward f e h, d .got q .onward, d .got q .within))
+      go true q = rw (j .made q .0, o) (omega (arith, fewer-next text (le-refl (s .at)) f e h, no-more fieldNames text (t .next) (r .at) (le-of-lt (d .got q .onward))))
       go false q = rw (j .failed q .0, q, o) (omega arith)
 
   -- what joining asks

@@ -21,17 +21,17 @@ use Rattle.text.proofs.WordLaws.{and-false}
 use Rattle.packet.proofs.Tests.{or-false, T-true}
 
 module _ (names : List (List ℕ)) where
-  placed-over : (k at : ℕ) (bs : List ℕ) → placedFrom names k at bs ≡ placedFrom names 0 (k + at) (drop k bs)
+  pub placed-over : (k at : ℕ) (bs : List ℕ) → placedFrom names k at bs ≡ placedFrom names 0 (k + at) (drop k bs)
   unfolding placedFrom
   placed-over zero at bs = ap (λ (n : ℕ). placedFrom names 0 n bs) (sym (zero-add at))
   placed-over (suc k) at [] = refl
   placed-over (suc k) at (b ∷ bs) = placed-over k (suc at) bs ∙ ap (λ (n : ℕ). placedFrom names 0 n (drop k bs)) (omega arith)
 
-  placed-blank : (at b : ℕ) (bs : List ℕ) → isBlank b ≡ true → placedFrom names 0 at (b ∷ bs) ≡ placedFrom names 0 (suc at) bs
+  pub placed-blank : (at b : ℕ) (bs : List ℕ) → isBlank b ≡ true → placedFrom names 0 at (b ∷ bs) ≡ placedFrom names 0 (suc at) bs
   unfolding placedFrom
   placed-blank at b bs e = rw (e, placedFrom)
 
-  placed-front : (at b : ℕ) (bs : List ℕ) → isBlank b ≡ false
+  pub placed-front : (at b : ℕ) (bs : List ℕ) → isBlank b ≡ false
       → placedFrom names 0 at (b ∷ bs) ≡ record { token = frontToken names b bs; start = at } ∷ placedFrom names (restOfToken b bs) (suc at) bs
   unfolding placedFrom
   placed-front at b bs e = rw (e, placedFrom)

@@ -3,6 +3,7 @@ ghost use mathlib.Core.Path.{_≡_};
 ghost use Rattle.text.specs.Bytes.{isBlank, isDigit, inWord};
 ghost use Rattle.text.specs.Kinds.{classOf};
 
+// The class of each byte: 0 starts no token, 1 blank, 2 letter, 3 digit, 4 begins a mark of two bytes, else the kind of the mark that it is.
 const CLASSES: [u8; 256] = [
     0,
     0,

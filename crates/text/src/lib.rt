@@ -1,4 +1,5 @@
 // The text reader (document 01, "Text").
+// Kinds of tokens: 0 bad, 1 the end, 2 constant, 3 field, 4 number, 5 comparison, 6 +, 7 ;, 8 *, 9 (, 10 ).
 use packet::Refusal;
 use packet::Tested;
 
@@ -41,6 +42,7 @@ struct Leaf {
     second: u16,
 }
 
+// No item: the reading stops at the byte.
 fn stopped(at: usize) -> Leaf
     ensures { λ r. ⌜ r ≡ record { ok = false; at = at; kind = 0; first = 0; second = 0 } ⌝ }
 {
@@ -53,6 +55,7 @@ fn stopped(at: usize) -> Leaf
     }
 }
 
+// A kind of node as a byte; every kind is below 256.
 fn small(k: u16) -> u8
     ensures { λ r. ⌜ (k < 256 → r ≡ k) ⌝ }
 {
@@ -62,6 +65,7 @@ fn small(k: u16) -> u8
     0
 }
 
+// The item at a byte, where no parenthesis opens.
 fn leaf_item(text: &[u8], at: usize) -> Leaf
     requires { ⌜ (at ≤ length (now text)) × (kindAt (tokensFrom fieldNames (now text) at) ≡ 9 → ⊥) ⌝ }
     ensures { λ r. ⌜ LeafDone (now (text .entry)) at r ⌝ }
@@ -118,6 +122,7 @@ fn put(
     }
 }
 
+// The number of a node as the lists hold it; where there is room for a node, its number is below 512.
 fn number_of(n: usize) -> u16
     ensures { λ r. ⌜ (n < 65536 → r ≡ n) ⌝ }
 {
@@ -334,7 +339,8 @@ fn ended(text: &[u8], s: Step) -> Step
     s
 }
 
-// The nodes of the whole text, none of them written.
+// The nodes of the whole text, none of them written. The test of cause 15 must have passed: at most 64 open parentheses bound the depth of the
+// recursion.
 fn count(text: &[u8]) -> Step
     ensures { λ r. ⌜ Counted (now (text .entry)) r ⌝ }
 {
@@ -345,6 +351,7 @@ fn count(text: &[u8]) -> Step
     ended(text, s)
 }
 
+// A refusal of the text: a call on one text carries side 0.
 fn refuse(number: u8, place: usize) -> Refusal
     ensures { λ r. ⌜ r ≡ refusal number 0 place ⌝ }
 {
@@ -372,6 +379,7 @@ fn token_stage(text: &[u8]) -> Tested
     }
 }
 
+// How many parentheses are open after a token of kind k.
 fn open_after(n: usize, k: u8) -> usize
     requires { ⌜ n ≤ 64 ⌝ }
     ensures { λ r. ⌜ r ≡ openAfterKind n k ⌝ }
@@ -441,6 +449,7 @@ fn test(text: &[u8], room: usize) -> Answer
     size_stage(text, room)
 }
 
+// The lesser of two lengths.
 fn least(a: usize, b: usize) -> usize
     ensures { λ r. ⌜ r ≡ min a b ⌝ }
 {

@@ -33,12 +33,14 @@ pub struct Word {
     pub value: u16,
 }
 
+// Whether the word is the name, byte for byte.
 fn is(w: &[u8], name: &[u8]) -> bool
     ensures { λ r. ⌜ r ≡ sameWord (now (w .entry)) (now (name .entry)) ⌝ }
 {
     check::same(w, name)
 }
 
+// The value of a digit.
 fn digit(b: u8) -> u32
     requires { ⌜ isDigit b ≡ true ⌝ }
     ensures { λ r. ⌜ r ≡ b - 48 ⌝ }
@@ -46,6 +48,7 @@ fn digit(b: u8) -> u32
     (b - 48) as u32
 }
 
+// The value of the digits, or 65,536 where they are no digits or make more than 65,535.
 fn number_from(w: &[u8]) -> u32
     ensures { λ r. ⌜ r ≡ numberFrom 0 (now (w .entry)) ⌝ }
 {

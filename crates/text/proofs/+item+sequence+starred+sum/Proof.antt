@@ -1,11 +1,15 @@
--- The cycle of readers: sum, sequence, starred item, item. Only a parenthesis goes deeper, and it takes a byte: the measure is four times
--- the bytes left, and the reader's rank.
-use Prim.Native.Nat.{ℕ, _<_, _+_, _-_, _*_}
+-- The cycle of readers: sum, sequence, starred item, item. Each calls one of a lower rank, or one after a token that it has read: the measure
+-- is four times the tokens left, and the reader's rank.
+use borrow.Author.Needs.{needs}
+use Prim.Native.Nat.{ℕ, _<_, _+_, _*_}
+use native.Mathlib.Nat.{le-refl, le-of-lt}
 use native.Mathlib.Omega.{arith}
-use mathlib.Core.Path.{_∙_}
+use mathlib.Core.Path.{_≡_, _∙_}
 use lib.ListN.{length}
+use Rattle.text.specs.Tokens.{tokensFrom, fieldNames}
 use Rattle.text.specs.Inner as level
 use Rattle.text.proofs.StepLaws.{kind-not, opened, sequence-next, sum-next}
+use Rattle.text.proofs.TokensLeft.{fewer-next}
 use Rattle.text.proofs.LoopLaws.{Kept, left, kept-none, onward, nodes-pos, ready-open, ready-next, item-leaf, item-stops, star-next, star-exit, star-fails, sequence-entry, sequence-exit, sequence-fails, sum-entry, sum-exit, sum-fails, star-less, join-less, join-ready}
 use borrow.Fn.Kinds.{In}
 use borrow.Fn.PlainCycle.{Measures, is, falls, and}
@@ -31,16 +35,16 @@ use Rattle.text.proofs.+item+sequence+starred+sum.{statement}
 use Rattle.text.proofs.+item+sequence+starred+sum.Tie.{close}
 
 abbrev μ-item : Measures 4 item-kinds.ps ℕ
-μ-item κs a = 4 * (length (a .0 .now) - a .1 .0)
+μ-item κs a = 4 * length (tokensFrom fieldNames (a .0 .now) (a .1 .0))
 
 abbrev μ-sequence : Measures 4 sequence-kinds.ps ℕ
-μ-sequence κs a = 4 * (length (a .0 .now) - a .1 .0) + 2
+μ-sequence κs a = 4 * length (tokensFrom fieldNames (a .0 .now) (a .1 .0)) + 2
 
 abbrev μ-starred : Measures 4 starred-kinds.ps ℕ
-μ-starred κs a = 4 * (length (a .0 .now) - a .1 .0) + 1
+μ-starred κs a = 4 * length (tokensFrom fieldNames (a .0 .now) (a .1 .0)) + 1
 
 abbrev μ-sum : Measures 4 sum-kinds.ps ℕ
-μ-sum κs a = 4 * (length (a .0 .now) - a .1 .0) + 3
+μ-sum κs a = 4 * length (tokensFrom fieldNames (a .0 .now) (a .1 .0)) + 3
 
 abbrev item-at : ℕ → In 4 item-kinds.ps
 item-at t = and 4 item-kinds.ps (is 4 item-kinds.ps μ-item t) item.Pre
@@ -83,7 +87,7 @@ item-token-from-requires : (t : ℕ) → item-lts.Need-token-from-requires (item
 item-token-from-requires t c κs = c .before .before .before .before .pre .1 .within
 
 item-sum-requires : (t : ℕ) → item-lts.Need-sum-requires (item-calls t) (item-at t) item.Post
-item-sum-requires t c κs = (omega (arith, c .before .before .before .before .before .before .before .before .before .before .pre .0, onward _ 0 (c .before .before .before .before .before .token-from .ensures) (c .before .before .before .if1 .taken) (λ q. omega arith), c .before .before .before .before .before .token-from .ensures .within), ready-open _ _ (c .before .before .before .before .before .before .before .before .before .before .pre .1) (c .before .before .before .before .before .token-from .ensures) (c .before .before .before .if1 .taken) (λ q. omega arith))
+item-sum-requires t c κs = (omega (arith, c .before .before .before .before .before .before .before .before .before .before .pre .0, fewer-next _ (le-refl _) (c .before .before .before .before .before .token-from .ensures) (c .before .before .before .if1 .taken) (λ q. omega arith)), ready-open _ _ (c .before .before .before .before .before .before .before .before .before .before .pre .1) (c .before .before .before .before .before .token-from .ensures) (c .before .before .before .if1 .taken) (λ q. omega arith))
 
 item-closed-requires : (t : ℕ) → item-lts.Need-closed-requires (item-calls t) (item-at t) item.Post
 item-closed-requires t c κs = λ o. c .before .before .before .before .before .before .sum .ensures .got o .within
@@ -152,7 +156,7 @@ sequence-returns : (t : ℕ) → sequence-lts.Need-returns (sequence-calls t) (s
 sequence-returns t c = sequence-exit _ _ (c .before .before .before .loop-test .taken) (kind-not _ 0 (c .before .before .token-from .ensures) (c .if1 .taken)) (c .before .before .before .before .loop .inv .chain _ (sequence-entry _ _ (c .before .before .before .before .before .before .before .before .before .before .before .starred .ensures)))
 
 sequence-starred-requires-2 : (t : ℕ) → sequence-lts.Need-starred-requires-2 (sequence-calls t) (sequence-at t) sequence.Post sequence-Inv-loop sequence-μ-loop
-sequence-starred-requires-2 t c κs = (omega (arith, c .before .before .before .before .before .before .before .before .before .before .before .before .before .before .before .before .before .before .before .before .before .before .pre .0, c .before .before .before .before .before .before .before .loop .inv .chain _ (sequence-entry _ _ (c .before .before .before .before .before .before .before .before .before .before .before .before .before .before .starred .ensures)) .got (c .before .before .before .before .before .before .loop-test .taken) .onward, onward _ 0 (c .before .before .before .before .before .token-from .ensures) (c .before .before .before .if1 .left) (λ q. omega arith), c .before .before .before .before .before .token-from .ensures .within), (ready-next _ _ (c .before .before .before .before .before .before .before .before .before .before .before .before .before .before .before .before .before .before .before .before .before .before .pre .1) (c .before .before .before .before .before .before .before .loop .inv .kinds ∙ c .before .before .before .before .before .before .before .before .before .before .before .before .before .before .starred .kept .1 .1 .1 .1 .0) (c .before .before .before .before .before .before .before .loop .inv .firsts ∙ c .before .before .before .before .before .before .before .before .before .before .before .before .before .before .starred .kept .1 .1 .1 .1 .1 .0) (c .before .before .before .before .before .before .before .loop .inv .seconds ∙ c .before .before .before .before .before .before .before .before .before .before .before .before .before .before .starred .kept .1 .1 .1 .1 .1 .1 .0) (c .before .before .before .before .before .before .before .loop .inv .chain _ (sequence-entry _ _ (c .before .before .before .before .before .before .before .before .before .before .before .before .before .before .starred .ensures)) .got (c .before .before .before .before .before .before .loop-test .taken)) (c .before .before .before .before .before .token-from .ensures) (c .before .before .before .if1 .left) (λ q. omega arith)))
+sequence-starred-requires-2 t c κs = (omega (arith, c .before .before .before .before .before .before .before .before .before .before .before .before .before .before .before .before .before .before .before .before .before .before .pre .0, fewer-next _ (le-of-lt (c .before .before .before .before .before .before .before .loop .inv .chain _ (sequence-entry _ _ (c .before .before .before .before .before .before .before .before .before .before .before .before .before .before .starred .ensures)) .got (c .before .before .before .before .before .before .loop-test .taken) .onward)) (c .before .before .before .before .before .token-from .ensures) (c .before .before .before .if1 .left) (λ q. omega arith)), (ready-next _ _ (c .before .before .before .before .before .before .before .before .before .before .before .before .before .before .before .before .before .before .before .before .before .before .pre .1) (c .before .before .before .before .before .before .before .loop .inv .kinds ∙ c .before .before .before .before .before .before .before .before .before .before .before .before .before .before .starred .kept .1 .1 .1 .1 .0) (c .before .before .before .before .before .before .before .loop .inv .firsts ∙ c .before .before .before .before .before .before .before .before .before .before .before .before .before .before .starred .kept .1 .1 .1 .1 .1 .0) (c .before .before .before .before .before .before .before .loop .inv .seconds ∙ c .before .before .before .before .before .before .before .before .before .before .before .before .before .before .starred .kept .1 .1 .1 .1 .1 .1 .0) (c .before .before .before .before .before .before .before .loop .inv .chain _ (sequence-entry _ _ (c .before .before .before .before .before .before .before .before .before .before .before .before .before .before .starred .ensures)) .got (c .before .before .before .before .before .before .loop-test .taken)) (c .before .before .before .before .before .token-from .ensures) (c .before .before .before .if1 .left) (λ q. omega arith)))
 
 sequence-sub-join : (t : ℕ) → sequence-lts.Need-sub-join (sequence-calls t) (sequence-at t) sequence.Post sequence-Inv-loop sequence-μ-loop
 sequence-sub-join t c = omega (arith, nodes-pos _ _ (c .before .before .before .before .before .before .before .before .before .before .before .before .before .before .loop .inv .chain _ (sequence-entry _ _ (c .before .before .before .before .before .before .before .before .before .before .before .before .before .before .before .before .before .before .before .before .before .starred .ensures)) .got (c .before .before .before .before .before .before .before .before .before .before .before .before .before .loop-test .taken)))
@@ -260,7 +264,7 @@ sum-returns : (t : ℕ) → sum-lts.Need-returns (sum-calls t) (sum-at t) sum.Po
 sum-returns t c = sum-exit _ _ (c .before .before .before .loop-test .taken) (kind-not _ 0 (c .before .before .token-from .ensures) (c .if1 .taken)) (c .before .before .before .before .loop .inv .chain _ (sum-entry _ _ (c .before .before .before .before .before .before .before .before .before .before .before .sequence .ensures)))
 
 sum-sequence-requires-2 : (t : ℕ) → sum-lts.Need-sequence-requires-2 (sum-calls t) (sum-at t) sum.Post sum-Inv-loop sum-μ-loop
-sum-sequence-requires-2 t c κs = (omega (arith, c .before .before .before .before .before .before .before .before .before .before .before .before .before .before .before .before .before .before .before .before .before .before .pre .0, c .before .before .before .before .before .before .before .loop .inv .chain _ (sum-entry _ _ (c .before .before .before .before .before .before .before .before .before .before .before .before .before .before .sequence .ensures)) .got (c .before .before .before .before .before .before .loop-test .taken) .onward, onward _ 0 (c .before .before .before .before .before .token-from .ensures) (c .before .before .before .if1 .left) (λ q. omega arith), c .before .before .before .before .before .token-from .ensures .within), (ready-next _ _ (c .before .before .before .before .before .before .before .before .before .before .before .before .before .before .before .before .before .before .before .before .before .before .pre .1) (c .before .before .before .before .before .before .before .loop .inv .kinds ∙ c .before .before .before .before .before .before .before .before .before .before .before .before .before .before .sequence .kept .1 .1 .1 .1 .0) (c .before .before .before .before .before .before .before .loop .inv .firsts ∙ c .before .before .before .before .before .before .before .before .before .before .before .before .before .before .sequence .kept .1 .1 .1 .1 .1 .0) (c .before .before .before .before .before .before .before .loop .inv .seconds ∙ c .before .before .before .before .before .before .before .before .before .before .before .before .before .before .sequence .kept .1 .1 .1 .1 .1 .1 .0) (c .before .before .before .before .before .before .before .loop .inv .chain _ (sum-entry _ _ (c .before .before .before .before .before .before .before .before .before .before .before .before .before .before .sequence .ensures)) .got (c .before .before .before .before .before .before .loop-test .taken)) (c .before .before .before .before .before .token-from .ensures) (c .before .before .before .if1 .left) (λ q. omega arith)))
+sum-sequence-requires-2 t c κs = (omega (arith, c .before .before .before .before .before .before .before .before .before .before .before .before .before .before .before .before .before .before .before .before .before .before .pre .0, fewer-next _ (le-of-lt (c .before .before .before .before .before .before .before .loop .inv .chain _ (sum-entry _ _ (c .before .before .before .before .before .before .before .before .before .before .before .before .before .before .sequence .ensures)) .got (c .before .before .before .before .before .before .loop-test .taken) .onward)) (c .before .before .before .before .before .token-from .ensures) (c .before .before .before .if1 .left) (λ q. omega arith)), (ready-next _ _ (c .before .before .before .before .before .before .before .before .before .before .before .before .before .before .before .before .before .before .before .before .before .before .pre .1) (c .before .before .before .before .before .before .before .loop .inv .kinds ∙ c .before .before .before .before .before .before .before .before .before .before .before .before .before .before .sequence .kept .1 .1 .1 .1 .0) (c .before .before .before .before .before .before .before .loop .inv .firsts ∙ c .before .before .before .before .before .before .before .before .before .before .before .before .before .before .sequence .kept .1 .1 .1 .1 .1 .0) (c .before .before .before .before .before .before .before .loop .inv .seconds ∙ c .before .before .before .before .before .before .before .before .before .before .before .before .before .before .sequence .kept .1 .1 .1 .1 .1 .1 .0) (c .before .before .before .before .before .before .before .loop .inv .chain _ (sum-entry _ _ (c .before .before .before .before .before .before .before .before .before .before .before .before .before .before .sequence .ensures)) .got (c .before .before .before .before .before .before .loop-test .taken)) (c .before .before .before .before .before .token-from .ensures) (c .before .before .before .if1 .left) (λ q. omega arith)))
 
 sum-sub-join : (t : ℕ) → sum-lts.Need-sub-join (sum-calls t) (sum-at t) sum.Post sum-Inv-loop sum-μ-loop
 sum-sub-join t c = omega (arith, nodes-pos _ _ (c .before .before .before .before .before .before .before .before .before .before .before .before .before .before .loop .inv .chain _ (sum-entry _ _ (c .before .before .before .before .before .before .before .before .before .before .before .before .before .before .before .before .before .before .before .before .before .sequence .ensures)) .got (c .before .before .before .before .before .before .before .before .before .before .before .before .before .loop-test .taken)))
