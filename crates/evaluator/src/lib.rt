@@ -355,6 +355,7 @@ fn start_set(state: Mask, packet: u16) -> PacketSet
 }
 
 // Inner. One step of a state of the policy at the root, at a packet; count is the packet count. Next at each packet goes to the lent list.
+// The work list is 0 in its first 16,384 words before, and as it was after.
 pub fn step(
     kind: &[u8],
     first: &[u16],
