@@ -283,7 +283,7 @@ fn mark_members(set: PacketSet, words: usize, label: u32, next: &mut [u32])
     }
 }
 
-// Inner. Marks the dup at node n, whose number is `after`, in the entry of each packet that has entered it; no dup where none has been counted.
+// Inner. Marks the dup at node n, whose number is `after`, in the entry of each packet that has entered it; nothing where the node is no dup.
 fn mark_slot(work: &[u32], n: usize, words: usize, before: u32, after: u32, next: &mut [u32])
     requires { ⌜ (words ≤ 32) × (after < 32) × (32 * n + words ≤ length (now work)) × ((before ≡ after → ⊥) → (γ : ℕ) → T (slots words (now work) n γ) → γ < length (now next)) ⌝ }
     ensures { λ _. ⌜ MarkedUnless words before after (slotAt words n (now (work .entry))) (now (next .entry)) (now (next .exit)) ⌝ }
