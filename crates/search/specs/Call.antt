@@ -1,0 +1,117 @@
+-- The search on node lists: its answer and what it leaves in every lent list (document 01, "States and rows" and "Causes, in the order tested").
+use Prim.Native.Nat.{ℕ}
+use mathlib.Core.List.{List, [], _∷_}
+use mathlib.Core.Logic.{_↔_}
+use mathlib.Core.Path.{_≡_}
+use lib.ListN.{length, replicate, take}
+use Rattle.packet.specs.declared.Refusal.{Refusal}
+use Rattle.packet.specs.declared.Tested.{Tested}
+use Rattle.packet.specs.declared.Tested.the-variants.{Passed, Refused as Stopped}
+use Rattle.packet.specs.Refusals.{refusal, firstOf}
+use Rattle.packet.specs.Sizes.{fieldsStage, productStage}
+use Rattle.policy.specs.Answers.{sided}
+use Rattle.policy.specs.Legality.{policiesStage}
+use Rattle.policy.specs.Meaning.{SameTracesBelow}
+use Rattle.policy.specs.NodeLists.{NodeLists, policyOf}
+use Rattle.system.specs.RowOrder.{NeedsMore}
+use Rattle.pair.specs.Sides.{Side, left, right, policies}
+use Rattle.pair.specs.Pair.{pairSystem}
+use Rattle.pair.specs.Search.{SearchAnswer, equal, different, rowsFull, traceShort, Columns, searchAnswer, heldColumns, Distinguishes}
+use Rattle.rows.specs.Lent.{listsStage}
+use Rattle.rows.specs.Written.{written}
+use Rattle.search.specs.declared.Verdict.{Verdict}
+use Rattle.search.specs.declared.Verdict.the-variants.{Equal, Left, Right, Full, Refused}
+
+-- a telling trace: the policy that has it, its length and the entering packet
+abbrev pub tellingVerdict : Side → ℕ → ℕ → Verdict
+tellingVerdict left n α = Left n α
+tellingVerdict right n α = Right n α
+
+-- each answer's number and values
+unfoldable pub verdictOf : SearchAnswer → Verdict
+verdictOf (equal rows) = Equal rows
+verdictOf (different s α trace) = tellingVerdict s (length trace) α
+verdictOf (rowsFull rows) = Full (refusal 11 0 rows)
+verdictOf (traceShort needed) = Refused (refusal 12 0 needed)
+
+-- the trace list after an answer: written on left and right only
+unfoldable pub traceAfter : SearchAnswer → List ℕ → List ℕ
+traceAfter (equal rows) old = old
+traceAfter (different s α trace) old = written trace old
+traceAfter (rowsFull rows) old = old
+traceAfter (traceShort needed) old = old
+
+-- the lists lent to a search
+pub record Lent : Type 0 where
+  pub packets : List ℕ
+  pub lefts : List ℕ
+  pub rights : List ℕ
+  pub parents : List ℕ
+  pub trace : List ℕ
+  pub work : List ℕ
+
+abbrev pub lent : List ℕ → List ℕ → List ℕ → List ℕ → List ℕ → List ℕ → Lent
+lent P L R Q trace work = record { packets = P; lefts = L; rights = R; parents = Q; trace = trace; work = work }
+
+-- the lists that a search leaves where no cause of 1 to 10 holds: the rows listed first, entries beyond as they were; the work list all 0
+unfoldable pub filled : Columns → SearchAnswer → Lent → Lent
+filled rows a x =
+    record {
+      packets = written (rows .packets) (x .packets);
+      lefts = written (rows .lefts) (x .lefts);
+      rights = written (rows .rights) (x .rights);
+      parents = written (rows .parents) (x .parents);
+      trace = traceAfter a (x .trace);
+      work = replicate (length (x .work)) 0;
+    }
+
+unfoldable pub verdictAfter : Tested → SearchAnswer → Verdict
+verdictAfter Passed a = verdictOf a
+verdictAfter (Stopped r) a = Refused r
+
+unfoldable pub lentAfter : Tested → Columns → SearchAnswer → Lent → Lent
+lentAfter Passed rows a x = filled rows a x
+lentAfter (Stopped r) rows a x = x
+
+module _ (sizes : List ℕ) (L R : NodeLists) (x : Lent) where
+  -- causes 1 to 10 in the order tested
+  unfoldable pub searchTests : Tested
+  searchTests =
+      firstOf
+      (fieldsStage sizes
+      ∷ productStage sizes
+      ∷ policiesStage sizes (sided 1 L ∷ sided 2 R ∷ [])
+      ∷ listsStage (length (x .packets) ∷ length (x .lefts) ∷ length (x .rights) ∷ length (x .parents) ∷ []) (length (x .work))
+      ∷ [])
+
+  -- the theory's answer with as many rows and as long a trace as were lent
+  abbrev pub answerHere : SearchAnswer
+  answerHere = searchAnswer sizes (policies L R) (length (x .packets)) (length (x .trace))
+
+  -- the rows of the row order that the lent lists hold in the end
+  abbrev pub rowsHere : Columns
+  rowsHere = heldColumns sizes (policies L R) (length (x .packets))
+
+  unfoldable pub searchVerdict : Verdict
+  searchVerdict = verdictAfter searchTests answerHere
+
+  unfoldable pub searchLeaves : Lent
+  searchLeaves = lentAfter searchTests rowsHere answerHere x
+
+  -- the first n packets of the trace list tell the policies apart (Figure 1)
+  pub record Telling (s : Side) (n α : ℕ) (trace : List ℕ) : Type 0 where
+    pub long : length (take n trace) ≡ n
+    pub tells : Distinguishes sizes (policies L R) s α (take n trace)
+
+  -- The promise of the search.
+  pub record Searched (verdict : Verdict) (y : Lent) : Type 0 where
+    pub answers : verdict ≡ searchVerdict
+    pub leaves : y ≡ searchLeaves
+    -- demand 2: equal only if both policies have the same traces from every packet
+    pub equal-same : (rows : ℕ) → verdict ≡ Equal rows → SameTracesBelow sizes (policyOf L) (policyOf R)
+    -- different only with a packet and trace that exactly one of them has, and no shorter trace tells the two apart from any packet
+    pub different-tells : (s : Side) (n α : ℕ) → verdict ≡ tellingVerdict s n α → Telling s n α (y .trace)
+    -- where no cause tested earlier holds, full comes exactly when the row order needs more rows than were lent
+    pub full-exactly : searchTests ≡ Passed → (verdict ≡ Full (refusal 11 0 (length (x .packets)))) ↔ NeedsMore (pairSystem sizes (policies L R)) (length (x .packets))
+    -- and it names the rows lent
+    pub full-place : (r : Refusal) → verdict ≡ Full r → r ≡ refusal 11 0 (length (x .packets))

@@ -1,0 +1,122 @@
+// The search for a telling trace through the row order (document 01, "States and rows").
+ghost use mathlib.Core.Path.{_≡_};
+ghost use mathlib.Core.List.{[], _∷_, _++_};
+ghost use Prim.Native.Nat.{_+_, _<_, _≤_};
+ghost use lib.ListN.{length};
+ghost use Rattle.policy.specs.AsLists.{asLists};
+ghost use Rattle.pair.specs.Sides.{policies};
+ghost use Rattle.pair.specs.Search.{reported};
+ghost use Rattle.index.specs.Appending.{lists};
+ghost use Rattle.rows.specs.Lines.{linePath, lineStart, Rooted};
+ghost use Rattle.search.specs.Step.{goesOn, RowHandled, StepReady};
+ghost use Rattle.search.specs.Call.{tellingVerdict, verdictOf, traceAfter, lent, Searched};
+use compare::Compared;
+use index::Appended;
+use index::Mask;
+use packet::Refusal;
+use packet::Tested;
+use policy::legality::PairAnswer;
+
+// What a step of the search answers.
+pub enum Handled {
+    // there are rows to handle among so many listed
+    Open(usize),
+    // all rows are handled, so many
+    Done(usize),
+    // the row tells: the lowest packet that the left policy alone has in its output, or the right
+    Left(u16),
+    Right(u16),
+    // a row must be appended and the lent lists are full
+    Full,
+}
+
+// What the search answers.
+pub enum Verdict {
+    // the row count
+    Equal(usize),
+    // the policy that has the trace: the trace's length and the entering packet
+    Left(usize, u16),
+    Right(usize, u16),
+    // refusal 11
+    Full(Refusal),
+    // any other refusal
+    Refused(Refusal),
+}
+
+// Inner: whether all rows are handled.
+fn goes_on(handled: usize, listed: usize) -> Handled
+    ensures { λ r. ⌜ r ≡ goesOn handled listed ⌝ }
+{
+    if handled < listed {
+        return Handled::Open(listed);
+    }
+    Handled::Done(listed)
+}
+
+// Inner: handles row `handled` of the `listed` rows. Time does not grow with the number of rows listed: two evaluations, and a lookup for each
+// successor.
+pub fn handle(
+    sizes: &[u16],
+    count: u16,
+    left_kind: &[u8],
+    left_first: &[u16],
+    left_second: &[u16],
+    right_kind: &[u8],
+    right_first: &[u16],
+    right_second: &[u16],
+    packets: &mut [u16],
+    lefts: &mut [Mask],
+    rights: &mut [Mask],
+    parents: &mut [u16],
+    heads: &mut [u16],
+    links: &mut [u16],
+    handled: usize,
+    listed: usize,
+    next_left: &mut [u32],
+    next_right: &mut [u32],
+    work: &mut [u32],
+) -> Handled
+    requires { ⌜ StepReady (now sizes) (asLists (now «left_kind») (now «left_first») (now «left_second»)) (asLists (now «right_kind») (now «right_first») (now «right_second»)) (lists (now packets) (now lefts) (now rights) (now parents) (now heads) (now links)) count listed handled (now «next_left») (now «next_right») (now work) ⌝ }
+    ensures handles { λ r. ⌜ RowHandled (now (sizes .entry)) (policies (asLists (now («left_kind» .entry)) (now («left_first» .entry)) (now («left_second» .entry))) (asLists (now («right_kind» .entry)) (now («right_first» .entry)) (now («right_second» .entry)))) (lists (now (packets .entry)) (now (lefts .entry)) (now (rights .entry)) (now (parents .entry)) (now (heads .entry)) (now (links .entry))) (lists (now (packets .exit)) (now (lefts .exit)) (now (rights .exit)) (now (parents .exit)) (now (heads .exit)) (now (links .exit))) count listed handled r ⌝ }
+    ensures kept { λ _. ⌜ now (work .exit) ≡ now (work .entry) ⌝ }
+{
+    let row = index::row_at(packets, lefts, rights, handled);
+    let states = row.states;
+    match compare::compare(
+        sizes,
+        count,
+        left_kind,
+        left_first,
+        left_second,
+        right_kind,
+        right_first,
+        right_second,
+        row.packet,
+        states[0],
+        states[1],
+        next_left,
+        next_right,
+        work,
+    ) {
+        Compared::Left(gamma) => Handled::Left(gamma),
+        Compared::Right(gamma) => Handled::Right(gamma),
+        Compared::Same => {
+            let Appended::Rows(n) = rows::append_next(
+                packets,
+                lefts,
+                rights,
+                parents,
+                listed,
+                count,
+                heads,
+                links,
+                handled as u16,
+                next_left,
+                next_right,
+            ) else {
+                return Handled::Full;
+            };
+            goes_on(handled + 1, n)
+        }
+    }
+}
