@@ -25,7 +25,7 @@ use Rattle.index.specs.Appending.{Lists}
 use Rattle.index.specs.Entries.{Masks, rowOf}
 use Rattle.index.proofs.Entries.{column, entries-at}
 use Rattle.rows.specs.Written.{written}
-use Rattle.rows.specs.Standing.{answerFor, rowsIn, Standing, Continues, pairMasks, Nexts, Started, NextAppended}
+use Rattle.rows.specs.Standing.{answerFor, Standing, Continues, pairMasks, Started}
 use Rattle.rows.specs.Lines.{lineDepth, linePath, lineStart, Rooted}
 use Rattle.rows.proofs.Standing.{stands-length, drop-later}
 use Rattle.rows.proofs.Lines.{climb-rise}
@@ -167,36 +167,26 @@ module _ (sizes : List ℕ) (ps : Pair Labelled) where
 
       -- a row is handled
       module _ (goes : turn S (run S k) ≡ handling) where
-        next-rows : appendNext S (product sizes) h (current S (run S k)) (rowsIn S M y n) ≡ run S (suc k) .rows
-        unfolding handle
-        next-rows =
-            ap₂ (λ p es. appendNext S (product sizes) p (current S (run S k)) es) (sym (R .handled)) (R .standing .entries)
-            ∙ sym (ap (λ w. w .rows) (run-handle S k goes))
-
         longer : length (run S k .rows) ≤ length (run S (suc k) .rows)
-        unfolding appendNext
+        unfolding handle appendNext
         longer =
-            subst (λ es. length (run S k .rows) ≤ length es) next-rows
-            (subst (λ es. length es ≤ length (appendNext S (product sizes) h (current S (run S k)) (rowsIn S M y n))) (R .standing .entries)
-            (prefix-length (appendNext-longer S h (current S (run S k)) (rowsIn S M y n) 0 (product sizes) (omega arith))))
+            subst (λ w. length (run S k .rows) ≤ length (w .rows)) (sym (run-handle S k goes))
+            (prefix-length (appendNext-longer S (run S k .handled) (current S (run S k)) (run S k .rows) 0 (product sizes) (omega arith)))
 
-        module _ {z : Lists} {lefts rights : List ℕ} (N : Nexts sizes ps (current S (run S k)) lefts rights) where
-          pub search-goes : {m : ℕ} → NextAppended y z count n h lefts rights (Rows m) → Running x z count m (suc h) (suc k)
-          unfolding handle
-          search-goes {m} A =
-              let T : Standing S M y z count m (run S (suc k) .rows) = subst (Standing S M y z count m) next-rows (continues-listed S M (A .appended sizes ps lawful small (current S (run S k)) N)) in
-              record {
-                standing = stands-then S M (R .standing) T (omega (arith, stands-length S M (R .standing), stands-length S M T, longer));
-                handled = ap (λ w. w .handled) (run-handle S k goes) ∙ ap suc (R .handled);
-              }
+        pub search-goes : {z : Lists} {m : ℕ} → Standing S M y z count m (run S (suc k) .rows) → Running x z count m (suc h) (suc k)
+        unfolding handle
+        search-goes T =
+            record {
+              standing = stands-then S M (R .standing) T (omega (arith, stands-length S M (R .standing), stands-length S M T, longer));
+              handled = ap (λ w. w .handled) (run-handle S k goes) ∙ ap suc (R .handled);
+            }
 
-          -- 11
-          pub search-fills : length (y .packets) ≡ length (x .packets) → NextAppended y z count n h lefts rights Full → IsFull x z count
-          search-fills same A =
-              let C : Continues S M y z count (run S (suc k) .rows) Full = subst (λ es. Continues S M y z count es Full) next-rows (A .appended sizes ps lawful small (current S (run S k)) N) in
-              let o = continues-over S M C in
-              over-full (suc k) (omega (arith, o .0))
-              (subst (λ l. Standing S M x z count l (take l (run S (suc k) .rows))) same (stands-then S M (R .standing) (o .1) (R .standing .indexed .within)))
+      -- 11
+      pub search-fills : {z : Lists} → length (y .packets) ≡ length (x .packets) → length (y .packets) < length (run S (suc k) .rows)
+          → Standing S M y z count (length (y .packets)) (take (length (y .packets)) (run S (suc k) .rows)) → IsFull x z count
+      search-fills {z} same over T =
+          over-full (suc k) (omega (arith, over))
+          (subst (λ l. Standing S M x z count l (take l (run S (suc k) .rows))) same (stands-then S M (R .standing) T (R .standing .indexed .within)))
 
       module _ (same : length (y .packets) ≡ length (x .packets)) where
         fits : length (run S k .rows) ≤ length (x .packets)

@@ -33,23 +33,24 @@ use Rattle.compare.specs.declared.Compared.the-variants.{Same}
 use Rattle.compare.specs.Comparison.{differsAt, rowOf, answerAt, CompareReady, ComparedRow}
 use Rattle.compare.proofs.Telling.{differs-lowest, same-turn, differs-turn}
 use Rattle.search.specs.declared.Handled.{Handled}
-use Rattle.search.specs.declared.Handled.the-variants.{Open, Done, Full}
+use Rattle.search.specs.declared.Handled.the-variants.{Open, Stopped}
+use Rattle.search.specs.declared.Ended.the-variants.{Done, Full}
 use Rattle.search.specs.Step.{tellingAt, goesOn, runAt, afterRow, stepAnswer, stepRows, RowHandled, StepReady}
 
 pub goes-open : (h n : ℕ) → h < n → Open n ≡ goesOn h n
 unfolding goesOn
-goes-open h n l = sym (ap (λ b. cond b (Open n) (Done n)) (lt-ltb h n l))
+goes-open h n l = sym (ap (λ b. cond b (Open n) (Stopped (Done n))) (lt-ltb h n l))
 
-pub goes-done : (h n : ℕ) → n ≤ h → Done n ≡ goesOn h n
+pub goes-done : (h n : ℕ) → n ≤ h → Stopped (Done n) ≡ goesOn h n
 unfolding goesOn
-goes-done h n l = sym (ap (λ b. cond b (Open n) (Done n)) (le-ltb h n l))
+goes-done h n l = sym (ap (λ b. cond b (Open n) (Stopped (Done n))) (le-ltb h n l))
 
 module _ (sizes : List ℕ) (ps : Pair Labelled) (lent : ℕ) (x : Run (pairSystem sizes ps)) where
-  full-after : FullUp ≡ answerFor lent (length (x .rows)) → Full ≡ afterRow sizes ps lent x
+  full-after : FullUp ≡ answerFor lent (length (x .rows)) → Stopped Full ≡ afterRow sizes ps lent x
   unfolding answerFor afterRow
   full-after e = go (ltb lent (length (x .rows))) e
     where
-      go : (b : Bool) → FullUp ≡ cond b FullUp (Rows (length (x .rows))) → Full ≡ cond b Full (goesOn (x .handled) (length (x .rows)))
+      go : (b : Bool) → FullUp ≡ cond b FullUp (Rows (length (x .rows))) → Stopped Full ≡ cond b (Stopped Full) (goesOn (x .handled) (length (x .rows)))
       go true e = refl
       go false e = absurd (let z : _≡_ {A = ℕ} 0 1 = cc in omega arith)
 
@@ -57,7 +58,7 @@ module _ (sizes : List ℕ) (ps : Pair Labelled) (lent : ℕ) (x : Run (pairSyst
   unfolding answerFor afterRow
   rows-after m e = go (ltb lent (length (x .rows))) e
     where
-      go : (b : Bool) → Rows m ≡ cond b FullUp (Rows (length (x .rows))) → goesOn (x .handled) m ≡ cond b Full (goesOn (x .handled) (length (x .rows)))
+      go : (b : Bool) → Rows m ≡ cond b FullUp (Rows (length (x .rows))) → goesOn (x .handled) m ≡ cond b (Stopped Full) (goesOn (x .handled) (length (x .rows)))
       go true e = absurd (let z : _≡_ {A = ℕ} 0 1 = cc in omega arith)
       go false e = let same : m ≡ length (x .rows) = cc in ap (goesOn (x .handled)) same
 
@@ -109,13 +110,13 @@ module _ {sizes : List ℕ} {L R : NodeLists} {y : Lists} {count n h : ℕ} {nex
     answer-is = C .answers ∙ ap (answerAt sizes L R) (sym row-is)
 
     -- the row tells
-    pub row-tells : (s : Side) (γ : ℕ) → answer ≡ differsAt s γ → RowHandled sizes (policies L R) y y count n h (tellingAt s γ)
+    pub row-tells : (s : Side) (γ : ℕ) → answer ≡ differsAt s γ → RowHandled sizes (policies L R) y y count n h (Stopped (tellingAt s γ))
     unfolding stepAnswer stepRows
     row-tells s γ e =
         let told : turn S x ≡ telling γ = differs-turn sizes L R x left-over s γ (sym answer-is ∙ e) in
         let side : sideOf sizes (policies L R) (current S x) γ ≡ s = differs-lowest sizes L R (current S x) s γ (sym answer-is ∙ e) .1 in
         record {
-          answers = ap (λ t. tellingAt t γ) (sym side) ∙ sym (rw (told, stepAnswer));
+          answers = ap (λ t. Stopped (tellingAt t γ)) (sym side) ∙ sym (rw (told, stepAnswer));
           standing = subst (λ es. Standing S M y y count (length es) es) (sym (rw (told, stepRows))) (subst (λ k. Standing S M y y count k (x .rows)) (sym (stands-length S M stands)) stands);
         }
 
@@ -139,7 +140,7 @@ module _ {sizes : List ℕ} {L R : NodeLists} {y : Lists} {count n h : ℕ} {nex
       unfolding stepAnswer
       step-is = rw (goes, stepAnswer)
 
-      pub row-fills : a ≡ FullUp → RowHandled sizes (policies L R) y z count n h Full
+      pub row-fills : a ≡ FullUp → RowHandled sizes (policies L R) y z count n h (Stopped Full)
       row-fills f = record { answers = full-after _ _ _ _ (sym f ∙ continues .answers) ∙ sym step-is; standing = handled-standing }
 
       pub row-goes : (m : ℕ) → a ≡ Rows m → (r : Handled) → r ≡ goesOn (h + 1) m → RowHandled sizes (policies L R) y z count n h r

@@ -41,6 +41,11 @@ traceAfter (different s α trace) old = written trace old
 traceAfter (rowsFull rows) old = old
 traceAfter (traceShort needed) old = old
 
+-- the verdict of an answer, and the trace list after it
+pub record Told (a : SearchAnswer) (trace : List ℕ) (verdict : Verdict) (trace′ : List ℕ) : Type 0 where
+  pub answers : verdict ≡ verdictOf a
+  pub leaves : trace′ ≡ traceAfter a trace
+
 -- the lists lent to a search
 pub record Lent : Type 0 where
   pub packets : List ℕ

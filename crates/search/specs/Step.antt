@@ -16,17 +16,19 @@ use Rattle.pair.specs.Search.{sideOf}
 use Rattle.index.specs.Appending.{Lists}
 use Rattle.index.specs.Index.{Indexed}
 use Rattle.rows.specs.Standing.{rowsIn, Standing, pairMasks}
+use Rattle.search.specs.declared.Ended.{Ended}
+use Rattle.search.specs.declared.Ended.the-variants.{Done, Left, Right, Full}
 use Rattle.search.specs.declared.Handled.{Handled}
-use Rattle.search.specs.declared.Handled.the-variants.{Open, Done, Left, Right, Full}
+use Rattle.search.specs.declared.Handled.the-variants.{Open, Stopped}
 
 -- the lowest telling packet and the policy that has it
-abbrev pub tellingAt : Side → ℕ → Handled
+abbrev pub tellingAt : Side → ℕ → Ended
 tellingAt left γ = Left γ
 tellingAt right γ = Right γ
 
 -- of n listed rows h are handled: open or done
 unfoldable pub goesOn : ℕ → ℕ → Handled
-goesOn h n = cond (ltb h n) (Open n) (Done n)
+goesOn h n = cond (ltb h n) (Open n) (Stopped (Done n))
 
 module _ (sizes : List ℕ) (ps : Pair Labelled) where
   -- the run that the columns stand for: the first n rows, h of them handled
@@ -35,14 +37,14 @@ module _ (sizes : List ℕ) (ps : Pair Labelled) where
 
   -- a row has been handled: full if there are more rows than were lent
   unfoldable pub afterRow : ℕ → Run (pairSystem sizes ps) → Handled
-  afterRow lent x = cond (ltb lent (length (x .rows))) Full (goesOn (x .handled) (length (x .rows)))
+  afterRow lent x = cond (ltb lent (length (x .rows))) (Stopped Full) (goesOn (x .handled) (length (x .rows)))
 
   -- what the step answers
   unfoldable pub stepAnswer : ℕ → Run (pairSystem sizes ps) → Handled
   stepAnswer lent x =
       elim (turn (pairSystem sizes ps) x) [
-        | finished ↦ Done (length (x .rows))
-        | telling γ ↦ tellingAt (sideOf sizes ps (current (pairSystem sizes ps) x) γ) γ
+        | finished ↦ Stopped (Done (length (x .rows)))
+        | telling γ ↦ Stopped (tellingAt (sideOf sizes ps (current (pairSystem sizes ps) x) γ) γ)
         | handling ↦ afterRow lent (order.handle (pairSystem sizes ps) x)
       ]
 

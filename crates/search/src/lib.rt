@@ -1,15 +1,13 @@
 // The search for a telling trace through the row order (document 01, "States and rows").
 ghost use mathlib.Core.Path.{_≡_};
-ghost use mathlib.Core.List.{[], _∷_, _++_};
-ghost use Prim.Native.Nat.{_+_, _<_, _≤_};
+ghost use mathlib.Core.Bool.{cond};
 ghost use lib.ListN.{length};
 ghost use Rattle.policy.specs.AsLists.{asLists};
-ghost use Rattle.pair.specs.Sides.{policies};
-ghost use Rattle.pair.specs.Search.{reported};
+ghost use Rattle.pair.specs.Sides.{left, right, policies};
 ghost use Rattle.index.specs.Appending.{lists};
-ghost use Rattle.rows.specs.Lines.{linePath, lineStart, Rooted};
 ghost use Rattle.search.specs.Step.{goesOn, RowHandled, StepReady};
-ghost use Rattle.search.specs.Call.{tellingVerdict, verdictOf, traceAfter, lent, Searched};
+ghost use Rattle.search.specs.Ending.{CanRead, Readable, tellingAnswer, endedAnswer, RowsReady, RowsRun};
+ghost use Rattle.search.specs.Call.{Told, lent, Searched};
 use compare::Compared;
 use index::Appended;
 use index::Mask;
@@ -17,17 +15,29 @@ use packet::Refusal;
 use packet::Tested;
 use policy::legality::PairAnswer;
 
-// What a step of the search answers.
-pub enum Handled {
-    // there are rows to handle among so many listed
-    Open(usize),
+// How the row order ends.
+pub enum Ended {
     // all rows are handled, so many
     Done(usize),
-    // the row tells: the lowest packet that the left policy alone has in its output, or the right
+    // a row tells: the lowest packet that the left policy alone has in its output, or the right
     Left(u16),
     Right(u16),
     // a row must be appended and the lent lists are full
     Full,
+}
+
+// What a step of the search answers.
+pub enum Handled {
+    // there are rows to handle among so many listed
+    Open(usize),
+    Stopped(Ended),
+}
+
+// Where the row order has ended: at a row of so many listed.
+pub struct Stop {
+    pub row: usize,
+    pub listed: usize,
+    pub ended: Ended,
 }
 
 // What the search answers.
@@ -50,7 +60,7 @@ fn goes_on(handled: usize, listed: usize) -> Handled
     if handled < listed {
         return Handled::Open(listed);
     }
-    Handled::Done(listed)
+    Handled::Stopped(Ended::Done(listed))
 }
 
 // Inner: handles row `handled` of the `listed` rows. Time does not grow with the number of rows listed: two evaluations, and a lookup for each
@@ -98,8 +108,8 @@ pub fn handle(
         next_right,
         work,
     ) {
-        Compared::Left(gamma) => Handled::Left(gamma),
-        Compared::Right(gamma) => Handled::Right(gamma),
+        Compared::Left(gamma) => Handled::Stopped(Ended::Left(gamma)),
+        Compared::Right(gamma) => Handled::Stopped(Ended::Right(gamma)),
         Compared::Same => {
             let Appended::Rows(n) = rows::append_next(
                 packets,
@@ -114,7 +124,7 @@ pub fn handle(
                 next_left,
                 next_right,
             ) else {
-                return Handled::Full;
+                return Handled::Stopped(Ended::Full);
             };
             goes_on(handled + 1, n)
         }
