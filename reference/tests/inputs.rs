@@ -103,9 +103,12 @@ fn node_lists() {
     assert_eq!(shorter(|lists| lists.kind.truncate(511)), refusal(4, 0));
     assert_eq!(shorter(|lists| lists.first.truncate(511)), refusal(4, 0));
     assert_eq!(shorter(|lists| lists.second.truncate(511)), refusal(4, 0));
-    assert_eq!(shorter(|lists| {
-        lists.push(8, 511, 0);
-    }), refusal(4, 0));
+    assert_eq!(
+        shorter(|lists| {
+            lists.push(8, 511, 0);
+        }),
+        refusal(4, 0)
+    );
 }
 
 #[test]
@@ -182,14 +185,34 @@ fn grammar() {
         ]))
     );
     assert_eq!(read("((id))"), Ok(lists(&[(1, 0, 0)])));
-    assert_eq!(read("id * *"), Ok(lists(&[(1, 0, 0), (8, 0, 0), (8, 1, 0)])));
+    assert_eq!(
+        read("id * *"),
+        Ok(lists(&[(1, 0, 0), (8, 0, 0), (8, 1, 0)]))
+    );
 }
 
 #[test]
 fn words_and_tokens() {
     for bad in [
-        "ID", "Dup", "f8", "f", "f00", "00", "01", "65536", "100000", "id0", "dropid", "x",
-        "99999999999999999999", "é", "id\n", "id\r", "\0", "~", "id;\u{7f}",
+        "ID",
+        "Dup",
+        "f8",
+        "f",
+        "f00",
+        "00",
+        "01",
+        "65536",
+        "100000",
+        "id0",
+        "dropid",
+        "x",
+        "99999999999999999999",
+        "é",
+        "id\n",
+        "id\r",
+        "\0",
+        "~",
+        "id;\u{7f}",
     ] {
         let place = match bad {
             "id\n" | "id\r" => 2,
@@ -269,7 +292,10 @@ fn node_counts() {
     let count = text::read(b"f1<-2***", &mut kind, &mut first, &mut second);
     assert_eq!(count, refusal(17, 4));
     assert_eq!(kind, [4, 8, 9, 9, 9]);
-    assert_eq!(text::read(b"id", &mut [], &mut [0], &mut [0]), refusal(17, 1));
+    assert_eq!(
+        text::read(b"id", &mut [], &mut [0], &mut [0]),
+        refusal(17, 1)
+    );
     assert_eq!(text::read(b"", &mut [], &mut [], &mut []), refusal(16, 0));
 }
 
@@ -283,7 +309,10 @@ fn the_example() {
     assert_eq!(program("2\nf0=0;dup\ndup;f0=0\n"), output);
     assert_eq!(program("2\r\nf0=0;dup\r\ndup;f0=0\r\n"), output);
     assert_eq!(program("2\r\nf0=0;dup\ndup;f0=0"), output);
-    assert_eq!(program("1\ndup\ndup;dup\n"), "left,2,0\r\n1,0,0\r\n2,0,1\r\n");
+    assert_eq!(
+        program("1\ndup\ndup;dup\n"),
+        "left,2,0\r\n1,0,0\r\n2,0,1\r\n"
+    );
     assert_eq!(program("3\nf0=0+f0=1\nid"), "right,1,2\r\n1,2,1\r\n");
 }
 
@@ -331,7 +360,9 @@ fn the_program_lends_4096_rows() {
     // Each dup of the left side may or may not be marked, so the pair has many states.
     let left = format!("({})*", vec!["f0<-0;dup+f0<-1;dup"; 6].join("+"));
     let sizes = "1024\n";
-    let many = program(&format!("{sizes}dup;f0<-0;dup;f0<-1;dup\ndup;f0<-0;dup;f0<-1;dup"));
+    let many = program(&format!(
+        "{sizes}dup;f0<-0;dup;f0<-1;dup\ndup;f0<-0;dup;f0<-1;dup"
+    ));
     assert!(many.starts_with("equal,2"), "{}", &many[..20]);
     assert!(program(&format!("2\n{left}\n{left}\n")).starts_with("equal,"));
     // Four chains of 1024 rows fit, five don't.

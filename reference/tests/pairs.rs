@@ -35,7 +35,14 @@ fn different(sizes: &[u16], left: &str, right: &str, side: Side, entering: u16, 
     };
     let mut work = vec![7; LEAST_WORK];
     assert_eq!(
-        traces::check(sizes, one.lists(), other.lists(), entering, trace, &mut work),
+        traces::check(
+            sizes,
+            one.lists(),
+            other.lists(),
+            entering,
+            trace,
+            &mut work
+        ),
         Ok(holders)
     );
     assert!(work.iter().all(|&word| word == 0));
@@ -117,8 +124,14 @@ fn p11_and_the_row_rules() {
     rows.push((0, 4, 1));
     rows.push((2, 1, 1));
     assert_eq!(check(&rows), Ruling::OutOfRange { row: 6 });
-    assert_eq!(check(&[(0, 1, 1), (0, 1, 0), (2, 1, 1)]), Ruling::OutOfRange { row: 2 });
-    assert_eq!(check(&[(0, 1, 0), (1, 1, 1)]), Ruling::NoStart { packet: 0 });
+    assert_eq!(
+        check(&[(0, 1, 1), (0, 1, 0), (2, 1, 1)]),
+        Ruling::OutOfRange { row: 2 }
+    );
+    assert_eq!(
+        check(&[(0, 1, 0), (1, 1, 1)]),
+        Ruling::NoStart { packet: 0 }
+    );
     assert_eq!(check(&[]), Ruling::NoStart { packet: 0 });
     assert_eq!(
         check(&[(0, 1, 1), (0, 1, 2), (1, 1, 1)]),
