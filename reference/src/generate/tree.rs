@@ -225,11 +225,10 @@ pub fn renumbered(random: &mut Random, lists: NodeLists) -> OwnedLists {
         }
     };
     let mut parent = vec![None; nodes];
-    let mut waiting = vec![0; nodes];
+    let mut waiting: Vec<usize> = (0..nodes).map(|node| children(node).len()).collect();
     for node in 0..nodes {
         for child in children(node) {
             parent[child] = Some(node);
-            waiting[node] += 1;
         }
     }
     let mut ready: Vec<usize> = (0..nodes).filter(|&node| waiting[node] == 0).collect();
