@@ -3,8 +3,10 @@
 //! A policy becomes a graph of points through which packets flow. Compiling a node with the point that follows it
 //! yields right spines for nothing: what follows a dup is what remains after it. A step pushes packet sets through the
 //! graph; what arrives at a dup is marked next there, what arrives at the end is the output. Each point passes a packet
-//! on once, so nested stars cost no more than other nodes. Steps of single marks are remembered; a state's step is the
-//! union of its marks' steps.
+//! on once, so nested stars cost no more than other nodes. Steps of single remainders are remembered; a state's step
+//! is the union of its remainders' steps.
+
+use std::ops::Range;
 
 use crate::packets::{set, Packets};
 use crate::policy::{Act, Node, Policy};
@@ -82,16 +84,18 @@ impl Step {
     }
 }
 
-/// Steps of single marks.
+/// Steps of single remainders.
 #[derive(Debug)]
 struct Memo {
-    /// By mark, then packet: the step's number from 1, or 0 where it is not known.
+    /// By remainder, then packet: the step's number from 1, or 0 where it is not known.
     known: Vec<u32>,
-    /// By step: a set of packets each.
+    /// By step: its output.
     outputs: Vec<u64>,
-    /// By step: the end of its marks.
-    ends: Vec<usize>,
-    marks: Vec<(u16, State)>,
+    /// By step: the packets where something is marked.
+    marked: Vec<u64>,
+    /// By step: where the states next at these packets begin.
+    starts: Vec<usize>,
+    next: Vec<State>,
 }
 
 /// Entries of the memo past which it starts anew.
@@ -102,28 +106,85 @@ impl Memo {
         Memo {
             known: vec![0; entries],
             outputs: Vec::new(),
-            ends: vec![0],
-            marks: Vec::new(),
+            marked: Vec::new(),
+            starts: Vec::new(),
+            next: Vec::new(),
         }
     }
 
     /// Forgets everything if there is too much of it.
     fn trim(&mut self) {
-        if self.marks.len() > MOST_REMEMBERED {
+        if self.next.len() > MOST_REMEMBERED {
             self.known.fill(0);
             self.outputs.clear();
-            self.ends.truncate(1);
-            self.marks.clear();
+            self.marked.clear();
+            self.starts.clear();
+            self.next.clear();
         }
     }
 
-    /// The marks of a step.
-    fn marks(&self, number: usize) -> &[(u16, State)] {
-        &self.marks[self.ends[number - 1]..self.ends[number]]
+    /// Adds a step, numbered from 1, to another.
+    fn add(&self, number: usize, step: &mut Step) {
+        let words = step.output.len();
+        let range = (number - 1) * words..number * words;
+        set::unite(&mut step.output, &self.outputs[range.clone()]);
+        let marked = &self.marked[range];
+        set::unite(&mut step.marked, marked);
+        let mut next = &self.next[self.starts[number - 1]..];
+        for (word, into) in marked.iter().zip(step.next.chunks_mut(64)) {
+            if *word == u64::MAX {
+                for (state, added) in into.iter_mut().zip(next) {
+                    *state |= added;
+                }
+            } else {
+                let mut at = 0;
+                set::for_each(&[*word], |packet| {
+                    into[packet] |= next[at];
+                    at += 1;
+                });
+            }
+            next = &next[word.count_ones() as usize..];
+        }
     }
 }
 
-/// Packet sets on their way through the graph.
+/// A range of words.
+#[derive(Clone, Copy, Debug)]
+struct Span {
+    start: u8,
+    end: u8,
+}
+
+impl Span {
+    const EMPTY: Span = Span { start: 255, end: 0 };
+
+    /// The span of one packet's word.
+    fn of(packet: usize) -> Span {
+        let word = (packet / 64) as u8;
+        Span {
+            start: word,
+            end: word + 1,
+        }
+    }
+
+    fn with(self, other: Span) -> Span {
+        Span {
+            start: self.start.min(other.start),
+            end: self.end.max(other.end),
+        }
+    }
+
+    fn range(self) -> Range<usize> {
+        self.start.into()..self.end.into()
+    }
+
+    fn is_empty(self) -> bool {
+        self.start >= self.end
+    }
+}
+
+/// Packet sets on their way through the graph. Sets are often small, so each comes with the span of its words that may
+/// not be 0; other words are not looked at.
 #[derive(Debug)]
 struct Flow {
     words: usize,
@@ -131,12 +192,15 @@ struct Flow {
     seen: Vec<u64>,
     /// By point: what has arrived and was not passed on yet.
     pending: Vec<u64>,
+    /// By point: the span of what has arrived.
+    spans: Vec<Span>,
     /// The points with something pending, as bits.
     active: Vec<u64>,
     /// The points where something arrived, to clean up.
     visited: Vec<usize>,
-    /// A set being passed on.
-    packet_set: Vec<u64>,
+    /// A set being passed on, and its span.
+    moving: Vec<u64>,
+    span: Span,
 }
 
 impl Flow {
@@ -145,35 +209,43 @@ impl Flow {
             words,
             seen: vec![0; points * words],
             pending: vec![0; points * words],
+            spans: vec![Span::EMPTY; points],
             active: vec![0; points.div_ceil(64)],
             visited: Vec::new(),
-            packet_set: vec![0; words],
+            moving: vec![0; words],
+            span: Span::EMPTY,
         }
     }
 
-    /// Lets the packets of `packet_set` arrive at a point.
+    /// Lets one packet move.
+    fn start(&mut self, packet: usize) {
+        self.span = Span::of(packet);
+        self.moving[packet / 64] = 1 << (packet % 64);
+    }
+
+    /// Lets the moving packets arrive at a point.
     fn arrive(&mut self, point: usize) {
-        if point == NOWHERE {
+        if point == NOWHERE || self.span.is_empty() {
             return;
         }
-        let range = point * self.words..(point + 1) * self.words;
-        let (mut before, mut fresh) = (0, 0);
+        let range = self.words(point, self.span);
+        let mut fresh = 0;
         for ((seen, pending), arriving) in self.seen[range.clone()]
             .iter_mut()
             .zip(&mut self.pending[range])
-            .zip(&self.packet_set)
+            .zip(&self.moving[self.span.range()])
         {
             let new = arriving & !*seen;
-            before |= *seen;
             fresh |= new;
             *pending |= new;
             *seen |= new;
         }
         if fresh != 0 {
             set::insert(&mut self.active, point);
-            if before == 0 {
+            if self.spans[point].is_empty() {
                 self.visited.push(point);
             }
+            self.spans[point] = self.spans[point].with(self.span);
         }
     }
 
@@ -184,20 +256,52 @@ impl Flow {
         let bit = 63 - self.active[word].leading_zeros() as usize;
         self.active[word] ^= 1 << bit;
         let point = word * 64 + bit;
-        let range = point * self.words..(point + 1) * self.words;
-        self.packet_set
-            .copy_from_slice(&self.pending[range.clone()]);
+        self.span = self.spans[point];
+        let range = self.words(point, self.span);
+        self.moving[self.span.range()].copy_from_slice(&self.pending[range.clone()]);
         self.pending[range].fill(0);
         Some(point)
     }
 
+    /// Keeps the moving packets that are in a set.
+    fn keep(&mut self, filter: &[u64]) {
+        let range = self.span.range();
+        for (word, filter) in self.moving[range.clone()].iter_mut().zip(&filter[range]) {
+            *word &= filter;
+        }
+    }
+
+    /// Changes the moving packets; `changed` is for scratch.
+    fn change(&mut self, changed: &mut Vec<u64>, change: impl Fn(usize) -> usize) {
+        changed.clear();
+        changed.resize(self.words, 0);
+        let mut span = Span::EMPTY;
+        let base = usize::from(self.span.start) * 64;
+        set::for_each(&self.moving[self.span.range()], |packet| {
+            let packet = change(base + packet);
+            set::insert(changed, packet);
+            span = span.with(Span::of(packet));
+        });
+        std::mem::swap(&mut self.moving, changed);
+        self.span = span;
+    }
+
+    /// Where a point's words of a span stand.
+    fn words(&self, point: usize, span: Span) -> Range<usize> {
+        let base = point * self.words;
+        base + usize::from(span.start)..base + usize::from(span.end)
+    }
+
+    /// All that arrived at a point.
     fn seen(&self, point: usize) -> &[u64] {
         &self.seen[point * self.words..(point + 1) * self.words]
     }
 
     fn clear(&mut self) {
-        for point in self.visited.drain(..) {
-            self.seen[point * self.words..(point + 1) * self.words].fill(0);
+        while let Some(point) = self.visited.pop() {
+            let range = self.words(point, self.spans[point]);
+            self.seen[range].fill(0);
+            self.spans[point] = Span::EMPTY;
         }
     }
 }
@@ -208,10 +312,13 @@ pub struct Automaton<'a> {
     packets: &'a Packets,
     points: Vec<Point>,
     filters: Vec<u64>,
-    /// By mark: where its remainder begins.
+    /// By mark: the number of its remainder. Marks whose dups are followed by the same point share one.
+    remainder_of: Vec<u8>,
+    /// By remainder: where it begins.
     remainders: Vec<usize>,
     memo: Memo,
     flow: Flow,
+    changed: Vec<u64>,
     scratch: Step,
 }
 
@@ -226,48 +333,56 @@ impl<'a> Automaton<'a> {
             remainders: vec![NOWHERE; policy.dups() + 1],
         };
         compiler.remainders[0] = compiler.compile(policy.nodes().len() - 1, END);
+        let (remainder_of, remainders) = distinct(&compiler.remainders);
         Automaton {
             packets,
-            memo: Memo::new(compiler.remainders.len() * packets.count()),
+            memo: Memo::new(remainders.len() * packets.count()),
             flow: Flow::new(compiler.points.len(), packets.words()),
+            changed: Vec::new(),
             scratch: Step::new(packets),
             points: compiler.points,
             filters: compiler.filters,
-            remainders: compiler.remainders,
+            remainder_of,
+            remainders,
         }
     }
 
     /// Does the state mark only bits that the policy has?
     pub fn has(&self, state: State) -> bool {
-        let dups = self.remainders.len() - 1;
+        let dups = self.remainder_of.len() - 1;
         state >> dups < 2
     }
 
     /// The step of a state, all of whose marks the policy has, at a packet.
     pub fn step(&mut self, state: State, packet: usize, step: &mut Step) {
         step.clear();
-        let words = self.packets.words();
-        let mut rest = state;
+        let mut rest = self.marked_remainders(state);
         while rest != 0 {
             let number = self.known(rest.trailing_zeros() as usize, packet);
             rest &= rest - 1;
-            let output = &self.memo.outputs[(number - 1) * words..number * words];
-            set::unite(&mut step.output, output);
-            for &(packet, mask) in self.memo.marks(number) {
-                step.next[usize::from(packet)] |= mask;
-                set::insert(&mut step.marked, packet.into());
-            }
+            self.memo.add(number, step);
         }
     }
 
-    /// The number of one mark's step, remembered or worked out.
-    fn known(&mut self, mark: usize, packet: usize) -> usize {
-        let entry = mark * self.packets.count() + packet;
+    /// The remainders that a state marks, as bits.
+    fn marked_remainders(&self, state: State) -> u32 {
+        let mut remainders = 0;
+        let mut rest = state;
+        while rest != 0 {
+            remainders |= 1 << self.remainder_of[rest.trailing_zeros() as usize];
+            rest &= rest - 1;
+        }
+        remainders
+    }
+
+    /// The number of one remainder's step, remembered or worked out.
+    fn known(&mut self, remainder: usize, packet: usize) -> usize {
+        let entry = remainder * self.packets.count() + packet;
         if self.memo.known[entry] == 0 {
             self.memo.trim();
-            self.run(self.remainders[mark], packet);
+            self.run(self.remainders[remainder], packet);
             self.remember();
-            self.memo.known[entry] = (self.memo.ends.len() - 1) as u32;
+            self.memo.known[entry] = self.memo.starts.len() as u32;
         }
         self.memo.known[entry] as usize
     }
@@ -275,16 +390,16 @@ impl<'a> Automaton<'a> {
     /// Lets a packet flow from a point until nothing moves.
     fn run(&mut self, from: usize, packet: usize) {
         self.flow.clear();
-        self.flow.packet_set.fill(0);
-        set::insert(&mut self.flow.packet_set, packet);
+        self.flow.start(packet);
         self.flow.arrive(from);
         while let Some(point) = self.flow.take() {
             self.pass_on(point);
         }
     }
 
-    /// Passes the flow's packet set through a point.
+    /// Passes the moving packets through a point.
     fn pass_on(&mut self, point: usize) {
+        let packets = self.packets;
         match self.points[point] {
             Point::End | Point::Dup(_) => {}
             Point::Fork(one, other) => {
@@ -292,23 +407,14 @@ impl<'a> Automaton<'a> {
                 self.flow.arrive(other);
             }
             Point::Filter { filter, to } => {
-                let filter = &self.filters[filter..filter + self.packets.words()];
-                for (word, filter) in self.flow.packet_set.iter_mut().zip(filter) {
-                    *word &= filter;
-                }
+                self.flow
+                    .keep(&self.filters[filter..filter + packets.words()]);
                 self.flow.arrive(to);
             }
             Point::Set { field, value, to } => {
-                let before = std::mem::replace(
-                    &mut self.flow.packet_set,
-                    std::mem::take(&mut self.scratch.output),
-                );
-                self.flow.packet_set.fill(0);
-                set::for_each(&before, |packet| {
-                    let changed = self.packets.with(packet, field, value);
-                    set::insert(&mut self.flow.packet_set, changed);
+                self.flow.change(&mut self.changed, |packet| {
+                    packets.with(packet, field, value)
                 });
-                self.scratch.output = before;
                 self.flow.arrive(to);
             }
         }
@@ -327,11 +433,28 @@ impl<'a> Automaton<'a> {
         }
         let memo = &mut self.memo;
         memo.outputs.extend_from_slice(self.flow.seen(END));
+        memo.marked.extend_from_slice(&scratch.marked);
+        memo.starts.push(memo.next.len());
         set::for_each(&scratch.marked, |packet| {
-            memo.marks.push((packet as u16, scratch.next[packet]));
+            memo.next.push(scratch.next[packet]);
         });
-        memo.ends.push(memo.marks.len());
     }
+}
+
+/// Numbers the distinct points: each mark's number, and the points by number.
+fn distinct(points: &[usize]) -> (Vec<u8>, Vec<usize>) {
+    let mut found: Vec<usize> = Vec::new();
+    let numbers = points
+        .iter()
+        .map(|point| {
+            let known = found.iter().position(|other| other == point);
+            known.unwrap_or_else(|| {
+                found.push(*point);
+                found.len() - 1
+            }) as u8
+        })
+        .collect();
+    (numbers, found)
 }
 
 /// Builds the graph.
