@@ -6,6 +6,8 @@
 //! on once, so nested stars cost no more than other nodes. Steps of single remainders are remembered; a state's step
 //! is the union of its remainders' steps.
 
+use std::collections::HashMap;
+use std::hash::{DefaultHasher, Hash, Hasher};
 use std::ops::Range;
 
 use crate::packets::{set, Packets};
@@ -77,9 +79,12 @@ impl Step {
     }
 
     fn clear(&mut self) {
-        let next = &mut self.next;
-        set::for_each(&self.marked, |packet| next[packet] = 0);
-        self.marked.fill(0);
+        for (word, next) in self.marked.iter_mut().zip(self.next.chunks_mut(64)) {
+            if *word != 0 {
+                next.fill(0);
+                *word = 0;
+            }
+        }
         self.output.fill(0);
     }
 }
@@ -96,6 +101,8 @@ struct Memo {
     /// By step: where the states next at these packets begin.
     starts: Vec<usize>,
     next: Vec<State>,
+    /// By hash of a step's content: its number. Packets that are overwritten at once have the same step.
+    same: HashMap<u64, usize>,
 }
 
 /// Entries of the memo past which it starts anew.
@@ -109,6 +116,7 @@ impl Memo {
             marked: Vec::new(),
             starts: Vec::new(),
             next: Vec::new(),
+            same: HashMap::new(),
         }
     }
 
@@ -120,7 +128,36 @@ impl Memo {
             self.marked.clear();
             self.starts.clear();
             self.next.clear();
+            self.same.clear();
         }
+    }
+
+    /// Keeps a step and says its number: that of an equal one if there is any.
+    fn keep(&mut self, output: &[u64], step: &Step) -> usize {
+        let start = self.next.len();
+        set::for_each(&step.marked, |packet| self.next.push(step.next[packet]));
+        let mut hasher = DefaultHasher::new();
+        (output, &step.marked, &self.next[start..]).hash(&mut hasher);
+        let number = self.starts.len() + 1;
+        let known = *self.same.entry(hasher.finish()).or_insert(number);
+        if known < number && self.equals(known, output, &step.marked, &self.next[start..]) {
+            self.next.truncate(start);
+            return known;
+        }
+        self.outputs.extend_from_slice(output);
+        self.marked.extend_from_slice(&step.marked);
+        self.starts.push(start);
+        number
+    }
+
+    /// Has a step this content?
+    fn equals(&self, number: usize, output: &[u64], marked: &[u64], next: &[State]) -> bool {
+        let words = output.len();
+        let range = (number - 1) * words..number * words;
+        let start = self.starts[number - 1];
+        self.outputs[range.clone()] == *output
+            && self.marked[range] == *marked
+            && self.next[start..start + next.len()] == *next
     }
 
     /// Adds a step, numbered from 1, to another.
@@ -381,8 +418,7 @@ impl<'a> Automaton<'a> {
         if self.memo.known[entry] == 0 {
             self.memo.trim();
             self.run(self.remainders[remainder], packet);
-            self.remember();
-            self.memo.known[entry] = self.memo.starts.len() as u32;
+            self.memo.known[entry] = self.remember() as u32;
         }
         self.memo.known[entry] as usize
     }
@@ -420,8 +456,8 @@ impl<'a> Automaton<'a> {
         }
     }
 
-    /// Keeps what the last run found.
-    fn remember(&mut self) {
+    /// Keeps what the last run found and says the step's number.
+    fn remember(&mut self) -> usize {
         let scratch = &mut self.scratch;
         scratch.clear();
         for &point in &self.flow.visited {
@@ -431,13 +467,7 @@ impl<'a> Automaton<'a> {
                 set::for_each(seen, |packet| scratch.next[packet] |= 1 << dup);
             }
         }
-        let memo = &mut self.memo;
-        memo.outputs.extend_from_slice(self.flow.seen(END));
-        memo.marked.extend_from_slice(&scratch.marked);
-        memo.starts.push(memo.next.len());
-        set::for_each(&scratch.marked, |packet| {
-            memo.next.push(scratch.next[packet]);
-        });
+        self.memo.keep(self.flow.seen(END), scratch)
     }
 }
 
@@ -520,7 +550,7 @@ impl Compiler<'_> {
         let filter = self.filters.len();
         self.filters.resize(filter + self.packets.words(), 0);
         for packet in 0..self.packets.count() {
-            if (self.packets.value(packet, field) == value) == keep {
+            if self.packets.test(packet, field, value) == keep {
                 set::insert(&mut self.filters[filter..], packet);
             }
         }

@@ -14,6 +14,8 @@ pub struct Packets {
     /// What one step of a field's value adds to the packet's number; field 0 varies slowest.
     strides: Vec<usize>,
     count: usize,
+    /// By field, then packet: the packet with that field 0.
+    cleared: Vec<u16>,
 }
 
 impl Packets {
@@ -37,10 +39,18 @@ impl Packets {
         for field in (1..sizes.len()).rev() {
             strides[field - 1] = strides[field] * sizes[field];
         }
+        let cleared = sizes
+            .iter()
+            .zip(&strides)
+            .flat_map(|(size, stride)| {
+                (0..count).map(move |packet| (packet - packet / stride % size * stride) as u16)
+            })
+            .collect();
         Ok(Packets {
             sizes,
             strides,
             count,
+            cleared,
         })
     }
 
@@ -68,7 +78,12 @@ impl Packets {
 
     /// The packet with a field changed.
     pub fn with(&self, packet: usize, field: usize, value: usize) -> usize {
-        packet - self.value(packet, field) * self.strides[field] + value * self.strides[field]
+        usize::from(self.cleared[field * self.count + packet]) + value * self.strides[field]
+    }
+
+    /// Has the field this value in the packet?
+    pub fn test(&self, packet: usize, field: usize, value: usize) -> bool {
+        self.with(packet, field, value) == packet
     }
 
     /// Words of a set of packets.
