@@ -3,15 +3,19 @@
 use std::collections::BTreeMap;
 
 use netkat_reference::case::Case;
-use netkat_reference::generate::{case, Extent};
+use netkat_reference::generate::{case, fixed, Extent};
 use netkat_reference::random::Random;
 
 /// Counts the answers of many cases by call and kind.
 fn answers(seed: u64, count: usize, extent: Extent) -> BTreeMap<(&'static str, u64, u64), usize> {
-    let mut seen = BTreeMap::new();
     let mut random = Random::new(seed);
-    for _ in 0..count {
-        let mut case = case(&mut random, extent);
+    tally((0..count).map(|_| case(&mut random, extent)))
+}
+
+/// How often each answer occurs, by call, kind, and rule or refusal.
+fn tally(cases: impl Iterator<Item = Case>) -> BTreeMap<(&'static str, u64, u64), usize> {
+    let mut seen = BTreeMap::new();
+    for mut case in cases {
         let answer = case.run();
         let (kind, detail) = match &case {
             Case::Program { output, .. } => program_answer(output),
@@ -39,8 +43,28 @@ fn program_answer(output: &[u8]) -> (u64, u64) {
 }
 
 #[test]
-fn every_answer_occurs() {
-    let seen = answers(1, 6000, Extent::Small);
+fn every_answer_occurs_at_random() {
+    every_answer_occurs(&answers(1, 6000, Extent::Small));
+}
+
+#[test]
+fn every_refusal_and_kind_occurs_among_the_fixed_cases() {
+    let seen = tally(fixed::cases().into_iter());
+    for number in 1..=18 {
+        assert!(
+            seen.keys().any(|key| (key.1, key.2) == (9, number)),
+            "{number}"
+        );
+    }
+    for kind in 0..=4 {
+        assert!(seen.keys().any(|key| key.1 == kind), "{kind}");
+    }
+    for rule in 1..=4 {
+        assert!(seen.contains_key(&("evidence", 5, rule)), "{rule}");
+    }
+}
+
+fn every_answer_occurs(seen: &BTreeMap<(&'static str, u64, u64), usize>) {
     let occurs = |call, kind, detail| {
         assert!(
             seen.contains_key(&(call, kind, detail)),

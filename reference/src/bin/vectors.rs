@@ -1,7 +1,7 @@
 //! Prints test vectors: calls with their inputs and the answers this implementation expects.
 //!
-//! `vectors SEED COUNT [small|large]` prints a line `# seed SEED count COUNT`, then one case a line. Fields are
-//! separated by `|`:
+//! `vectors SEED COUNT [small|large]` prints a line `# seed SEED count COUNT`, then one case a line: first the fixed
+//! cases, which are the same for every seed, then COUNT random ones. Fields are separated by `|`:
 //!
 //! ```text
 //! NAME|INPUT|…|INPUT|ANSWER|CHECKSUMS
@@ -39,7 +39,7 @@ use std::env;
 use std::io::{self, BufWriter, Write};
 use std::process::ExitCode;
 
-use netkat_reference::generate::{case, Extent};
+use netkat_reference::generate::{case, fixed, Extent};
 use netkat_reference::random::Random;
 
 /// Seed, count and extent from the command line.
@@ -71,6 +71,9 @@ fn main() -> ExitCode {
 fn print(seed: u64, count: usize, extent: Extent) -> io::Result<()> {
     let mut output = BufWriter::new(io::stdout().lock());
     writeln!(output, "# seed {seed} count {count}")?;
+    for case in fixed::cases() {
+        writeln!(output, "{}", case.vector())?;
+    }
     let mut random = Random::new(seed);
     for _ in 0..count {
         writeln!(output, "{}", case(&mut random, extent).vector())?;
