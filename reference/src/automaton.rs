@@ -101,11 +101,13 @@ struct Memo {
     /// By step: where the states next at these packets begin.
     starts: Vec<usize>,
     next: Vec<State>,
+    /// States past which it starts anew.
+    most: usize,
     /// By hash of a step's content: its number. Packets that are overwritten at once have the same step.
     same: HashMap<u64, usize>,
 }
 
-/// Entries of the memo past which it starts anew.
+/// States that a memo holds before it starts anew.
 const MOST_REMEMBERED: usize = 1 << 23;
 
 impl Memo {
@@ -116,13 +118,14 @@ impl Memo {
             marked: Vec::new(),
             starts: Vec::new(),
             next: Vec::new(),
+            most: MOST_REMEMBERED,
             same: HashMap::new(),
         }
     }
 
     /// Forgets everything if there is too much of it.
     fn trim(&mut self) {
-        if self.next.len() > MOST_REMEMBERED {
+        if self.next.len() > self.most {
             self.known.fill(0);
             self.outputs.clear();
             self.marked.clear();
@@ -555,5 +558,39 @@ impl Compiler<'_> {
             }
         }
         self.point(Point::Filter { filter, to })
+    }
+}
+
+#[cfg(test)]
+mod tests {
+    use super::*;
+    use crate::generate::tree::tree;
+    use crate::policy::single;
+    use crate::random::Random;
+
+    /// A memo that forgets gives the same steps.
+    #[test]
+    fn forgetting_changes_nothing() {
+        let mut random = Random::new(21);
+        let sizes = [3, 50];
+        let packets = Packets::new(&sizes).unwrap();
+        let (mut one, mut other) = (Step::new(&packets), Step::new(&packets));
+        for _ in 0..300 {
+            let nodes = random.between(5, 40);
+            let policy = tree(&mut random, &sizes, nodes, 8);
+            let policy = single(&packets, policy.lists().lists()).unwrap();
+            let mut remembering = Automaton::new(&packets, &policy);
+            let mut forgetting = Automaton::new(&packets, &policy);
+            forgetting.memo.most = 0;
+            for _ in 0..40 {
+                let state = random.below(1 << (policy.dups() + 1)) as State;
+                let packet = random.below(packets.count());
+                remembering.step(state, packet, &mut one);
+                forgetting.step(state, packet, &mut other);
+                assert_eq!(one.output, other.output);
+                assert_eq!(one.next, other.next);
+                assert_eq!(one.marked, other.marked);
+            }
+        }
     }
 }
