@@ -95,7 +95,7 @@ fn every_answer_occurs(seen: &BTreeMap<(&'static str, u64, u64), usize>) {
     refused("texts", &[1, 2, 3, 6, 9, 10, 11, 12, 14, 15, 16, 17]);
     refused("evidence", &[1, 2, 3, 4, 5, 6, 7, 8, 9, 10]);
     refused("trace", &[1, 2, 3, 4, 5, 6, 7, 8, 9, 10, 13]);
-    refused("program", &[1, 2, 3, 14, 16, 18]);
+    refused("program", &[1, 2, 3, 6, 9, 14, 15, 16, 17, 18]);
 }
 
 #[test]
@@ -114,6 +114,16 @@ fn the_same_seed_gives_the_same_vectors() {
         cases
     };
     assert_eq!(lines(), lines());
+}
+
+#[test]
+fn vectors_say_all_there_is() {
+    let mut random = Random::new(6);
+    let at_random = (0..2000).map(|_| case(&mut random, Extent::Small));
+    for case in fixed::cases().into_iter().chain(at_random) {
+        let line = case.clone().vector();
+        assert_eq!(Case::parse(&line), Some(case));
+    }
 }
 
 #[test]

@@ -363,24 +363,32 @@ fn texts(random: &mut Random, extent: Extent) -> Case {
     let (left, right) = pair(random, &legal, extent);
     let needs = needs(&legal, &left.lists(), &right.lists(), extent);
     let lists = lent(random, &needs);
-    let sizes = if random.one_in(10) {
-        // Other legal sizes, so that fields or values may be out of range.
-        legal_sizes(random, extent)
-    } else {
-        sizes(random, &legal)
-    };
-    let dups = vec!["dup"; 31 + random.below(2)].join(";").into_bytes();
-    let (mut left, mut right) = (text(random, &left, 8), text(random, &right, 8));
-    match random.below(40) {
-        0 => left = dups,
-        1 => right = dups,
-        _ => {}
-    }
+    let (left, right) = text_pair(random, &left, &right);
     Case::Texts {
-        sizes,
+        sizes: other_sizes(random, &legal, extent),
         left,
         right,
         lists,
+    }
+}
+
+/// Sizes for texts, now and then other legal ones, so that fields or values may be out of range.
+fn other_sizes(random: &mut Random, legal: &[u16], extent: Extent) -> Vec<u16> {
+    if random.one_in(10) {
+        legal_sizes(random, extent)
+    } else {
+        sizes(random, legal)
+    }
+}
+
+/// Texts of two trees; each may be damaged, or have too many dups or nearly so.
+fn text_pair(random: &mut Random, left: &Tree, right: &Tree) -> (Vec<u8>, Vec<u8>) {
+    let dups = vec!["dup"; 31 + random.below(2)].join(";").into_bytes();
+    let (left, right) = (text(random, left, 10), text(random, right, 10));
+    match random.below(40) {
+        0 => (dups, right),
+        1 => (left, dups),
+        _ => (left, right),
     }
 }
 
@@ -556,15 +564,12 @@ fn trace(random: &mut Random, extent: Extent) -> Case {
 fn program(random: &mut Random, extent: Extent) -> Case {
     let legal = legal_sizes(random, extent);
     let (left, right) = pair(random, &legal, extent);
-    let printed: Vec<String> = sizes(random, &legal)
+    let printed: Vec<String> = other_sizes(random, &legal, extent)
         .iter()
         .map(|size| size.to_string())
         .collect();
-    let mut lines = vec![
-        printed.join(",").into_bytes(),
-        text(random, &left, 12),
-        text(random, &right, 12),
-    ];
+    let (left, right) = text_pair(random, &left, &right);
+    let mut lines = vec![printed.join(",").into_bytes(), left, right];
     match random.below(24) {
         0 => lines[0] = sizes_line(random),
         1 => drop(lines.pop()),
