@@ -5,6 +5,7 @@ mod common;
 use common::{nodes, search, search_with, Outcome};
 use netkat_reference::answer::{Holders, Refusal, Ruling, Side, Verdict};
 use netkat_reference::evidence::{self, Table};
+use netkat_reference::generate::heavy;
 use netkat_reference::search::{search_texts, Lists, LEAST_WORK};
 use netkat_reference::traces;
 
@@ -268,4 +269,17 @@ fn nested_stars_cost_nothing() {
     let outcome = search(&[1024], &text, "id");
     assert_eq!(outcome.answer, Ok(Verdict::Equal { rows: 1024 }));
     assert!(start.elapsed().as_secs() < 20);
+}
+
+#[test]
+fn heavy_pairs_are_equal() {
+    for pair in heavy::pairs() {
+        let outcome = search(&pair.sizes, &pair.left, &pair.right);
+        let Ok(Verdict::Equal { rows }) = outcome.answer else {
+            panic!("{} {:?}", pair.name, outcome.answer);
+        };
+        let rows = outcome.rows(rows);
+        let ruling = ruling(&pair.sizes, &pair.left, &pair.right, &rows);
+        assert_eq!(ruling, Ruling::Accepted, "{}", pair.name);
+    }
 }

@@ -19,6 +19,7 @@ pub fn pairs() -> Vec<Pair> {
         nested_stars(),
         counter(),
         forwarding(),
+        cycles(),
         many_dups(),
         many_states(),
         many_rows(),
@@ -70,6 +71,23 @@ fn forwarding() -> Pair {
         sizes: vec![32, 32],
         left: format!("(({});dup)*", hops(&mut (0..32))),
         right: format!("(({});dup)*", hops(&mut (0..32).rev())),
+    }
+}
+
+/// `dup*` as rounds of so many dups and a rest of fewer.
+fn rounds(dups: usize) -> String {
+    let round = vec!["dup"; dups].join(";");
+    let rest = (1..dups).fold("id".to_string(), |rest, _| format!("(id+dup;{rest})"));
+    format!("({round})*;{rest}")
+}
+
+/// `dup*` in rounds of 7 and of 9: 63 pairs of states, and nearly as many rows as there may be.
+fn cycles() -> Pair {
+    Pair {
+        name: "cycles",
+        sizes: vec![3, 11, 31],
+        left: rounds(7),
+        right: rounds(9),
     }
 }
 
