@@ -1,0 +1,508 @@
+//! One call with its inputs and lent lists: run it, print it, sum up what it left.
+
+use std::fmt::Write;
+use std::str::FromStr;
+
+use crate::answer::{Numbered, Numbers};
+use crate::evidence::{self, Table};
+use crate::policy::{self, OwnedLists};
+use crate::search::{self, Lists};
+use crate::{packets, program, text, traces};
+
+/// A call with everything it is handed.
+#[derive(Clone, Debug, PartialEq, Eq)]
+pub enum Case {
+    /// A packet's number turned into values.
+    Values {
+        /// Sizes of the fields.
+        sizes: Vec<u16>,
+        /// The number turned.
+        number: u16,
+        /// Lent for the values.
+        values: Vec<u16>,
+    },
+    /// Values turned into a packet's number.
+    Number {
+        /// Sizes of the fields.
+        sizes: Vec<u16>,
+        /// The values turned.
+        values: Vec<u16>,
+    },
+    /// One policy tested.
+    Policy {
+        /// Sizes of the fields.
+        sizes: Vec<u16>,
+        /// The policy.
+        policy: OwnedLists,
+    },
+    /// One text read.
+    Read {
+        /// The text.
+        text: Vec<u8>,
+        /// Lent for the nodes.
+        nodes: OwnedLists,
+    },
+    /// Two policies searched.
+    Search {
+        /// Sizes of the fields.
+        sizes: Vec<u16>,
+        /// Left policy.
+        left: OwnedLists,
+        /// Right policy.
+        right: OwnedLists,
+        /// Lent lists.
+        lists: Lists,
+    },
+    /// Two texts searched.
+    Texts {
+        /// Sizes of the fields.
+        sizes: Vec<u16>,
+        /// Left text.
+        left: Vec<u8>,
+        /// Right text.
+        right: Vec<u8>,
+        /// Lent lists.
+        lists: Lists,
+    },
+    /// A table checked.
+    Evidence {
+        /// Sizes of the fields.
+        sizes: Vec<u16>,
+        /// Left policy.
+        left: OwnedLists,
+        /// Right policy.
+        right: OwnedLists,
+        /// The table in the first three lists, and the work list; parents and trace are not lent.
+        lists: Lists,
+    },
+    /// A trace checked.
+    Trace {
+        /// Sizes of the fields.
+        sizes: Vec<u16>,
+        /// Left policy.
+        left: OwnedLists,
+        /// Right policy.
+        right: OwnedLists,
+        /// Entering packet.
+        entering: u16,
+        /// The trace.
+        trace: Vec<u16>,
+        /// The work list.
+        work: Vec<u32>,
+    },
+    /// The program run.
+    Program {
+        /// Its input.
+        input: Vec<u8>,
+        /// Its output, once run.
+        output: Vec<u8>,
+    },
+}
+
+/// An entry of a list: printed as a number, summed up as bytes, lowest first.
+trait Entry: Copy + PartialEq + Into<u64> {
+    const BYTES: usize;
+}
+
+impl Entry for u8 {
+    const BYTES: usize = 1;
+}
+
+impl Entry for u16 {
+    const BYTES: usize = 2;
+}
+
+impl Entry for u32 {
+    const BYTES: usize = 4;
+}
+
+/// FNV-1a, 64 bits, over all entries of a list.
+fn checksum<T: Entry>(list: &[T]) -> u64 {
+    let mut sum = 0xcbf2_9ce4_8422_2325;
+    for &entry in list {
+        let entry: u64 = entry.into();
+        for byte in &entry.to_le_bytes()[..T::BYTES] {
+            sum = (sum ^ u64::from(*byte)).wrapping_mul(0x0100_0000_01b3);
+        }
+    }
+    sum
+}
+
+/// A list as `length:v v v`; the last number printed stands for all entries that follow.
+fn list<T: Entry>(entries: &[T]) -> String {
+    let mut printed = format!("{}:", entries.len());
+    let Some(last) = entries.last() else {
+        return printed;
+    };
+    let shown = entries
+        .iter()
+        .rposition(|entry| entry != last)
+        .map_or(1, |at| at + 2);
+    for (at, &entry) in entries[..shown].iter().enumerate() {
+        let gap = if at == 0 { "" } else { " " };
+        let entry: u64 = entry.into();
+        let _ = write!(printed, "{gap}{entry}");
+    }
+    printed
+}
+
+/// Bytes as hexadecimal digits.
+fn hex(bytes: &[u8]) -> String {
+    let mut printed = String::with_capacity(bytes.len() * 2);
+    for byte in bytes {
+        let _ = write!(printed, "{byte:02x}");
+    }
+    printed
+}
+
+/// The three lists of a policy.
+fn nodes(policy: &OwnedLists) -> [String; 3] {
+    [
+        list(&policy.kind),
+        list(&policy.first),
+        list(&policy.second),
+    ]
+}
+
+/// The six lists lent to a search.
+fn lent(lists: &Lists) -> [String; 6] {
+    [
+        list(&lists.packet),
+        list(&lists.left),
+        list(&lists.right),
+        list(&lists.parent),
+        list(&lists.trace),
+        list(&lists.work),
+    ]
+}
+
+/// Checksums of the six lists lent to a search.
+fn lent_checksums(lists: &Lists) -> Vec<u64> {
+    vec![
+        checksum(&lists.packet),
+        checksum(&lists.left),
+        checksum(&lists.right),
+        checksum(&lists.parent),
+        checksum(&lists.trace),
+        checksum(&lists.work),
+    ]
+}
+
+impl Case {
+    /// The call's name.
+    pub fn name(&self) -> &'static str {
+        match self {
+            Case::Values { .. } => "values",
+            Case::Number { .. } => "number",
+            Case::Policy { .. } => "policy",
+            Case::Read { .. } => "read",
+            Case::Search { .. } => "search",
+            Case::Texts { .. } => "texts",
+            Case::Evidence { .. } => "evidence",
+            Case::Trace { .. } => "trace",
+            Case::Program { .. } => "program",
+        }
+    }
+
+    /// Runs the call on its own lists. The program's answer is 0 and the length of its output.
+    pub fn run(&mut self) -> Numbers {
+        match self {
+            Case::Values {
+                sizes,
+                number,
+                values,
+            } => packets::values(sizes, *number, values).numbers(),
+            Case::Number { sizes, values } => packets::number(sizes, values).numbers(),
+            Case::Policy { sizes, policy } => policy::check(sizes, policy.lists()).numbers(),
+            Case::Read { text, nodes } => {
+                text::read(text, &mut nodes.kind, &mut nodes.first, &mut nodes.second).numbers()
+            }
+            Case::Search {
+                sizes,
+                left,
+                right,
+                lists,
+            } => search::search(sizes, left.lists(), right.lists(), lists.lend()).numbers(),
+            Case::Texts {
+                sizes,
+                left,
+                right,
+                lists,
+            } => search::search_texts(sizes, left, right, lists.lend()).numbers(),
+            Case::Evidence {
+                sizes,
+                left,
+                right,
+                lists,
+            } => {
+                let table = Table {
+                    packet: &lists.packet,
+                    left: &lists.left,
+                    right: &lists.right,
+                };
+                let (left, right) = (left.lists(), right.lists());
+                evidence::check(sizes, left, right, table, &mut lists.work).numbers()
+            }
+            Case::Trace {
+                sizes,
+                left,
+                right,
+                entering,
+                trace,
+                work,
+            } => {
+                let (left, right) = (left.lists(), right.lists());
+                traces::check(sizes, left, right, *entering, trace, work).numbers()
+            }
+            Case::Program { input, output } => {
+                *output = program::run(input);
+                output.len().numbers()
+            }
+        }
+    }
+
+    /// The inputs as text, in the order in which the call takes them.
+    pub fn inputs(&self) -> Vec<String> {
+        let mut fields = Vec::new();
+        match self {
+            Case::Values {
+                sizes,
+                number,
+                values,
+            } => fields.extend([list(sizes), number.to_string(), list(values)]),
+            Case::Number { sizes, values } => fields.extend([list(sizes), list(values)]),
+            Case::Policy { sizes, policy } => {
+                fields.push(list(sizes));
+                fields.extend(nodes(policy));
+            }
+            Case::Read { text, nodes: lent } => {
+                fields.push(hex(text));
+                fields.extend(nodes(lent));
+            }
+            Case::Search {
+                sizes,
+                left,
+                right,
+                lists,
+            } => {
+                fields.push(list(sizes));
+                fields.extend(nodes(left));
+                fields.extend(nodes(right));
+                fields.extend(lent(lists));
+            }
+            Case::Texts {
+                sizes,
+                left,
+                right,
+                lists,
+            } => {
+                fields.extend([list(sizes), hex(left), hex(right)]);
+                fields.extend(lent(lists));
+            }
+            Case::Evidence {
+                sizes,
+                left,
+                right,
+                lists,
+            } => {
+                fields.push(list(sizes));
+                fields.extend(nodes(left));
+                fields.extend(nodes(right));
+                fields.extend([
+                    list(&lists.packet),
+                    list(&lists.left),
+                    list(&lists.right),
+                    list(&lists.work),
+                ]);
+            }
+            Case::Trace {
+                sizes,
+                left,
+                right,
+                entering,
+                trace,
+                work,
+            } => {
+                fields.push(list(sizes));
+                fields.extend(nodes(left));
+                fields.extend(nodes(right));
+                fields.extend([entering.to_string(), list(trace), list(work)]);
+            }
+            Case::Program { input, .. } => fields.push(hex(input)),
+        }
+        fields
+    }
+
+    /// Checksums of the lists that the call may write, in the order in which it takes them; of the program, its output.
+    pub fn checksums(&self) -> Vec<u64> {
+        match self {
+            Case::Values { values, .. } => vec![checksum(values)],
+            Case::Number { .. } | Case::Policy { .. } => Vec::new(),
+            Case::Read { nodes, .. } => vec![
+                checksum(&nodes.kind),
+                checksum(&nodes.first),
+                checksum(&nodes.second),
+            ],
+            Case::Search { lists, .. } | Case::Texts { lists, .. } => lent_checksums(lists),
+            Case::Evidence { lists, .. } => vec![checksum(&lists.work)],
+            Case::Trace { work, .. } => vec![checksum(work)],
+            Case::Program { output, .. } => vec![checksum(output)],
+        }
+    }
+
+    /// Runs the case and prints it as one line: name, inputs, answer, checksums, separated by `|`.
+    pub fn vector(mut self) -> String {
+        let mut fields = vec![self.name().to_string()];
+        fields.extend(self.inputs());
+        let answer = self.run().map(|number| number.to_string());
+        fields.push(answer.join(" "));
+        let sums: Vec<String> = self
+            .checksums()
+            .iter()
+            .map(|s| format!("{s:016x}"))
+            .collect();
+        fields.push(sums.join(" "));
+        fields.join("|")
+    }
+}
+
+/// Reads the fields of a printed case one by one.
+struct Fields<'a>(std::str::Split<'a, char>);
+
+impl Fields<'_> {
+    fn number(&mut self) -> Option<u16> {
+        self.0.next()?.parse().ok()
+    }
+
+    fn list<T: Entry + FromStr>(&mut self) -> Option<Vec<T>> {
+        let (length, given) = self.0.next()?.split_once(':')?;
+        let length = length.parse().ok()?;
+        let entries: Option<Vec<T>> = given.split_whitespace().map(|v| v.parse().ok()).collect();
+        let mut entries = entries?;
+        if let Some(&last) = entries.last() {
+            entries.resize(length, last);
+        }
+        (entries.len() == length).then_some(entries)
+    }
+
+    fn text(&mut self) -> Option<Vec<u8>> {
+        let digits = self.0.next()?;
+        (0..digits.len())
+            .step_by(2)
+            .map(|at| u8::from_str_radix(digits.get(at..at + 2)?, 16).ok())
+            .collect()
+    }
+
+    fn nodes(&mut self) -> Option<OwnedLists> {
+        Some(OwnedLists {
+            kind: self.list()?,
+            first: self.list()?,
+            second: self.list()?,
+        })
+    }
+
+    fn lists(&mut self) -> Option<Lists> {
+        Some(Lists {
+            packet: self.list()?,
+            left: self.list()?,
+            right: self.list()?,
+            parent: self.list()?,
+            trace: self.list()?,
+            work: self.list()?,
+        })
+    }
+
+    /// The three lists of a table, and the work list.
+    fn table(&mut self) -> Option<Lists> {
+        Some(Lists {
+            packet: self.list()?,
+            left: self.list()?,
+            right: self.list()?,
+            parent: Vec::new(),
+            trace: Vec::new(),
+            work: self.list()?,
+        })
+    }
+}
+
+impl Case {
+    /// Reads a case from a line that [`Case::vector`] printed; answer and checksums are not read.
+    pub fn parse(line: &str) -> Option<Case> {
+        let mut fields = Fields(line.split('|'));
+        Some(match fields.0.next()? {
+            "values" => Case::Values {
+                sizes: fields.list()?,
+                number: fields.number()?,
+                values: fields.list()?,
+            },
+            "number" => Case::Number {
+                sizes: fields.list()?,
+                values: fields.list()?,
+            },
+            "policy" => Case::Policy {
+                sizes: fields.list()?,
+                policy: fields.nodes()?,
+            },
+            "read" => Case::Read {
+                text: fields.text()?,
+                nodes: fields.nodes()?,
+            },
+            "search" => Case::Search {
+                sizes: fields.list()?,
+                left: fields.nodes()?,
+                right: fields.nodes()?,
+                lists: fields.lists()?,
+            },
+            "texts" => Case::Texts {
+                sizes: fields.list()?,
+                left: fields.text()?,
+                right: fields.text()?,
+                lists: fields.lists()?,
+            },
+            "evidence" => Case::Evidence {
+                sizes: fields.list()?,
+                left: fields.nodes()?,
+                right: fields.nodes()?,
+                lists: fields.table()?,
+            },
+            "trace" => Case::Trace {
+                sizes: fields.list()?,
+                left: fields.nodes()?,
+                right: fields.nodes()?,
+                entering: fields.number()?,
+                trace: fields.list()?,
+                work: fields.list()?,
+            },
+            "program" => Case::Program {
+                input: fields.text()?,
+                output: Vec::new(),
+            },
+            _ => return None,
+        })
+    }
+}
+
+#[cfg(test)]
+mod tests {
+    use super::*;
+
+    #[test]
+    fn lists_are_printed_short() {
+        assert_eq!(list::<u16>(&[]), "0:");
+        assert_eq!(list::<u16>(&[7]), "1:7");
+        assert_eq!(list::<u16>(&[7, 7, 7]), "3:7");
+        assert_eq!(list::<u32>(&[1, 2, 2]), "3:1 2");
+        assert_eq!(list::<u8>(&[1, 2, 3]), "3:1 2 3");
+    }
+
+    #[test]
+    fn checksums_are_fnv() {
+        assert_eq!(checksum::<u8>(&[]), 0xcbf2_9ce4_8422_2325);
+        assert_eq!(checksum(b"a"), 0xaf63_dc4c_8601_ec8c);
+        assert_eq!(checksum(b"foobar"), 0x8594_4171_f739_67e8);
+        assert_eq!(
+            checksum::<u16>(&[0x6f66, 0x626f, 0x7261]),
+            checksum(b"foobar")
+        );
+    }
+}

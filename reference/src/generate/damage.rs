@@ -1,0 +1,213 @@
+//! Illegal inputs: one part of a legal one changed, or nothing legal about it.
+
+use super::tree::{star, tree, Tree};
+use crate::policy::{kind, OwnedLists};
+use crate::random::Random;
+
+/// Sizes that 1, 2 or 3 refuses.
+pub fn sizes(random: &mut Random, legal: &[u16]) -> Vec<u16> {
+    let mut sizes = legal.to_vec();
+    match random.below(7) {
+        0 => sizes.clear(),
+        1 => sizes.resize(random.between(9, 12), 1),
+        2 => {
+            let field = random.below(sizes.len());
+            sizes[field] = 0;
+        }
+        3 => sizes = vec![1025, 0, 0][..random.between(1, 3)].to_vec(),
+        4 => sizes = vec![5, 205],
+        5 => {
+            let field = random.below(sizes.len());
+            sizes[field] = random.between(1025, 65_535) as u16;
+        }
+        _ => {
+            let fields = random.below(11);
+            sizes = (0..fields).map(|_| random.below(40) as u16).collect();
+        }
+    }
+    sizes
+}
+
+/// Node lists meant for one of the causes 4 to 9. The change may hit an earlier cause or none: what is refused is for
+/// the call to say.
+pub fn nodes(random: &mut Random, sizes: &[u16], legal: &OwnedLists) -> OwnedLists {
+    let mut lists = legal.clone();
+    let node = random.below(lists.kind.len());
+    match random.below(9) {
+        0 => unequal(random, &mut lists),
+        1 => lists = over(random, legal),
+        2 => lists.kind[node] = random.between(9, 255) as u8,
+        3 => lists.first[node] = random.bits() as u16,
+        4 => lists.second[node] = random.bits() as u16,
+        5 => lists.kind[node] = random.below(9) as u8,
+        6 => {
+            // Any child number up to the node itself.
+            let child = random.below(node + 1) as u16;
+            match lists.kind[node] {
+                kind::STAR => lists.first[node] = child,
+                kind::SUM | kind::SEQUENCE if random.one_in(2) => lists.first[node] = child,
+                kind::SUM | kind::SEQUENCE => lists.second[node] = child,
+                _ => drop(lists.push(kind::STAR, child, 0)),
+            }
+        }
+        7 => lists = many_dups(random, sizes).lists(),
+        _ => lists = hostile_nodes(random),
+    }
+    lists
+}
+
+/// One list made longer or shorter, or all emptied.
+fn unequal(random: &mut Random, lists: &mut OwnedLists) {
+    match random.below(4) {
+        0 => *lists = OwnedLists::default(),
+        1 => drop(lists.kind.pop()),
+        2 => lists.first.push(0),
+        _ => lists.second.truncate(random.below(lists.second.len())),
+    }
+}
+
+/// Stars on top up to 513 nodes or a little more.
+fn over(random: &mut Random, legal: &OwnedLists) -> OwnedLists {
+    let mut lists = legal.clone();
+    let nodes = 512 + random.between(0, 2);
+    while lists.kind.len() < nodes {
+        lists.push(kind::STAR, lists.kind.len() as u16 - 1, 0);
+    }
+    lists
+}
+
+/// A policy with 32 dups or a few more.
+fn many_dups(random: &mut Random, sizes: &[u16]) -> Tree {
+    let mut policy = tree(random, sizes, 8, 0);
+    for _ in 0..random.between(32, 35) {
+        let parts = (Box::new(Tree::Dup), Box::new(policy));
+        policy = match random.below(4) {
+            0 => Tree::Sum(parts.0, parts.1),
+            1 => Tree::Sum(parts.1, parts.0),
+            2 => Tree::Sequence(parts.0, parts.1),
+            _ => Tree::Sequence(parts.1, parts.0),
+        };
+    }
+    policy
+}
+
+/// Random lists, mostly of small numbers.
+fn hostile_nodes(random: &mut Random) -> OwnedLists {
+    let nodes = random.between(1, 6);
+    let mut lists = OwnedLists::default();
+    for node in 0..nodes {
+        let kind = random.below(9) as u8;
+        let any = random.below(node + 2) as u16;
+        let other = random.below(node + 1) as u16;
+        lists.push(kind, any, other);
+    }
+    lists
+}
+
+/// Bytes that texts are made of, and some that they are not.
+const BYTES: &[u8] = b"()()**++;;==!!<<--  \t01f2dupidrop9aZ\r\n\0\x7f\x80\xff$_.,";
+
+/// A text meant for one of the causes 14 to 17.
+pub fn text(random: &mut Random, legal: &[u8]) -> Vec<u8> {
+    let mut text = legal.to_vec();
+    let place = random.below(text.len() + 1);
+    match random.below(12) {
+        0 => text.insert(place, random.pick(BYTES)),
+        1 => drop(text.drain(place..)),
+        2 if place < text.len() => drop(text.remove(place)),
+        3 if place < text.len() => text[place] = random.pick(BYTES),
+        4 => text = hostile_text(random),
+        5 => text = many_parentheses(random, legal),
+        6 => text = many_nodes(random, legal),
+        7 => insert(&mut text, place, random.pick(WORDS)),
+        8 => insert(&mut text, place, random.pick(TOKENS)),
+        9 => text.push(random.pick(b";+*()=")),
+        10 => text.insert(0, random.pick(b";+*()=")),
+        _ => insert(&mut text, place, random.pick(TOKENS)),
+    }
+    text
+}
+
+/// Words good and bad.
+const WORDS: &[&str] = &[
+    "f0",
+    "f7",
+    "f8",
+    "f",
+    "F0",
+    "00",
+    "01",
+    "65535",
+    "65536",
+    "99999",
+    "100000",
+    "DROP",
+    "idd",
+    "i",
+    "dup1",
+    "0x1",
+    "18446744073709551616",
+];
+
+/// Tokens.
+const TOKENS: &[&str] = &[
+    "=", "!=", "<-", "+", ";", "*", "(", ")", " id ", " drop ", " dup ", " f0 ", " 1 ", "f0=0",
+    " ! = ", "< -",
+];
+
+fn insert(text: &mut Vec<u8>, place: usize, what: &str) {
+    text.splice(place..place, what.bytes());
+}
+
+fn hostile_text(random: &mut Random) -> Vec<u8> {
+    let tokens = random.one_in(2);
+    let mut text = Vec::new();
+    for _ in 0..random.below(30) {
+        if tokens {
+            text.extend_from_slice(random.pick(TOKENS).as_bytes());
+        } else {
+            text.push(random.pick(BYTES));
+        }
+    }
+    text
+}
+
+/// 62 to 66 parentheses around the text, perhaps not all closed, perhaps after some that close nothing.
+fn many_parentheses(random: &mut Random, legal: &[u8]) -> Vec<u8> {
+    let open = random.between(62, 66);
+    let mut text = Vec::new();
+    if random.one_in(4) {
+        text.extend(vec![b')'; random.between(1, 3)]);
+    }
+    text.extend(vec![b'('; open]);
+    text.extend_from_slice(legal);
+    text.extend(vec![b')'; open - random.below(2)]);
+    text
+}
+
+/// Stars up to about 512 nodes, or far more nodes in a row.
+fn many_nodes(random: &mut Random, legal: &[u8]) -> Vec<u8> {
+    if random.one_in(3) {
+        let mut text = legal.to_vec();
+        for _ in 0..random.between(250, 300) {
+            text.extend_from_slice(random.pick(&[";id", "+drop", ";f0=0", "*;id"]).as_bytes());
+        }
+        return text;
+    }
+    let mut text = b"id".to_vec();
+    text.extend(vec![b'*'; random.between(509, 514)]);
+    text
+}
+
+/// Trees whose node count is near 512.
+pub fn deep(random: &mut Random) -> Tree {
+    let mut policy = if random.one_in(2) {
+        Tree::Id
+    } else {
+        Tree::Dup
+    };
+    for _ in 0..random.between(400, 511) {
+        policy = star(policy);
+    }
+    policy
+}

@@ -1,0 +1,437 @@
+//! Cases that are always worth running: the pairs and edges that the requirements name, and each refusal.
+
+use crate::case::Case;
+use crate::policy::{kind, OwnedLists};
+use crate::search::{Lists, LEAST_WORK, MOST_ROWS};
+use crate::text;
+
+/// All fixed cases.
+pub fn cases() -> Vec<Case> {
+    let mut cases = Vec::new();
+    cases.extend(turning());
+    cases.extend(policies());
+    cases.extend(texts().iter().map(|text| read(text, 512)));
+    cases.extend([read("dup*;id", 4), read("dup*;id", 3), read("id", 0)]);
+    for pair in pairs() {
+        cases.push(search_nodes(&pair, lent(&pair)));
+        cases.push(search_texts(&pair, lent(&pair)));
+    }
+    cases.extend(text_edges());
+    cases.extend(list_edges());
+    cases.extend(tables());
+    cases.extend(traces());
+    cases.extend(inputs().into_iter().map(program));
+    cases
+}
+
+/// Lists to lend, filled so that what is written shows.
+fn filled(rows: usize, trace: usize, work: usize) -> Lists {
+    let mut lists = Lists::new(rows, trace, work);
+    lists.packet.fill(60_001);
+    lists.left.fill(4_000_000_002);
+    lists.right.fill(4_000_000_003);
+    lists.parent.fill(60_004);
+    lists.trace.fill(60_005);
+    lists.work.fill(4_000_000_006);
+    lists
+}
+
+fn turning() -> Vec<Case> {
+    let values = |sizes: &[u16], number, length| Case::Values {
+        sizes: sizes.to_vec(),
+        number,
+        values: vec![60_007; length],
+    };
+    let number = |sizes: &[u16], values: &[u16]| Case::Number {
+        sizes: sizes.to_vec(),
+        values: values.to_vec(),
+    };
+    vec![
+        values(&[], 0, 0),
+        values(&[1; 9], 0, 9),
+        values(&[1025, 0], 0, 2),
+        values(&[5, 205], 0, 2),
+        values(&[32, 32], 1023, 2),
+        values(&[32, 32], 1024, 2),
+        values(&[32, 32], 1024, 3),
+        values(&[2, 3, 4], 23, 3),
+        values(&[2; 8], 165, 8),
+        values(&[65_535; 8], 0, 8),
+        number(&[], &[]),
+        number(&[0; 9], &[]),
+        number(&[2, 0], &[2]),
+        number(&[5, 205], &[0, 0]),
+        number(&[32, 32], &[31, 31]),
+        number(&[32, 32], &[31, 32]),
+        number(&[32, 32], &[32, 32]),
+        number(&[32, 32], &[32]),
+        number(&[2, 3, 4], &[1, 2, 3]),
+        number(&[2; 8], &[1, 0, 1, 0, 0, 1, 0, 1]),
+    ]
+}
+
+/// Lists from nodes.
+fn nodes(given: &[(u8, u16, u16)]) -> OwnedLists {
+    let mut lists = OwnedLists::default();
+    for &(kind, first, second) in given {
+        lists.push(kind, first, second);
+    }
+    lists
+}
+
+/// The nodes of a legal text; none of another.
+fn nodes_of(text: &str) -> OwnedLists {
+    text::nodes(text.as_bytes(), 512).unwrap_or_default()
+}
+
+/// Stars on id, so many nodes in all.
+fn stars(count: usize) -> OwnedLists {
+    let mut lists = nodes(&[(kind::ID, 0, 0)]);
+    while lists.kind.len() < count {
+        lists.push(kind::STAR, lists.kind.len() as u16 - 1, 0);
+    }
+    lists
+}
+
+fn dups(count: usize, join: &str) -> String {
+    vec!["dup"; count].join(join)
+}
+
+fn policies() -> Vec<Case> {
+    let mut unequal = stars(3);
+    unequal.second.push(0);
+    let lists = [
+        nodes(&[]),
+        unequal,
+        stars(512),
+        stars(513),
+        nodes(&[(6, 9, 9), (9, 0, 0)]),
+        nodes(&[(1, 0, 1)]),
+        nodes(&[(2, 1, 2)]),
+        nodes(&[(3, 2, 0)]),
+        nodes(&[(4, 0, 2)]),
+        nodes(&[(1, 0, 0), (8, 0, 1)]),
+        nodes(&[(8, 0, 0)]),
+        nodes(&[(1, 0, 0), (6, 0, 1)]),
+        nodes(&[(1, 0, 0), (7, 0, 0)]),
+        nodes(&[(1, 0, 0), (1, 0, 0), (8, 0, 0)]),
+        nodes(&[(5, 0, 0), (1, 0, 0), (5, 0, 0), (6, 2, 1), (7, 3, 0)]),
+        nodes_of(&dups(31, "+")),
+        nodes_of(&dups(32, "+")),
+    ];
+    let policy = |policy| Case::Policy {
+        sizes: vec![2, 3],
+        policy,
+    };
+    lists.into_iter().map(policy).collect()
+}
+
+fn read(text: &str, room: usize) -> Case {
+    let nodes = OwnedLists {
+        kind: vec![201; room],
+        first: vec![60_002; room + 1],
+        second: vec![60_003; room + 2],
+    };
+    Case::Read {
+        text: text.as_bytes().to_vec(),
+        nodes,
+    }
+}
+
+fn nested(open: usize) -> String {
+    format!("{}id{}", "(".repeat(open), ")".repeat(open))
+}
+
+fn texts() -> Vec<String> {
+    let mut texts: Vec<String> = [
+        "drop",
+        "id",
+        "dup",
+        "f0=0",
+        "f7!=65535",
+        "f3<-10",
+        "id;id;id+dup+drop",
+        "(id)",
+        "id**",
+        " f0 = 0 ",
+        "\tf0\t<-\t1\t",
+        "ID",
+        "f8",
+        "f",
+        "00",
+        "01",
+        "65536",
+        "id0",
+        "\u{e9}",
+        "id\n",
+        "id\r",
+        "f0 ! = 0",
+        "f0 < - 0",
+        "f0!",
+        "f0<",
+        ") id id (",
+        ") id id ( $",
+        "",
+        "  ",
+        "id id",
+        "id;",
+        "id; \t",
+        "id+*",
+        "+id",
+        "*",
+        "()",
+        "(id",
+        "(id ",
+        "(id))",
+        "id)",
+        "f0",
+        "f0;id",
+        "f0=",
+        "f0=id",
+        "f0=f1",
+        "f0==0",
+        "0",
+        "f0=0 1",
+        "id(id)",
+        "(id)(id)",
+        "=",
+    ]
+    .map(String::from)
+    .to_vec();
+    texts.push(nested(64));
+    texts.push(nested(65));
+    texts.push(format!(")))*{}", "(".repeat(65)));
+    texts.push(format!("id{}", "*".repeat(511)));
+    texts.push(format!("id{}", "*".repeat(512)));
+    texts.push(format!("id{};", "*".repeat(512)));
+    texts.push(vec!["id"; 300].join("+"));
+    texts
+}
+
+/// Sizes, two texts, rows and trace to lend.
+type Pair = (Vec<u16>, String, String, usize, usize);
+
+fn pair(sizes: &[u16], left: &str, right: &str, rows: usize, trace: usize) -> Pair {
+    let texts = (left.to_string(), right.to_string());
+    (sizes.to_vec(), texts.0, texts.1, rows, trace)
+}
+
+fn pairs() -> Vec<Pair> {
+    vec![
+        pair(&[2], "drop", "id", 9, 3),
+        pair(&[2], "f0=0;dup", "dup;f0=0", 9, 3),
+        pair(&[2], "f0=0+f0=1", "id", 9, 3),
+        pair(&[3], "f0=0+f0=1", "id", 9, 3),
+        pair(&[1], "dup*", "id+dup;dup*", 9, 3),
+        pair(&[1], "dup*", "id+dup;dup*", 2, 3),
+        pair(&[1], "dup*", "id+dup;dup*", 3, 0),
+        pair(&[1], "dup", "dup;dup", 9, 3),
+        pair(&[1], "dup", "dup;dup", 9, 2),
+        pair(&[1], "dup", "dup;dup", 9, 1),
+        pair(&[2], "f0<-1;f0=1", "f0<-1", 9, 3),
+        pair(&[2], "f0<-0+f0<-1", "id", 9, 3),
+        pair(&[1], "dup;drop", "drop", 9, 3),
+        pair(&[2, 2], "id", "drop", 3, 3),
+        pair(&[2, 2], "id", "drop", 0, 3),
+        pair(&[2, 2], "id", "drop", 4, 0),
+        pair(&[32, 32], "id", "f0=3;f0<-3+f0!=3", 1030, 3),
+        pair(&[5, 205], "id", "id", 9, 3),
+        pair(&[2], &dups(31, ";"), &dups(31, ";"), 80, 3),
+        pair(&[2], &dups(32, ";"), "f0=0", 80, 3),
+        pair(&[2], "f0=1", &dups(32, "+"), 80, 3),
+        pair(&[2], &dups(32, ";"), "id;f0=2", 80, 3),
+        pair(&[2], "f0=2", "f1=0", 9, 3),
+        pair(
+            &[2],
+            "(f0=0;f0<-1;dup+f0=1;f0<-0;dup)*",
+            "(f0=0;f0<-1;dup+f0<-0;dup)*",
+            20,
+            9,
+        ),
+    ]
+}
+
+fn lent(pair: &Pair) -> Lists {
+    filled(pair.3, pair.4, LEAST_WORK)
+}
+
+fn search_nodes(pair: &Pair, lists: Lists) -> Case {
+    let (sizes, left, right, ..) = pair;
+    Case::Search {
+        sizes: sizes.clone(),
+        left: nodes_of(left),
+        right: nodes_of(right),
+        lists,
+    }
+}
+
+fn search_texts(pair: &Pair, lists: Lists) -> Case {
+    let (sizes, left, right, ..) = pair;
+    Case::Texts {
+        sizes: sizes.clone(),
+        left: left.as_bytes().to_vec(),
+        right: right.as_bytes().to_vec(),
+        lists,
+    }
+}
+
+/// Texts refused: 14 to 17 of the left text go before those of the right, and before 4 to 9.
+fn text_edges() -> Vec<Case> {
+    let long = format!("id{}", "*".repeat(512));
+    let pairs = [
+        pair(&[2], &long, "$", 9, 9),
+        pair(&[2], "id", &long, 9, 9),
+        pair(&[2], &nested(65), "$", 9, 9),
+        pair(&[2], &nested(64), &nested(65), 9, 9),
+        pair(&[2], "id id", "$", 9, 9),
+        pair(&[2], "f0=2", "id id", 9, 9),
+        pair(&[2], "f0=2", "?", 9, 9),
+        pair(&[], "?", "?", 9, 9),
+        pair(&[2, 0], "?", "?", 9, 9),
+    ];
+    pairs
+        .iter()
+        .map(|pair| search_texts(pair, lent(pair)))
+        .collect()
+}
+
+/// Lists refused by 10, and the longest that are not.
+fn list_edges() -> Vec<Case> {
+    let pair = pair(&[1], "id", "drop", 4, 4);
+    let with = |rows: usize, work: usize, change: fn(&mut Lists)| {
+        let mut lists = filled(rows, 4, work);
+        change(&mut lists);
+        search_nodes(&pair, lists)
+    };
+    vec![
+        with(4, LEAST_WORK, |lists| lists.packet.push(7)),
+        with(4, LEAST_WORK, |lists| lists.left.truncate(3)),
+        with(4, LEAST_WORK, |lists| lists.right.push(7)),
+        with(4, LEAST_WORK, |lists| lists.parent.clear()),
+        with(4, LEAST_WORK - 1, |_| ()),
+        with(4, 0, |_| ()),
+        with(4, LEAST_WORK + 9, |_| ()),
+        with(MOST_ROWS, LEAST_WORK, |_| ()),
+        with(MOST_ROWS + 1, LEAST_WORK, |_| ()),
+    ]
+}
+
+/// A row.
+type Row = (u16, u32, u32);
+
+fn table(rows: &[Row], work: usize) -> Case {
+    let mut lists = filled(0, 0, work);
+    for &(packet, left, right) in rows {
+        lists.packet.push(packet);
+        lists.left.push(left);
+        lists.right.push(right);
+    }
+    Case::Evidence {
+        sizes: vec![2],
+        left: nodes_of("f0=0;dup"),
+        right: nodes_of("dup;f0=0"),
+        lists,
+    }
+}
+
+fn tables() -> Vec<Case> {
+    let rows = [(0, 1, 1), (1, 1, 1), (0, 2, 2), (1, 0, 2)];
+    let mut others = rows.to_vec();
+    others.reverse();
+    others.extend([(0, 2, 2), (1, 0, 0)]);
+    let mut damaged = others.clone();
+    damaged.extend([(0, 4, 1), (2, 1, 1)]);
+    let tables: [&[Row]; 9] = [
+        &rows,
+        &rows[..3],
+        &others,
+        &damaged,
+        &[],
+        &[(0, 1, 0), (1, 1, 1)],
+        &[(0, 1, 1), (0, 1, 0), (2, 1, 1)],
+        &[(0, 1, 1), (0, 1, 2), (1, 1, 1)],
+        &[(0, 2, 1), (0, 1, 1), (1, 1, 1)],
+    ];
+    let mut cases: Vec<Case> = tables.iter().map(|rows| table(rows, LEAST_WORK)).collect();
+    cases.push(table(&rows, LEAST_WORK - 1));
+    cases
+}
+
+fn traces() -> Vec<Case> {
+    let given: [(u16, &[u16], usize); 9] = [
+        (0, &[], LEAST_WORK),
+        (0, &[0], LEAST_WORK),
+        (1, &[1, 1], LEAST_WORK),
+        (1, &[1, 0], LEAST_WORK),
+        (0, &[0, 0, 0, 0, 0], LEAST_WORK + 3),
+        (2, &[2, 0], LEAST_WORK),
+        (2, &[], LEAST_WORK),
+        (0, &[1, 2, 3], LEAST_WORK),
+        (2, &[2], LEAST_WORK - 1),
+    ];
+    let trace = |left: &str, right: &str| {
+        let (left, right) = (nodes_of(left), nodes_of(right));
+        given.map(|(entering, trace, work)| Case::Trace {
+            sizes: vec![2],
+            left: left.clone(),
+            right: right.clone(),
+            entering,
+            trace: trace.to_vec(),
+            work: vec![4_000_000_006; work],
+        })
+    };
+    let mut cases = trace("dup*", "dup;dup*").to_vec();
+    cases.extend(trace("dup;dup", "id+dup;dup"));
+    cases
+}
+
+fn program(input: String) -> Case {
+    Case::Program {
+        input: input.into_bytes(),
+        output: Vec::new(),
+    }
+}
+
+fn inputs() -> Vec<String> {
+    let mut inputs: Vec<String> = [
+        "2\nf0=0;dup\ndup;f0=0\n",
+        "2\r\nf0=0;dup\r\ndup;f0=0\r\n",
+        "2\r\nf0=0;dup\ndup;f0=0",
+        "1\ndup\ndup;dup\n",
+        "3\nf0=0+f0=1\nid",
+        "",
+        "\n",
+        "2\nid\n",
+        "2\nid\n\n",
+        "2\nid\n\r\n",
+        "2\nid\nid\n\n",
+        "2\nid\nid\n\r",
+        "2\nid\nid\r",
+        "2\nid\r\r\nid",
+        "2\r\r\nid\nid",
+        "\nid\nid",
+        "2,\nid\nid",
+        "2, 2\nid\nid",
+        "02\nid\nid",
+        "65536\nid\nid",
+        "65535\n?\nid",
+        "0\n?\nid",
+        "1,1,1,1,1,1,1,1,0\n?\nid",
+        "5,205\n?\nid",
+        "32,32\nf0=31\nf0=31;f1<-31",
+        "2\n?\n?",
+        "2\nid\n id ?",
+        "2\nid;f0=2\nf0=2",
+        "2\nid\nid;f1=0",
+    ]
+    .map(String::from)
+    .to_vec();
+    inputs.push(format!("2\nid\n{}", nested(65)));
+    inputs.push(format!("2\nid\nid{}", "*".repeat(512)));
+    inputs.push(format!("2\n{}\nid", dups(32, "+")));
+    inputs.push(format!("1024\n{0}\n{0}", dups(3, ";")));
+    inputs.push(format!("1024\n{0}\n{0}", dups(4, ";")));
+    inputs.push(format!("{:<32768}", "2\nid\nid"));
+    inputs.push(format!("{:<32769}", "2\nid\nid"));
+    inputs
+}

@@ -1,0 +1,260 @@
+//! Policies as node lists, and when a list is legal.
+
+use crate::answer::Refusal;
+use crate::packets::Packets;
+
+/// Most nodes of a policy.
+pub const MOST_NODES: usize = 512;
+/// Most dups of a policy.
+pub const MOST_DUPS: usize = 31;
+
+/// The numbers of the node kinds.
+pub mod kind {
+    /// ⊥
+    pub const DROP: u8 = 0;
+    /// ⊤
+    pub const ID: u8 = 1;
+    /// f=v
+    pub const EQUALS: u8 = 2;
+    /// f≠v
+    pub const DIFFERS: u8 = 3;
+    /// f←v
+    pub const SET: u8 = 4;
+    /// dup
+    pub const DUP: u8 = 5;
+    /// Sum of two children.
+    pub const SUM: u8 = 6;
+    /// Sequence of two children.
+    pub const SEQUENCE: u8 = 7;
+    /// Star of one child.
+    pub const STAR: u8 = 8;
+}
+
+/// A policy as a caller lends it: three lists, of any lengths and contents.
+#[derive(Clone, Copy, Debug)]
+pub struct NodeLists<'a> {
+    /// Kinds.
+    pub kind: &'a [u8],
+    /// Field or first child.
+    pub first: &'a [u16],
+    /// Value or second child.
+    pub second: &'a [u16],
+}
+
+/// A policy that owns its lists.
+#[derive(Clone, Debug, Default, PartialEq, Eq)]
+pub struct OwnedLists {
+    /// Kinds.
+    pub kind: Vec<u8>,
+    /// Field or first child.
+    pub first: Vec<u16>,
+    /// Value or second child.
+    pub second: Vec<u16>,
+}
+
+impl OwnedLists {
+    /// The lists as slices.
+    pub fn lists(&self) -> NodeLists<'_> {
+        NodeLists {
+            kind: &self.kind,
+            first: &self.first,
+            second: &self.second,
+        }
+    }
+
+    /// Appends a node and says its number.
+    pub fn push(&mut self, kind: u8, first: u16, second: u16) -> u16 {
+        self.kind.push(kind);
+        self.first.push(first);
+        self.second.push(second);
+        (self.kind.len() - 1) as u16
+    }
+}
+
+/// What is done with one field.
+#[derive(Clone, Copy, Debug, PartialEq, Eq)]
+pub enum Act {
+    /// Passes if the field has the value.
+    Equals,
+    /// Passes if it has another.
+    Differs,
+    /// Changes the field to the value.
+    Set,
+}
+
+/// A node of a legal policy.
+#[derive(Clone, Copy, Debug, PartialEq, Eq)]
+pub enum Node {
+    /// ⊥
+    Drop,
+    /// ⊤
+    Id,
+    /// A test or a change of one field.
+    Field {
+        /// Which of them.
+        act: Act,
+        /// The field.
+        field: usize,
+        /// The value.
+        value: usize,
+    },
+    /// dup, with its number from 1 in node order.
+    Dup(usize),
+    /// Sum of two nodes.
+    Sum(usize, usize),
+    /// One node after another.
+    Sequence(usize, usize),
+    /// Any number of rounds.
+    Star(usize),
+}
+
+/// A legal policy: a tree whose root is the last node.
+#[derive(Clone, Debug)]
+pub struct Policy {
+    nodes: Vec<Node>,
+    dups: usize,
+}
+
+impl Policy {
+    /// The nodes, children before parents.
+    pub fn nodes(&self) -> &[Node] {
+        &self.nodes
+    }
+
+    /// How many nodes are dup.
+    pub fn dups(&self) -> usize {
+        self.dups
+    }
+
+    /// Reads lists that have passed 4 to 9.
+    fn from_legal(lists: NodeLists) -> Policy {
+        let mut dups = 0;
+        let nodes = (0..lists.kind.len())
+            .map(|node| {
+                let (first, second) = (lists.first[node].into(), lists.second[node].into());
+                let field = |act| Node::Field {
+                    act,
+                    field: first,
+                    value: second,
+                };
+                match lists.kind[node] {
+                    kind::DROP => Node::Drop,
+                    kind::ID => Node::Id,
+                    kind::EQUALS => field(Act::Equals),
+                    kind::DIFFERS => field(Act::Differs),
+                    kind::SET => field(Act::Set),
+                    kind::DUP => {
+                        dups += 1;
+                        Node::Dup(dups)
+                    }
+                    kind::SUM => Node::Sum(first, second),
+                    kind::SEQUENCE => Node::Sequence(first, second),
+                    _ => Node::Star(first),
+                }
+            })
+            .collect();
+        Policy { nodes, dups }
+    }
+}
+
+/// One cause: the lowest place where it holds. Each may rely on the causes before it.
+type Cause = fn(&Packets, NodeLists) -> Option<usize>;
+
+/// Causes 4 to 9 in their order.
+const CAUSES: [(u8, Cause); 6] = [
+    (4, wrong_lengths),
+    (5, unknown_kind),
+    (6, wrong_entry),
+    (7, child_not_below),
+    (8, not_child_once),
+    (9, too_many_dups),
+];
+
+fn wrong_lengths(_: &Packets, lists: NodeLists) -> Option<usize> {
+    let nodes = lists.kind.len();
+    let legal = (1..=MOST_NODES).contains(&nodes)
+        && lists.first.len() == nodes
+        && lists.second.len() == nodes;
+    (!legal).then_some(0)
+}
+
+fn unknown_kind(_: &Packets, lists: NodeLists) -> Option<usize> {
+    lists.kind.iter().position(|&kind| kind > kind::STAR)
+}
+
+fn wrong_entry(packets: &Packets, lists: NodeLists) -> Option<usize> {
+    (0..lists.kind.len()).find(|&node| {
+        let (first, second) = (lists.first[node], lists.second[node]);
+        match lists.kind[node] {
+            kind::EQUALS | kind::DIFFERS | kind::SET => !packets.has(first, second),
+            kind::SUM | kind::SEQUENCE => false,
+            kind::STAR => second != 0,
+            _ => first != 0 || second != 0,
+        }
+    })
+}
+
+/// The children of a node of a known kind.
+fn children(lists: NodeLists, node: usize) -> impl Iterator<Item = usize> {
+    let count = match lists.kind[node] {
+        kind::SUM | kind::SEQUENCE => 2,
+        kind::STAR => 1,
+        _ => 0,
+    };
+    [lists.first[node], lists.second[node]]
+        .into_iter()
+        .take(count)
+        .map(usize::from)
+}
+
+fn child_not_below(_: &Packets, lists: NodeLists) -> Option<usize> {
+    (0..lists.kind.len()).find(|&node| children(lists, node).any(|child| child >= node))
+}
+
+fn not_child_once(_: &Packets, lists: NodeLists) -> Option<usize> {
+    let nodes = lists.kind.len();
+    let mut parents = vec![0u32; nodes];
+    for child in (0..nodes).flat_map(|node| children(lists, node)) {
+        parents[child] += 1;
+    }
+    parents[..nodes - 1].iter().position(|&count| count != 1)
+}
+
+fn too_many_dups(_: &Packets, lists: NodeLists) -> Option<usize> {
+    (0..lists.kind.len())
+        .filter(|&node| lists.kind[node] == kind::DUP)
+        .nth(MOST_DUPS)
+}
+
+/// Tests 4 to 9 cause by cause, and within a cause policy by policy; each policy comes with the side it is named by.
+fn test(packets: &Packets, policies: &[(u8, NodeLists)]) -> Result<(), Refusal> {
+    for (number, cause) in CAUSES {
+        for &(side, lists) in policies {
+            if let Some(place) = cause(packets, lists) {
+                return Err(Refusal::new(number, place).on(side));
+            }
+        }
+    }
+    Ok(())
+}
+
+/// Two policies, tested by 4 to 9.
+pub fn pair(
+    packets: &Packets,
+    left: NodeLists,
+    right: NodeLists,
+) -> Result<(Policy, Policy), Refusal> {
+    test(packets, &[(1, left), (2, right)])?;
+    Ok((Policy::from_legal(left), Policy::from_legal(right)))
+}
+
+/// One policy, tested by 4 to 9.
+pub fn single(packets: &Packets, lists: NodeLists) -> Result<Policy, Refusal> {
+    test(packets, &[(0, lists)])?;
+    Ok(Policy::from_legal(lists))
+}
+
+/// Tests one policy by 1 to 9 and answers its number of dups.
+pub fn check(sizes: &[u16], lists: NodeLists) -> Result<usize, Refusal> {
+    Ok(single(&Packets::new(sizes)?, lists)?.dups())
+}

@@ -1,0 +1,93 @@
+//! The program: three lines in, three-field lines out.
+
+use crate::answer::{Refusal, Side, Verdict};
+use crate::search::{search_texts, Lists, LEAST_WORK};
+use crate::text::number_word;
+
+/// Most bytes of input.
+pub const MOST_INPUT: usize = 32_768;
+/// Rows lent to the search, and length of the trace list.
+pub const ROWS: usize = 4_096;
+
+/// The lines of an input, without their ends. A line end with no byte after it starts no further line.
+fn lines(input: &[u8]) -> Vec<&[u8]> {
+    let mut lines: Vec<&[u8]> = input.split(|&byte| byte == b'\n').collect();
+    let unended = lines.pop().filter(|rest| !rest.is_empty());
+    for line in &mut lines {
+        *line = line.strip_suffix(b"\r").unwrap_or(line);
+    }
+    lines.extend(unended);
+    lines
+}
+
+/// An input taken apart.
+type Request<'a> = (Vec<u16>, &'a [u8], &'a [u8]);
+
+/// Sizes, left text and right text; 18 if the input is not of that form.
+fn parse(input: &[u8]) -> Result<Request<'_>, Refusal> {
+    let malformed = Refusal::new(18, 0);
+    if input.len() > MOST_INPUT {
+        return Err(malformed);
+    }
+    let [sizes, left, right] = lines(input)[..] else {
+        return Err(malformed);
+    };
+    let sizes: Option<Vec<u16>> = sizes.split(|&byte| byte == b',').map(number_word).collect();
+    Ok((sizes.ok_or(malformed)?, left, right))
+}
+
+/// The output as it grows.
+#[derive(Default)]
+struct Output(String);
+
+impl Output {
+    fn line(&mut self, first: impl ToString, second: u64, third: u64) {
+        let line = format!("{},{second},{third}\r\n", first.to_string());
+        self.0.push_str(&line);
+    }
+
+    fn rows(&mut self, lists: &Lists, rows: usize) {
+        for row in 0..rows {
+            self.line(
+                lists.packet[row],
+                lists.left[row].into(),
+                lists.right[row].into(),
+            );
+        }
+    }
+
+    fn trace(&mut self, trace: &[u16]) {
+        for (at, &packet) in trace.iter().enumerate() {
+            let last = at + 1 == trace.len();
+            self.line(at + 1, packet.into(), last.into());
+        }
+    }
+}
+
+/// The whole output for an input.
+pub fn run(input: &[u8]) -> Vec<u8> {
+    let mut lists = Lists::new(ROWS, ROWS, LEAST_WORK);
+    let answer = parse(input)
+        .and_then(|(sizes, left, right)| search_texts(&sizes, left, right, lists.lend()));
+    let mut output = Output::default();
+    match answer {
+        Ok(Verdict::Equal { rows }) => {
+            output.line("equal", rows as u64, 0);
+            output.rows(&lists, rows);
+        }
+        Ok(Verdict::Different {
+            side,
+            length,
+            entering,
+        }) => {
+            let verdict = match side {
+                Side::Left => "left",
+                Side::Right => "right",
+            };
+            output.line(verdict, length as u64, entering.into());
+            output.trace(&lists.trace[..length]);
+        }
+        Err(refusal) => output.line("refused", refusal.number.into(), refusal.place),
+    }
+    output.0.into_bytes()
+}

@@ -1,0 +1,53 @@
+//! What the tests share.
+
+#![allow(dead_code)]
+
+use netkat_reference::answer::{Refusal, Verdict};
+use netkat_reference::policy::OwnedLists;
+use netkat_reference::search::{search_texts, Lists, LEAST_WORK};
+use netkat_reference::text;
+
+/// A search's answer and what it left.
+pub struct Outcome {
+    pub answer: Result<Verdict, Refusal>,
+    pub lists: Lists,
+}
+
+impl Outcome {
+    /// The first rows.
+    pub fn rows(&self, count: usize) -> Vec<(u16, u32, u32)> {
+        (0..count)
+            .map(|row| {
+                (
+                    self.lists.packet[row],
+                    self.lists.left[row],
+                    self.lists.right[row],
+                )
+            })
+            .collect()
+    }
+}
+
+/// Searches two texts with as many rows as there may be, all lists 0.
+pub fn search(sizes: &[u16], left: &str, right: &str) -> Outcome {
+    let mut lists = Lists::new(65_535, 65_535, LEAST_WORK);
+    let answer = search_texts(sizes, left.as_bytes(), right.as_bytes(), lists.lend());
+    Outcome { answer, lists }
+}
+
+/// Searches two texts with lists of these lengths, all entries 9.
+pub fn search_with(sizes: &[u16], left: &str, right: &str, rows: usize, trace: usize) -> Outcome {
+    let mut lists = Lists::new(rows, trace, LEAST_WORK);
+    lists.packet.fill(9);
+    lists.left.fill(9);
+    lists.right.fill(9);
+    lists.parent.fill(9);
+    lists.trace.fill(9);
+    let answer = search_texts(sizes, left.as_bytes(), right.as_bytes(), lists.lend());
+    Outcome { answer, lists }
+}
+
+/// The nodes of a legal text.
+pub fn nodes(text: &str) -> OwnedLists {
+    text::nodes(text.as_bytes(), 512).expect("a legal text")
+}

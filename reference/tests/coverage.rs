@@ -1,0 +1,158 @@
+//! The generator reaches every refusal and every kind of answer, and the calls keep their lists as they should.
+
+use std::collections::BTreeMap;
+
+use netkat_reference::case::Case;
+use netkat_reference::generate::{case, fixed, Extent};
+use netkat_reference::random::Random;
+
+/// Counts the answers of many cases by call and kind.
+fn answers(seed: u64, count: usize, extent: Extent) -> BTreeMap<(&'static str, u64, u64), usize> {
+    let mut random = Random::new(seed);
+    tally((0..count).map(|_| case(&mut random, extent)))
+}
+
+/// How often each answer occurs, by call, kind, and rule or refusal.
+fn tally(cases: impl Iterator<Item = Case>) -> BTreeMap<(&'static str, u64, u64), usize> {
+    let mut seen = BTreeMap::new();
+    for mut case in cases {
+        let answer = case.run();
+        let (kind, detail) = match &case {
+            Case::Program { output, .. } => program_answer(output),
+            _ => match answer[0] {
+                5 | 9 => (answer[0], answer[1]),
+                kind => (kind, 0),
+            },
+        };
+        *seen.entry((case.name(), kind, detail)).or_default() += 1;
+    }
+    seen
+}
+
+/// The kind of answer that an output's first line tells.
+fn program_answer(output: &[u8]) -> (u64, u64) {
+    let output = std::str::from_utf8(output).unwrap();
+    let mut fields = output.split(',');
+    match fields.next() {
+        Some("equal") => (0, 0),
+        Some("left") => (1, 0),
+        Some("right") => (2, 0),
+        Some("refused") => (9, fields.next().unwrap().parse().unwrap()),
+        other => panic!("{other:?}"),
+    }
+}
+
+#[test]
+fn every_answer_occurs_at_random() {
+    every_answer_occurs(&answers(1, 6000, Extent::Small));
+}
+
+#[test]
+fn every_refusal_and_kind_occurs_among_the_fixed_cases() {
+    let seen = tally(fixed::cases().into_iter());
+    for number in 1..=18 {
+        assert!(
+            seen.keys().any(|key| (key.1, key.2) == (9, number)),
+            "{number}"
+        );
+    }
+    for kind in 0..=4 {
+        assert!(seen.keys().any(|key| key.1 == kind), "{kind}");
+    }
+    for rule in 1..=4 {
+        assert!(seen.contains_key(&("evidence", 5, rule)), "{rule}");
+    }
+}
+
+fn every_answer_occurs(seen: &BTreeMap<(&'static str, u64, u64), usize>) {
+    let occurs = |call, kind, detail| {
+        assert!(
+            seen.contains_key(&(call, kind, detail)),
+            "{call} {kind} {detail}"
+        );
+    };
+    for call in [
+        "values", "number", "policy", "read", "search", "texts", "evidence", "program",
+    ] {
+        occurs(call, 0, 0);
+    }
+    for call in ["search", "texts", "trace", "program"] {
+        occurs(call, 1, 0);
+        occurs(call, 2, 0);
+    }
+    occurs("trace", 3, 0);
+    occurs("trace", 4, 0);
+    for rule in 1..=4 {
+        occurs("evidence", 5, rule);
+    }
+    let refused =
+        |call, numbers: &[u64]| numbers.iter().for_each(|&number| occurs(call, 9, number));
+    refused("values", &[1, 2, 3, 13]);
+    refused("number", &[1, 2, 3, 13]);
+    refused("policy", &[1, 2, 3, 4, 5, 6, 7, 8, 9]);
+    refused("read", &[14, 15, 16, 17]);
+    refused("search", &[1, 2, 3, 4, 5, 6, 7, 8, 9, 10, 11, 12]);
+    refused("texts", &[1, 2, 3, 6, 9, 10, 11, 12, 14, 15, 16, 17]);
+    refused("evidence", &[1, 2, 3, 4, 5, 6, 7, 8, 9, 10]);
+    refused("trace", &[1, 2, 3, 4, 5, 6, 7, 8, 9, 10, 13]);
+    refused("program", &[1, 2, 3, 6, 9, 14, 15, 16, 17, 18]);
+}
+
+#[test]
+fn large_cases_run() {
+    let seen = answers(2, 150, Extent::Large);
+    assert!(seen.contains_key(&("search", 0, 0)));
+}
+
+#[test]
+fn the_same_seed_gives_the_same_vectors() {
+    let lines = || {
+        let mut random = Random::new(5);
+        let cases: Vec<String> = (0..200)
+            .map(|_| case(&mut random, Extent::Small).vector())
+            .collect();
+        cases
+    };
+    assert_eq!(lines(), lines());
+}
+
+#[test]
+fn vectors_say_all_there_is() {
+    let mut random = Random::new(6);
+    let at_random = (0..2000).map(|_| case(&mut random, Extent::Small));
+    for case in fixed::cases().into_iter().chain(at_random) {
+        let line = case.clone().vector();
+        assert_eq!(Case::parse(&line), Some(case));
+    }
+}
+
+#[test]
+fn refusals_leave_lists_as_found() {
+    let mut random = Random::new(3);
+    for _ in 0..3000 {
+        let mut case = case(&mut random, Extent::Small);
+        let before = case.checksums();
+        let answer = case.run();
+        let after = case.checksums();
+        let untouched = answer[0] == 9 && !matches!(answer[1], 11..=13);
+        if untouched && case.name() != "program" {
+            assert_eq!(before, after);
+        }
+        match &case {
+            Case::Search { lists, .. } | Case::Texts { lists, .. } if !untouched => {
+                assert!(lists.work.iter().all(|&word| word == 0));
+                if !matches!(answer[0], 1 | 2) {
+                    assert_eq!(before[4], after[4]);
+                }
+            }
+            Case::Evidence { lists, .. } if !untouched => {
+                assert!(lists.work.iter().all(|&word| word == 0));
+            }
+            Case::Trace { work, .. } if !untouched => {
+                assert!(work.iter().all(|&word| word == 0));
+            }
+            Case::Values { .. } if answer[0] == 9 => assert_eq!(before, after),
+            _ => {}
+        }
+    }
+}

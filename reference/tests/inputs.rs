@@ -1,0 +1,365 @@
+//! Sizes, node lists, texts and program inputs: what passes and what is refused where.
+
+mod common;
+
+use common::nodes;
+use netkat_reference::answer::Refusal;
+use netkat_reference::policy::{self, OwnedLists};
+use netkat_reference::program;
+use netkat_reference::{packets, search, text};
+
+fn refusal<T>(number: u8, place: usize) -> Result<T, Refusal> {
+    Err(Refusal::new(number, place))
+}
+
+#[test]
+fn sizes() {
+    let check = |sizes: &[u16]| packets::values(sizes, 0, &mut vec![9; sizes.len()]);
+    assert_eq!(check(&[]), refusal(1, 0));
+    assert_eq!(check(&[0; 9]), refusal(1, 0));
+    assert_eq!(check(&[2; 8]), Ok(()));
+    assert_eq!(check(&[1025, 0, 0]), refusal(2, 1));
+    assert_eq!(check(&[32, 32]), Ok(()));
+    assert_eq!(check(&[5, 205]), refusal(3, 1));
+    assert_eq!(check(&[1, 65_535, 65_535]), refusal(3, 1));
+    assert_eq!(check(&[65_535; 8]), refusal(3, 0));
+    assert_eq!(check(&[1024]), Ok(()));
+}
+
+#[test]
+fn turning() {
+    let sizes = [2, 3, 4];
+    for number in 0..24 {
+        let mut values = [9; 3];
+        assert_eq!(packets::values(&sizes, number, &mut values), Ok(()));
+        assert_eq!(values, [number / 12, number / 4 % 3, number % 4]);
+        assert_eq!(packets::number(&sizes, &values), Ok(number));
+    }
+    let mut values = [9; 3];
+    assert_eq!(packets::values(&sizes, 24, &mut values), refusal(13, 0));
+    assert_eq!(values, [9; 3]);
+    assert_eq!(packets::values(&sizes, 99, &mut [9; 2]), refusal(13, 3));
+    assert_eq!(packets::number(&sizes, &[9; 4]), refusal(13, 3));
+    assert_eq!(packets::number(&sizes, &[]), refusal(13, 3));
+    assert_eq!(packets::number(&sizes, &[0, 3, 4]), refusal(13, 1));
+    assert_eq!(packets::number(&sizes, &[2, 3, 4]), refusal(13, 0));
+}
+
+/// Lists from nodes.
+fn lists(given: &[(u8, u16, u16)]) -> OwnedLists {
+    let mut lists = OwnedLists::default();
+    for &(kind, first, second) in given {
+        lists.push(kind, first, second);
+    }
+    lists
+}
+
+#[test]
+fn node_lists() {
+    let check = |given: &[(u8, u16, u16)]| policy::check(&[2, 3], lists(given).lists());
+    assert_eq!(check(&[]), refusal(4, 0));
+    assert_eq!(check(&[(1, 0, 0)]), Ok(0));
+    assert_eq!(check(&[(5, 0, 0)]), Ok(1));
+    assert_eq!(check(&[(6, 9, 9), (9, 0, 0)]), refusal(5, 1));
+    assert_eq!(check(&[(255, 0, 0)]), refusal(5, 0));
+    // Unused entries, and fields with their values.
+    for kind in [0, 1, 5] {
+        assert_eq!(check(&[(kind, 1, 0)]), refusal(6, 0));
+        assert_eq!(check(&[(kind, 0, 1)]), refusal(6, 0));
+    }
+    for kind in [2, 3, 4] {
+        assert_eq!(check(&[(kind, 1, 2)]), Ok(0));
+        assert_eq!(check(&[(kind, 0, 2)]), refusal(6, 0));
+        assert_eq!(check(&[(kind, 2, 0)]), refusal(6, 0));
+        assert_eq!(check(&[(kind, 1, 3)]), refusal(6, 0));
+    }
+    assert_eq!(check(&[(1, 0, 0), (8, 0, 0)]), Ok(0));
+    assert_eq!(check(&[(1, 0, 0), (8, 0, 1)]), refusal(6, 1));
+    // Children.
+    assert_eq!(check(&[(8, 0, 0)]), refusal(7, 0));
+    assert_eq!(check(&[(1, 0, 0), (6, 0, 1)]), refusal(7, 1));
+    assert_eq!(check(&[(1, 0, 0), (7, 1, 0)]), refusal(7, 1));
+    assert_eq!(check(&[(1, 0, 0), (7, 0, 0)]), refusal(8, 0));
+    assert_eq!(check(&[(1, 0, 0), (1, 0, 0)]), refusal(8, 0));
+    assert_eq!(check(&[(1, 0, 0), (1, 0, 0), (8, 0, 0)]), refusal(8, 1));
+    // Not in postfix order, and legal.
+    let shuffled = [(5, 0, 0), (1, 0, 0), (5, 0, 0), (6, 2, 1), (7, 3, 0)];
+    assert_eq!(check(&shuffled), Ok(2));
+    // Dups.
+    let dups = |count: usize| nodes(&vec!["dup"; count].join("+"));
+    assert_eq!(policy::check(&[1], dups(31).lists()), Ok(31));
+    assert_eq!(policy::check(&[1], dups(32).lists()), refusal(9, 61));
+    // Lengths.
+    let mut long = lists(&[(1, 0, 0)]);
+    while long.kind.len() < 512 {
+        long.push(8, long.kind.len() as u16 - 1, 0);
+    }
+    assert_eq!(policy::check(&[1], long.lists()), Ok(0));
+    let shorter = |change: fn(&mut OwnedLists)| {
+        let mut lists = long.clone();
+        change(&mut lists);
+        policy::check(&[1], lists.lists())
+    };
+    assert_eq!(shorter(|lists| lists.kind.truncate(511)), refusal(4, 0));
+    assert_eq!(shorter(|lists| lists.first.truncate(511)), refusal(4, 0));
+    assert_eq!(shorter(|lists| lists.second.truncate(511)), refusal(4, 0));
+    assert_eq!(
+        shorter(|lists| {
+            lists.push(8, 511, 0);
+        }),
+        refusal(4, 0)
+    );
+}
+
+#[test]
+fn causes_go_before_sides() {
+    let search = |left: &OwnedLists, right: &OwnedLists| {
+        let mut lent = search::Lists::new(9, 9, 0);
+        search::search(&[2], left.lists(), right.lists(), lent.lend()).unwrap_err()
+    };
+    let empty = lists(&[]);
+    let unknown = lists(&[(9, 0, 0)]);
+    let entry = lists(&[(1, 0, 1)]);
+    let child = lists(&[(8, 0, 0)]);
+    let twice = lists(&[(1, 0, 0), (1, 0, 0)]);
+    let dups = nodes(&["dup"; 32].join("+"));
+    let legal = lists(&[(1, 0, 0)]);
+    let in_order = [
+        (4, 0, &empty),
+        (5, 0, &unknown),
+        (6, 0, &entry),
+        (7, 0, &child),
+        (8, 0, &twice),
+        (9, 61, &dups),
+    ];
+    for (at, &(number, place, earlier)) in in_order.iter().enumerate() {
+        let refused = Refusal::new(number, place);
+        assert_eq!(search(earlier, earlier), refused.on(1));
+        assert_eq!(search(&legal, earlier), refused.on(2));
+        for (_, _, later) in &in_order[at + 1..] {
+            assert_eq!(search(earlier, later), refused.on(1));
+            assert_eq!(search(later, earlier), refused.on(2));
+        }
+    }
+    assert_eq!(search(&legal, &legal), Refusal::new(10, 0));
+}
+
+/// Reads a text into lists of 512.
+fn read(text: &str) -> Result<OwnedLists, Refusal> {
+    text::nodes(text.as_bytes(), 512)
+}
+
+fn refused(text: &str) -> (u8, u64) {
+    let refusal = read(text).unwrap_err();
+    assert_eq!(refusal.side, 0);
+    (refusal.number, refusal.place)
+}
+
+#[test]
+fn grammar() {
+    assert_eq!(
+        read(" f7 != 65535\t;dup* + ( drop+id ) "),
+        Ok(lists(&[
+            (3, 7, 65_535),
+            (5, 0, 0),
+            (8, 1, 0),
+            (7, 0, 2),
+            (0, 0, 0),
+            (1, 0, 0),
+            (6, 4, 5),
+            (6, 3, 6),
+        ]))
+    );
+    assert_eq!(
+        read("id;id;id+f0<-0+f0=1"),
+        Ok(lists(&[
+            (1, 0, 0),
+            (1, 0, 0),
+            (7, 0, 1),
+            (1, 0, 0),
+            (7, 2, 3),
+            (4, 0, 0),
+            (6, 4, 5),
+            (2, 0, 1),
+            (6, 6, 7),
+        ]))
+    );
+    assert_eq!(read("((id))"), Ok(lists(&[(1, 0, 0)])));
+    assert_eq!(
+        read("id * *"),
+        Ok(lists(&[(1, 0, 0), (8, 0, 0), (8, 1, 0)]))
+    );
+}
+
+#[test]
+fn words_and_tokens() {
+    for bad in [
+        "ID",
+        "Dup",
+        "f8",
+        "f",
+        "f00",
+        "00",
+        "01",
+        "65536",
+        "100000",
+        "id0",
+        "dropid",
+        "x",
+        "99999999999999999999",
+        "é",
+        "id\n",
+        "id\r",
+        "\0",
+        "~",
+        "id;\u{7f}",
+    ] {
+        let place = match bad {
+            "id\n" | "id\r" => 2,
+            "id;\u{7f}" => 3,
+            _ => 0,
+        };
+        assert_eq!(refused(bad), (14, place), "{bad:?}");
+    }
+    assert_eq!(refused("f0 ! = 0"), (14, 3));
+    assert_eq!(refused("f0 < - 0"), (14, 3));
+    assert_eq!(refused("f0 !"), (14, 3));
+    assert_eq!(refused("f0 <"), (14, 3));
+    assert!(read("f0 = 0").is_ok());
+    // 14 is tried over the whole text first, then 15.
+    assert_eq!(refused(") id id ("), (16, 0));
+    assert_eq!(refused(") id id ( $"), (14, 10));
+    let many = format!(")))*{}", "(".repeat(65));
+    assert_eq!(refused(&many), (15, 68));
+    assert_eq!(refused(&format!("{many}$")), (14, 69));
+}
+
+#[test]
+fn parentheses() {
+    let nested = |count| format!("{}id{}", "(".repeat(count), ")".repeat(count));
+    assert_eq!(read(&nested(64)), Ok(lists(&[(1, 0, 0)])));
+    assert_eq!(refused(&nested(65)), (15, 64));
+    assert!(read(&vec!["(id)"; 100].join(";")).is_ok());
+}
+
+#[test]
+fn what_no_legal_text_continues_with() {
+    for (text, place) in [
+        ("", 0),
+        ("  ", 2),
+        ("id id", 3),
+        ("id;", 3),
+        ("id; \t", 5),
+        ("id+*", 3),
+        ("+id", 0),
+        ("*", 0),
+        ("()", 1),
+        ("(id", 3),
+        ("(id ", 4),
+        ("(id))", 4),
+        ("id)", 2),
+        ("f0", 2),
+        ("f0;id", 2),
+        ("f0=", 3),
+        ("f0=id", 3),
+        ("f0=f1", 3),
+        ("f0==0", 3),
+        ("0", 0),
+        ("f0=0 1", 5),
+        ("id(id)", 2),
+        ("(id)(id)", 4),
+        ("=", 0),
+    ] {
+        assert_eq!(refused(text), (16, place), "{text:?}");
+    }
+}
+
+#[test]
+fn node_counts() {
+    let stars = |count| format!("id{}", "*".repeat(count));
+    assert_eq!(read(&stars(511)).unwrap().kind.len(), 512);
+    assert_eq!(refused(&stars(512)), (17, 513));
+    assert_eq!(refused(&stars(100_000)), (17, 100_001));
+    assert_eq!(refused(&vec!["id"; 70_000].join(";")), (17, 139_999));
+    assert_eq!(refused(&format!("{};", stars(600))), (16, 603));
+    // Lent lists.
+    let (mut kind, mut first, mut second) = ([9; 5], [9; 4], [9; 3]);
+    let count = text::read(b"f1<-2*", &mut kind, &mut first, &mut second);
+    assert_eq!(count, Ok(2));
+    assert_eq!(kind, [4, 8, 9, 9, 9]);
+    assert_eq!(first, [1, 0, 9, 9]);
+    assert_eq!(second, [2, 0, 9]);
+    let count = text::read(b"f1<-2***", &mut kind, &mut first, &mut second);
+    assert_eq!(count, refusal(17, 4));
+    assert_eq!(kind, [4, 8, 9, 9, 9]);
+    assert_eq!(
+        text::read(b"id", &mut [], &mut [0], &mut [0]),
+        refusal(17, 1)
+    );
+    assert_eq!(text::read(b"", &mut [], &mut [], &mut []), refusal(16, 0));
+}
+
+fn program(input: &str) -> String {
+    String::from_utf8(program::run(input.as_bytes())).unwrap()
+}
+
+#[test]
+fn the_example() {
+    let output = "equal,4,0\r\n0,1,1\r\n1,1,1\r\n0,2,2\r\n1,0,2\r\n";
+    assert_eq!(program("2\nf0=0;dup\ndup;f0=0\n"), output);
+    assert_eq!(program("2\r\nf0=0;dup\r\ndup;f0=0\r\n"), output);
+    assert_eq!(program("2\r\nf0=0;dup\ndup;f0=0"), output);
+    assert_eq!(
+        program("1\ndup\ndup;dup\n"),
+        "left,2,0\r\n1,0,0\r\n2,0,1\r\n"
+    );
+    assert_eq!(program("3\nf0=0+f0=1\nid"), "right,1,2\r\n1,2,1\r\n");
+}
+
+#[test]
+fn program_inputs() {
+    for (input, number, place) in [
+        ("", 18, 0),
+        ("\n", 18, 0),
+        ("2\nid\n", 18, 0),
+        ("2\nid\n\n", 16, 0),
+        ("2\nid\n\r\n", 16, 0),
+        ("2\nid\nid\n\n", 18, 0),
+        ("2\nid\nid\n\r", 18, 0),
+        ("2\nid\nid\r", 14, 2),
+        ("2\nid\r\r\nid", 14, 2),
+        ("2\r\r\nid\nid", 18, 0),
+        ("\nid\nid", 18, 0),
+        ("2,\nid\nid", 18, 0),
+        ("2, 2\nid\nid", 18, 0),
+        ("02\nid\nid", 18, 0),
+        ("65536\nid\nid", 18, 0),
+        ("65535\n?\nid", 3, 0),
+        ("0\n?\nid", 2, 0),
+        ("1,1,1,1,1,1,1,1,0\n?\nid", 1, 0),
+        ("5,205\n?\nid", 3, 1),
+        ("2\n?\n?", 14, 0),
+        ("2\nid\n id ?", 14, 4),
+        ("2\nid;f0=2\nf0=2", 6, 1),
+        ("2\nid\nid;f1=0", 6, 1),
+    ] {
+        let expected = format!("refused,{number},{place}\r\n");
+        assert_eq!(program(input), expected, "{input:?}");
+    }
+    let padded = |length: usize| {
+        let mut input = "2\nid\nid".to_string();
+        input.push_str(&" ".repeat(length - input.len()));
+        program(&input)
+    };
+    assert_eq!(padded(32_768), "equal,2,0\r\n0,1,1\r\n1,1,1\r\n");
+    assert_eq!(padded(32_769), "refused,18,0\r\n");
+}
+
+#[test]
+fn the_program_lends_4096_rows() {
+    // The starting rows and three more for each fit, four don't.
+    let chain = |dups: usize| vec!["dup"; dups].join(";");
+    let run = |dups| program(&format!("1024\n{0}\n{0}", chain(dups)));
+    assert!(run(3).starts_with("equal,4096,0\r\n"));
+    assert_eq!(run(4), "refused,11,4096\r\n");
+}

@@ -1,0 +1,285 @@
+//! The pairs and edges that the requirements name, through the public calls.
+
+mod common;
+
+use common::{nodes, search, search_with, Outcome};
+use netkat_reference::answer::{Holders, Refusal, Ruling, Side, Verdict};
+use netkat_reference::evidence::{self, Table};
+use netkat_reference::generate::heavy;
+use netkat_reference::search::{search_texts, Lists, LEAST_WORK};
+use netkat_reference::traces;
+
+fn equal(sizes: &[u16], left: &str, right: &str, rows: &[(u16, u32, u32)]) {
+    let outcome = search(sizes, left, right);
+    assert_eq!(outcome.answer, Ok(Verdict::Equal { rows: rows.len() }));
+    assert_eq!(outcome.rows(rows.len()), rows);
+    let untouched = Lists::new(0, 65_535, 0).trace;
+    assert_eq!(outcome.lists.trace, untouched);
+}
+
+fn different(sizes: &[u16], left: &str, right: &str, side: Side, entering: u16, trace: &[u16]) {
+    let outcome = search(sizes, left, right);
+    let length = trace.len();
+    assert_eq!(
+        outcome.answer,
+        Ok(Verdict::Different {
+            side,
+            length,
+            entering
+        })
+    );
+    assert_eq!(&outcome.lists.trace[..length], trace);
+    let (one, other) = (nodes(left), nodes(right));
+    let holders = match side {
+        Side::Left => Holders::Left,
+        Side::Right => Holders::Right,
+    };
+    let mut work = vec![7; LEAST_WORK];
+    assert_eq!(
+        traces::check(
+            sizes,
+            one.lists(),
+            other.lists(),
+            entering,
+            trace,
+            &mut work
+        ),
+        Ok(holders)
+    );
+    assert!(work.iter().all(|&word| word == 0));
+}
+
+#[test]
+fn p1() {
+    different(&[2], "drop", "id", Side::Right, 0, &[0]);
+}
+
+const P2_ROWS: [(u16, u32, u32); 4] = [(0, 1, 1), (1, 1, 1), (0, 2, 2), (1, 0, 2)];
+
+#[test]
+fn p2() {
+    equal(&[2], "f0=0;dup", "dup;f0=0", &P2_ROWS);
+    let outcome = search(&[2], "f0=0;dup", "dup;f0=0");
+    assert_eq!(&outcome.lists.parent[..4], [0, 1, 0, 1]);
+}
+
+#[test]
+fn p3_and_p4() {
+    equal(&[2], "f0=0+f0=1", "id", &[(0, 1, 1), (1, 1, 1)]);
+    different(&[3], "f0=0+f0=1", "id", Side::Right, 2, &[2]);
+}
+
+#[test]
+fn p5_and_p6() {
+    let rows = [(0, 1, 1), (0, 2, 2), (0, 2, 4)];
+    equal(&[1], "dup*", "id+dup;dup*", &rows);
+    let Outcome { answer, lists } = search_with(&[1], "dup*", "id+dup;dup*", 2, 9);
+    assert_eq!(answer, Err(Refusal::new(11, 2)));
+    assert_eq!(lists.packet, [0, 0]);
+    assert_eq!(lists.left, [1, 2]);
+    assert_eq!(lists.right, [1, 2]);
+    assert_eq!(lists.parent, [0, 0]);
+    let outcome = search_with(&[1], "dup*", "id+dup;dup*", 3, 0);
+    assert_eq!(outcome.answer, Ok(Verdict::Equal { rows: 3 }));
+}
+
+#[test]
+fn p7_to_p10() {
+    different(&[1], "dup", "dup;dup", Side::Left, 0, &[0, 0]);
+    equal(&[2], "f0<-1;f0=1", "f0<-1", &[(0, 1, 1), (1, 1, 1)]);
+    different(&[2], "f0<-0+f0<-1", "id", Side::Left, 0, &[1]);
+    equal(&[1], "dup;drop", "drop", &[(0, 1, 1), (0, 2, 0)]);
+}
+
+fn ruling(sizes: &[u16], left: &str, right: &str, rows: &[(u16, u32, u32)]) -> Ruling {
+    let packet: Vec<u16> = rows.iter().map(|row| row.0).collect();
+    let left_states: Vec<u32> = rows.iter().map(|row| row.1).collect();
+    let right_states: Vec<u32> = rows.iter().map(|row| row.2).collect();
+    let table = Table {
+        packet: &packet,
+        left: &left_states,
+        right: &right_states,
+    };
+    let mut work = vec![3; LEAST_WORK + 5];
+    let (left, right) = (nodes(left), nodes(right));
+    let ruling = evidence::check(sizes, left.lists(), right.lists(), table, &mut work).unwrap();
+    assert!(work.iter().all(|&word| word == 0));
+    ruling
+}
+
+#[test]
+fn p11_and_the_row_rules() {
+    let check = |rows: &[(u16, u32, u32)]| ruling(&[2], "f0=0;dup", "dup;f0=0", rows);
+    assert_eq!(check(&P2_ROWS), Ruling::Accepted);
+    assert_eq!(
+        check(&P2_ROWS[..3]),
+        Ruling::NextMissing { row: 1, packet: 1 }
+    );
+    // Order, repeats and rows of two empty states don't matter.
+    let mut rows = P2_ROWS.to_vec();
+    rows.reverse();
+    rows.push((0, 2, 2));
+    rows.push((1, 0, 0));
+    assert_eq!(check(&rows), Ruling::Accepted);
+    // (a) comes first, over all rows.
+    rows.push((0, 4, 1));
+    rows.push((2, 1, 1));
+    assert_eq!(check(&rows), Ruling::OutOfRange { row: 6 });
+    assert_eq!(
+        check(&[(0, 1, 1), (0, 1, 0), (2, 1, 1)]),
+        Ruling::OutOfRange { row: 2 }
+    );
+    assert_eq!(
+        check(&[(0, 1, 0), (1, 1, 1)]),
+        Ruling::NoStart { packet: 0 }
+    );
+    assert_eq!(check(&[]), Ruling::NoStart { packet: 0 });
+    assert_eq!(
+        check(&[(0, 1, 1), (0, 1, 2), (1, 1, 1)]),
+        Ruling::NextMissing { row: 0, packet: 0 }
+    );
+    assert_eq!(
+        check(&[(0, 2, 1), (0, 1, 1), (1, 1, 1)]),
+        Ruling::OutputsDiffer { row: 0 }
+    );
+}
+
+#[test]
+fn a_mask_may_use_every_bit() {
+    let dups = ["dup"; 31].join("+");
+    let rows = [(0, 1, 1), (0, u32::MAX - 1, u32::MAX - 1), (0, 1 << 31, 1)];
+    assert_eq!(
+        ruling(&[1], &dups, &dups, &rows),
+        Ruling::OutputsDiffer { row: 2 }
+    );
+    assert_eq!(ruling(&[1], &dups, &dups, &rows[..2]), Ruling::Accepted);
+    let dups = ["dup"; 30].join("+");
+    assert_eq!(
+        ruling(&[1], &dups, &dups, &rows),
+        Ruling::OutOfRange { row: 1 }
+    );
+}
+
+fn resize(lists: &mut Lists, rows: usize) {
+    lists.packet.resize(rows, 1);
+    lists.left.resize(rows, 1);
+    lists.right.resize(rows, 1);
+    lists.parent.resize(rows, 1);
+}
+
+#[test]
+fn lists_of_10() {
+    let run = |change: fn(&mut Lists)| {
+        let mut lists = Lists::new(4, 4, LEAST_WORK);
+        lists.work.fill(5);
+        change(&mut lists);
+        let before = lists.clone();
+        let answer = search_texts(&[1], b"id", b"drop", lists.lend());
+        if answer == Err(Refusal::new(10, 0)) {
+            assert_eq!(lists, before);
+        } else {
+            assert!(lists.work.iter().all(|&word| word == 0));
+        }
+        answer
+    };
+    let refused = Err(Refusal::new(10, 0));
+    assert_eq!(run(|lists| lists.packet.push(0)), refused);
+    assert_eq!(run(|lists| lists.left.truncate(3)), refused);
+    assert_eq!(run(|lists| lists.right.push(0)), refused);
+    assert_eq!(run(|lists| lists.parent.clear()), refused);
+    assert_eq!(run(|lists| lists.work.truncate(16_383)), refused);
+    assert_eq!(run(|lists| resize(lists, 65_536)), refused);
+    let left = Ok(Verdict::Different {
+        side: Side::Left,
+        length: 1,
+        entering: 0,
+    });
+    assert_eq!(run(|lists| resize(lists, 65_535)), left);
+    // Row lists of length 0 are legal and full.
+    assert_eq!(run(|lists| resize(lists, 0)), Err(Refusal::new(11, 0)));
+    assert_eq!(run(|lists| lists.trace.clear()), Err(Refusal::new(12, 1)));
+}
+
+#[test]
+fn starting_rows_that_do_not_fit() {
+    let Outcome { answer, lists } = search_with(&[2, 2], "id", "drop", 3, 9);
+    assert_eq!(answer, Err(Refusal::new(11, 3)));
+    assert_eq!(lists.packet, [0, 1, 2]);
+    assert_eq!(lists.left, [1, 1, 1]);
+    assert_eq!(lists.right, [1, 1, 1]);
+    assert_eq!(lists.parent, [0, 1, 2]);
+}
+
+#[test]
+fn a_trace_that_does_not_fit() {
+    let Outcome { answer, lists } = search_with(&[1], "dup", "dup;dup", 9, 1);
+    assert_eq!(answer, Err(Refusal::new(12, 2)));
+    assert_eq!(lists.trace, [9]);
+    assert_eq!(&lists.left[..2], [1, 2]);
+    assert_eq!(&lists.parent[..3], [0, 0, 9]);
+}
+
+#[test]
+fn texts_are_tested_before_policies() {
+    let answer = |left: &str, right: &str| search(&[2], left, right).answer.unwrap_err();
+    assert_eq!(answer("f0=2", "id id"), Refusal::new(16, 3));
+    assert_eq!(answer("f0=2", "f1=0"), Refusal::new(6, 0).on(1));
+    assert_eq!(answer("id;f0=1", "id;f1=0"), Refusal::new(6, 1).on(2));
+    let dups = ["dup"; 32].join(";");
+    assert_eq!(answer(&dups, "id;f1=0"), Refusal::new(6, 1).on(2));
+    assert_eq!(answer(&dups, "id"), Refusal::new(9, 61).on(1));
+    assert_eq!(answer("id", &dups), Refusal::new(9, 61).on(2));
+    assert_eq!(search(&[], "?", "?").answer, Err(Refusal::new(1, 0)));
+    assert_eq!(search(&[5, 205], "?", "?").answer, Err(Refusal::new(3, 1)));
+    let dups = ["dup"; 31].join(";");
+    assert!(search(&[2], &dups, &dups).answer.is_ok());
+}
+
+#[test]
+fn the_trace_checker() {
+    let (left, right) = (nodes("dup*"), nodes("dup;dup*"));
+    let check = |entering, trace: &[u16], work| {
+        let mut work = vec![1; work];
+        let answer = traces::check(
+            &[2],
+            left.lists(),
+            right.lists(),
+            entering,
+            trace,
+            &mut work,
+        );
+        let zeroed = work.iter().all(|&word| word == 0);
+        assert_eq!(zeroed, answer != Err(Refusal::new(10, 0)));
+        answer
+    };
+    assert_eq!(check(0, &[], LEAST_WORK), Ok(Holders::Neither));
+    assert_eq!(check(0, &[0], LEAST_WORK), Ok(Holders::Left));
+    assert_eq!(check(1, &[1, 1], LEAST_WORK), Ok(Holders::Both));
+    assert_eq!(check(1, &[1, 0], LEAST_WORK), Ok(Holders::Neither));
+    assert_eq!(check(2, &[2, 0], LEAST_WORK), Err(Refusal::new(13, 0)));
+    assert_eq!(check(2, &[], LEAST_WORK), Err(Refusal::new(13, 0)));
+    assert_eq!(check(0, &[1, 2, 3], LEAST_WORK), Err(Refusal::new(13, 2)));
+    assert_eq!(check(2, &[2], LEAST_WORK - 1), Err(Refusal::new(10, 0)));
+}
+
+#[test]
+fn nested_stars_cost_nothing() {
+    let text = format!("id{}", "*".repeat(511));
+    let start = std::time::Instant::now();
+    let outcome = search(&[1024], &text, "id");
+    assert_eq!(outcome.answer, Ok(Verdict::Equal { rows: 1024 }));
+    assert!(start.elapsed().as_secs() < 20);
+}
+
+#[test]
+fn heavy_pairs_are_equal() {
+    for pair in heavy::pairs() {
+        let outcome = search(&pair.sizes, &pair.left, &pair.right);
+        let Ok(Verdict::Equal { rows }) = outcome.answer else {
+            panic!("{} {:?}", pair.name, outcome.answer);
+        };
+        let rows = outcome.rows(rows);
+        let ruling = ruling(&pair.sizes, &pair.left, &pair.right, &rows);
+        assert_eq!(ruling, Ruling::Accepted, "{}", pair.name);
+    }
+}
