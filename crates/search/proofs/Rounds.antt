@@ -21,6 +21,7 @@ use Rattle.pair.specs.Sides.{Side, left, right, policies}
 use Rattle.pair.specs.Pair.{pairSystem}
 use Rattle.pair.specs.Search.{sideOf, searchAnswer, reported}
 use Rattle.pair.proofs.Lawful.{legal-pair, lawful}
+use Rattle.index.specs.declared.Appended.{Appended}
 use Rattle.index.specs.declared.Appended.the-variants.{Rows, Full as FullUp}
 use Rattle.index.specs.Appending.{Lists}
 use Rattle.index.specs.Entries.{Masks}
@@ -83,6 +84,17 @@ module _ (sizes : List ℕ) (L R : NodeLists) where
     pub left-long : length nextL ≡ length nextL₀
     pub right-long : length nextR ≡ length nextR₀
     pub clean : work ≡ work₀
+
+pub started-full : {x y : Lists} {count : ℕ} {a : Appended} → Started x y count a → a ≡ FullUp → Started x y count FullUp
+started-full {x} {y} {count} T e = subst (Started x y count) e T
+
+pub started-rows : {x y : Lists} {count m : ℕ} {a : Appended} → Started x y count a → a ≡ Rows m → Started x y count (Rows m)
+started-rows {x} {y} {count} T e = subst (Started x y count) e T
+
+-- A round of a row order that started from any columns x and listed its starting rows in b.
+abbrev pub RoundFrom : List ℕ → NodeLists → NodeLists → Lists → Lists → ℕ → ℕ → ℕ → ℕ → List ℕ → List ℕ → List ℕ → List ℕ → List ℕ → List ℕ → Type 0
+RoundFrom sizes L R b y count m n h nextL₀ nextR₀ work₀ nextL nextR work =
+    (x : Lists) → RowsReady sizes L R x count nextL₀ nextR₀ work₀ → Started x b count (Rows m) → SameLengths x b → Round sizes L R x y count n h nextL₀ nextR₀ work₀ nextL nextR work
 
 module _ {sizes : List ℕ} {L R : NodeLists} {x : Lists} {count : ℕ} {nextL₀ nextR₀ work₀ : List ℕ} (P : RowsReady sizes L R x count nextL₀ nextR₀ work₀) where
   abbrev S′ : System
@@ -204,40 +216,45 @@ module _ {sizes : List ℕ} {L R : NodeLists} {x : Lists} {count : ℕ} {nextL�
                   clean = w ∙ O .clean;
                 }
 
-      pub round-stops : (e : Ended) → answer ≡ Stopped e → length (z .parents) ≡ length (z .packets) → length (z .packets) ≡ length (x .packets)
-          → RowsRun sizes L R x z count (record { row = h; listed = n; ended = e })
-      unfolding Readable ReadableAt endedAnswer answerAtEnd tellingAnswer
-      round-stops e f long same = go e (subst (Stepped sizes L R (length (y .packets)) k) f answer-is)
-        where
-          telling-run : (γ : ℕ) → turn S′ (run S′ k) ≡ telling γ → Running sizes (policies L R) x z count n h k
-          telling-run γ told = record { standing = stands-then S′ M′ (O .running .standing) (same-rows γ told) (omega arith); handled = O .running .handled }
+        pub round-stops : (e : Ended) → answer ≡ Stopped e → RowsRun sizes L R x z count (record { row = h; listed = n; ended = e })
+        unfolding Readable ReadableAt endedAnswer answerAtEnd tellingAnswer
+        round-stops e f = go e (subst (Stepped sizes L R (length (y .packets)) k) f answer-is)
+          where
+            long : length (z .parents) ≡ length (z .packets)
+            long = same .parents ∙ parents-long ∙ sym (same .packets)
 
-          tells-answer : (s : Side) (γ : ℕ) → turn S′ (run S′ k) ≡ telling γ → sideOf sizes (policies L R) (current S′ (run S′ k)) γ ≡ s → (lent : ℕ)
-              → searchAnswer sizes (policies L R) (length (x .packets)) lent ≡ tellingAnswer lent (z .packets) (z .parents) h s γ
-          tells-answer s γ told side lent =
-              let T = telling-run γ told in
-              search-tells sizes (policies L R) is-lawful (sym (P .packets)) T same γ told lent .0
-              ∙ ap (λ t. reported lent t (entering S′ (run S′ k .rows) h) (path S′ (run S′ k .rows) h ++ (γ ∷ []))) side
-              ∙ ap₂ (λ α w. reported lent s α (w ++ (γ ∷ []))) (entering-line sizes (policies L R) (T .standing) long is-earlier h (O .more)) (path-line sizes (policies L R) (T .standing) long is-earlier h (O .more))
+            wide : length (z .packets) ≡ length (x .packets)
+            wide = same .packets ∙ O .lengths .packets
 
-          tells-stands : (γ : ℕ) → turn S′ (run S′ k) ≡ telling γ → Standing S′ M′ x z count n (held S′ (length (x .packets)))
-          tells-stands γ told = search-tells sizes (policies L R) is-lawful (sym (P .packets)) (telling-run γ told) same γ told 0 .1
+            telling-run : (γ : ℕ) → turn S′ (run S′ k) ≡ telling γ → Running sizes (policies L R) x z count n h k
+            telling-run γ told = record { standing = stands-then S′ M′ (O .running .standing) (same-rows γ told) (omega arith); handled = O .running .handled }
 
-          can-read : (γ : ℕ) → turn S′ (run S′ k) ≡ telling γ → CanRead (z .packets) (z .parents) h n
-          can-read γ told =
-              let T = telling-run γ told in
-              record { rooted = rooted sizes (policies L R) (T .standing) long is-earlier; inside = O .more; within = T .standing .indexed .within }
+            tells-answer : (s : Side) (γ : ℕ) → turn S′ (run S′ k) ≡ telling γ → sideOf sizes (policies L R) (current S′ (run S′ k)) γ ≡ s → (lent : ℕ)
+                → searchAnswer sizes (policies L R) (length (x .packets)) lent ≡ tellingAnswer lent (z .packets) (z .parents) h s γ
+            tells-answer s γ told side lent =
+                let T = telling-run γ told in
+                search-tells sizes (policies L R) is-lawful (sym (P .packets)) T wide γ told lent .0
+                ∙ ap (λ t. reported lent t (entering S′ (run S′ k .rows) h) (path S′ (run S′ k .rows) h ++ (γ ∷ []))) side
+                ∙ ap₂ (λ α w. reported lent s α (w ++ (γ ∷ []))) (entering-line sizes (policies L R) (T .standing) long is-earlier h (O .more)) (path-line sizes (policies L R) (T .standing) long is-earlier h (O .more))
 
-          tells-stop : (s : Side) (γ : ℕ) → turn S′ (run S′ k) ≡ telling γ → sideOf sizes (policies L R) (current S′ (run S′ k)) γ ≡ s → RowsRun sizes L R x z count (record { row = h; listed = n; ended = tellingAt s γ })
-          tells-stop left γ told side = record { standing = held-stands (tells-stands γ told); readable = can-read γ told; answers = tells-answer left γ told side }
-          tells-stop right γ told side = record { standing = held-stands (tells-stands γ told); readable = can-read γ told; answers = tells-answer right γ told side }
+            tells-stands : (γ : ℕ) → turn S′ (run S′ k) ≡ telling γ → Standing S′ M′ x z count n (held S′ (length (x .packets)))
+            tells-stands γ told = search-tells sizes (policies L R) is-lawful (sym (P .packets)) (telling-run γ told) wide γ told 0 .1
 
-          go : (e : Ended) → Stepped sizes L R (length (y .packets)) k (Stopped e) → RowsRun sizes L R x z count (record { row = h; listed = n; ended = e })
-          go e (ends {m} goes all fits over) =
-              let next = search-goes sizes (policies L R) is-lawful (sym (P .packets)) (O .running) goes (fitting-rows goes all fits) in
-              let end = search-ends sizes (policies L R) is-lawful (sym (P .packets)) next same (omega (arith, over, next .handled)) in
-              record { standing = held-stands (end 0 .1); readable = tt; answers = λ lent. end lent .0 }
-          go e (tells s γ told side is) = subst (λ e. RowsRun sizes L R x z count (record { row = h; listed = n; ended = e })) is (tells-stop s γ told side)
-          go e (fills goes over) =
-              full-stop (search-fills sizes (policies L R) is-lawful (sym (P .packets)) (O .running) (O .lengths .packets) over
-              (subst (λ m. Standing S′ M′ y z count m (take (length (y .packets)) (run S′ (suc k) .rows))) (length-take-le (length (y .packets)) (run S′ (suc k) .rows) (omega (arith, over))) (next-rows goes)))
+            can-read : (γ : ℕ) → turn S′ (run S′ k) ≡ telling γ → CanRead (z .packets) (z .parents) h n
+            can-read γ told =
+                let T = telling-run γ told in
+                record { rooted = rooted sizes (policies L R) (T .standing) long is-earlier; inside = O .more; within = T .standing .indexed .within }
+
+            tells-stop : (s : Side) (γ : ℕ) → turn S′ (run S′ k) ≡ telling γ → sideOf sizes (policies L R) (current S′ (run S′ k)) γ ≡ s → RowsRun sizes L R x z count (record { row = h; listed = n; ended = tellingAt s γ })
+            tells-stop left γ told side = record { standing = held-stands (tells-stands γ told); readable = can-read γ told; answers = tells-answer left γ told side }
+            tells-stop right γ told side = record { standing = held-stands (tells-stands γ told); readable = can-read γ told; answers = tells-answer right γ told side }
+
+            go : (e : Ended) → Stepped sizes L R (length (y .packets)) k (Stopped e) → RowsRun sizes L R x z count (record { row = h; listed = n; ended = e })
+            go e (ends {m} goes all fits over) =
+                let next = search-goes sizes (policies L R) is-lawful (sym (P .packets)) (O .running) goes (fitting-rows goes all fits) in
+                let end = search-ends sizes (policies L R) is-lawful (sym (P .packets)) next wide (omega (arith, over, next .handled)) in
+                record { standing = held-stands (end 0 .1); readable = tt; answers = λ lent. end lent .0 }
+            go e (tells s γ told side is) = subst (λ e. RowsRun sizes L R x z count (record { row = h; listed = n; ended = e })) is (tells-stop s γ told side)
+            go e (fills goes over) =
+                full-stop (search-fills sizes (policies L R) is-lawful (sym (P .packets)) (O .running) (O .lengths .packets) over
+                (subst (λ m. Standing S′ M′ y z count m (take (length (y .packets)) (run S′ (suc k) .rows))) (length-take-le (length (y .packets)) (run S′ (suc k) .rows) (omega (arith, over))) (next-rows goes)))

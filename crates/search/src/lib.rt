@@ -130,3 +130,74 @@ pub fn handle(
         }
     }
 }
+
+// Inner: starts the row order and handles row after row until it ends. heads and links are 0.
+fn run(
+    sizes: &[u16],
+    count: u16,
+    left_kind: &[u8],
+    left_first: &[u16],
+    left_second: &[u16],
+    right_kind: &[u8],
+    right_first: &[u16],
+    right_second: &[u16],
+    packets: &mut [u16],
+    lefts: &mut [Mask],
+    rights: &mut [Mask],
+    parents: &mut [u16],
+    heads: &mut [u16],
+    links: &mut [u16],
+    next_left: &mut [u32],
+    next_right: &mut [u32],
+    work: &mut [u32],
+) -> Stop
+    requires { ⌜ RowsReady (now sizes) (asLists (now «left_kind») (now «left_first») (now «left_second»)) (asLists (now «right_kind») (now «right_first») (now «right_second»)) (lists (now packets) (now lefts) (now rights) (now parents) (now heads) (now links)) count (now «next_left») (now «next_right») (now work) ⌝ }
+    ensures runs { λ r. ⌜ RowsRun (now (sizes .entry)) (asLists (now («left_kind» .entry)) (now («left_first» .entry)) (now («left_second» .entry))) (asLists (now («right_kind» .entry)) (now («right_first» .entry)) (now («right_second» .entry))) (lists (now (packets .entry)) (now (lefts .entry)) (now (rights .entry)) (now (parents .entry)) (now (heads .entry)) (now (links .entry))) (lists (now (packets .exit)) (now (lefts .exit)) (now (rights .exit)) (now (parents .exit)) (now (heads .exit)) (now (links .exit))) count r ⌝ }
+    ensures kept { λ _. ⌜ now (work .exit) ≡ now (work .entry) ⌝ }
+{
+    let Appended::Rows(started) = rows::start(packets, lefts, rights, parents, count, heads, links)
+    else {
+        return Stop {
+            row: 0,
+            listed: 0,
+            ended: Ended::Full,
+        };
+    };
+    let mut listed = started;
+    let mut handled = 0;
+    loop {
+        match handle(
+            sizes,
+            count,
+            left_kind,
+            left_first,
+            left_second,
+            right_kind,
+            right_first,
+            right_second,
+            packets,
+            lefts,
+            rights,
+            parents,
+            heads,
+            links,
+            handled,
+            listed,
+            next_left,
+            next_right,
+            work,
+        ) {
+            Handled::Stopped(ended) => {
+                return Stop {
+                    row: handled,
+                    listed,
+                    ended,
+                };
+            }
+            Handled::Open(n) => {
+                listed = n;
+                handled += 1;
+            }
+        }
+    }
+}
