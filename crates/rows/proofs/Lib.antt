@@ -4,3 +4,4 @@ pub mod Standing
 pub mod Growing
 pub mod Lines
 pub mod Searching
+pub mod Testing

@@ -6,9 +6,11 @@ ghost use Prim.Native.Nat.{_+_, _<_, _≤_};
 ghost use lib.Dec.{eqb, ltb};
 ghost use lib.ListN.{length, replicate};
 ghost use Rattle.packet.specs.Refusals.{refusedAt, atZero};
+ghost use Rattle.packet.specs.Sizes.{counted, product};
+ghost use Rattle.policy.specs.AsLists.{asLists};
 ghost use Rattle.index.specs.Index.{Indexed};
 ghost use Rattle.index.specs.Appending.{lists};
-ghost use Rattle.rows.specs.Lent.{listsStage};
+ghost use Rattle.rows.specs.Lent.{listsStage, lentTests};
 ghost use Rattle.rows.specs.Standing.{Started, NextAppended};
 ghost use Rattle.rows.specs.Written.{written};
 ghost use Rattle.rows.specs.Lines.{lineDepth, linePath, lineStart, Rooted};
@@ -17,8 +19,10 @@ use index::Mask;
 use index::POLICIES;
 use index::Row;
 use index::append;
+use packet::Counted;
 use packet::Refusal;
 use packet::Tested;
+use policy::legality::PairAnswer;
 
 // Has a row list another length than the first, or has one of those looked at before?
 fn unequal(before: bool, length: usize, first: usize) -> bool
@@ -84,6 +88,42 @@ pub fn work_list(work: usize) -> Tested
     ensures { λ r. ⌜ r ≡ listsStage [] work ⌝ }
 {
     lists_tested(false, work)
+}
+
+// Inner: causes 1 to 10 for two policies, `lists` being the answer of stage "lists"; the packet count where none holds.
+pub fn lent_tests(
+    sizes: &[u16],
+    left_kind: &[u8],
+    left_first: &[u16],
+    left_second: &[u16],
+    right_kind: &[u8],
+    right_first: &[u16],
+    right_second: &[u16],
+    lists: Tested,
+) -> Counted
+    ensures { λ r. ⌜ r ≡ counted (lentTests (now (sizes .entry)) (asLists (now («left_kind» .entry)) (now («left_first» .entry)) (now («left_second» .entry))) (asLists (now («right_kind» .entry)) (now («right_first» .entry)) (now («right_second» .entry))) lists) (product (now (sizes .entry))) ⌝ }
+{
+    match packet::fields_stage(sizes) {
+        Tested::Refused(r) => Counted::Refused(r),
+        Tested::Passed => match packet::packet_count(sizes) {
+            Counted::Refused(r) => Counted::Refused(r),
+            Counted::Packets(count) => match policy::legality::pair_stage(
+                sizes,
+                left_kind,
+                left_first,
+                left_second,
+                right_kind,
+                right_first,
+                right_second,
+            ) {
+                PairAnswer::Refused(r) => Counted::Refused(r),
+                PairAnswer::Legal(_, _) => match lists {
+                    Tested::Refused(r) => Counted::Refused(r),
+                    Tested::Passed => Counted::Packets(count),
+                },
+            },
+        },
+    }
 }
 
 // Inner: the work list is all 0, to its last word.

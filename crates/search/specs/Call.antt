@@ -1,5 +1,5 @@
 -- The search on node lists: its answer and what it leaves in every lent list (document 01, "States and rows" and "Causes, in the order tested").
-use Prim.Native.Nat.{ℕ}
+use Prim.Native.Nat.{ℕ, _≤_}
 use mathlib.Core.List.{List, [], _∷_}
 use mathlib.Core.Logic.{_↔_}
 use mathlib.Core.Path.{_≡_}
@@ -7,17 +7,16 @@ use lib.ListN.{length, replicate, take}
 use Rattle.packet.specs.declared.Refusal.{Refusal}
 use Rattle.packet.specs.declared.Tested.{Tested}
 use Rattle.packet.specs.declared.Tested.the-variants.{Passed, Refused as Stopped}
-use Rattle.packet.specs.Refusals.{refusal, firstOf}
-use Rattle.packet.specs.Sizes.{fieldsStage, productStage}
-use Rattle.policy.specs.Answers.{sided}
-use Rattle.policy.specs.Legality.{policiesStage}
+use Rattle.packet.specs.Refusals.{refusal}
+use Rattle.packet.specs.Sizes.{product, LegalSizes}
+use Rattle.policy.specs.Legality.{Legal}
 use Rattle.policy.specs.Meaning.{SameTracesBelow}
 use Rattle.policy.specs.NodeLists.{NodeLists, policyOf}
 use Rattle.system.specs.RowOrder.{NeedsMore}
 use Rattle.pair.specs.Sides.{Side, left, right, policies}
 use Rattle.pair.specs.Pair.{pairSystem}
 use Rattle.pair.specs.Search.{SearchAnswer, equal, different, rowsFull, traceShort, Columns, searchAnswer, heldColumns, Distinguishes}
-use Rattle.rows.specs.Lent.{listsStage}
+use Rattle.rows.specs.Lent.{listsStage, lentTests}
 use Rattle.rows.specs.Written.{written}
 use Rattle.search.specs.declared.Verdict.{Verdict}
 use Rattle.search.specs.declared.Verdict.the-variants.{Equal, Left, Right, Full, Refused}
@@ -81,13 +80,7 @@ lentAfter (Stopped r) rows a x = x
 module _ (sizes : List ℕ) (L R : NodeLists) (x : Lent) where
   -- causes 1 to 10 in the order tested
   unfoldable pub searchTests : Tested
-  searchTests =
-      firstOf
-      (fieldsStage sizes
-      ∷ productStage sizes
-      ∷ policiesStage sizes (sided 1 L ∷ sided 2 R ∷ [])
-      ∷ listsStage (length (x .packets) ∷ length (x .lefts) ∷ length (x .rights) ∷ length (x .parents) ∷ []) (length (x .work))
-      ∷ [])
+  searchTests = lentTests sizes L R (listsStage (length (x .packets) ∷ length (x .lefts) ∷ length (x .rights) ∷ length (x .parents) ∷ []) (length (x .work)))
 
   -- the theory's answer with as many rows and as long a trace as were lent
   abbrev pub answerHere : SearchAnswer
@@ -120,3 +113,20 @@ module _ (sizes : List ℕ) (L R : NodeLists) (x : Lent) where
     pub full-exactly : searchTests ≡ Passed → (verdict ≡ Full (refusal 11 0 (length (x .packets)))) ↔ NeedsMore (pairSystem sizes (policies L R)) (length (x .packets))
     -- and it names the rows lent
     pub full-place : (r : Refusal) → verdict ≡ Full r → r ≡ refusal 11 0 (length (x .packets))
+
+-- what is known of the lent lists where no cause of 1 to 10 holds, and N = count
+pub record Accepted (sizes : List ℕ) (L R : NodeLists) (count : ℕ) (x : Lent) : Type 0 where
+  pub legal : LegalSizes sizes
+  pub left-legal : Legal sizes L
+  pub right-legal : Legal sizes R
+  pub packets : count ≡ product sizes
+  pub lefts : length (x .lefts) ≡ length (x .packets)
+  pub rights : length (x .rights) ≡ length (x .packets)
+  pub parents : length (x .parents) ≡ length (x .packets)
+  pub few : length (x .packets) ≤ 65535
+  pub long : 16384 ≤ length (x .work)
+
+-- the verdict and the lists after a search where no cause of 1 to 10 holds
+pub record SearchDone (sizes : List ℕ) (L R : NodeLists) (x : Lent) (verdict : Verdict) (y : Lent) : Type 0 where
+  pub answers : verdict ≡ verdictOf (answerHere sizes L R x)
+  pub leaves : y ≡ filled (rowsHere sizes L R x) (answerHere sizes L R x) x

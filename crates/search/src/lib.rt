@@ -7,13 +7,12 @@ ghost use Rattle.pair.specs.Sides.{left, right, policies};
 ghost use Rattle.index.specs.Appending.{lists};
 ghost use Rattle.search.specs.Step.{goesOn, RowHandled, StepReady};
 ghost use Rattle.search.specs.Ending.{CanRead, Readable, tellingAnswer, endedAnswer, RowsReady, RowsRun};
-ghost use Rattle.search.specs.Call.{Told, lent, Searched};
+ghost use Rattle.search.specs.Call.{Told, lent, Accepted, SearchDone, Searched};
 use compare::Compared;
 use index::Appended;
 use index::Mask;
+use packet::Counted;
 use packet::Refusal;
-use packet::Tested;
-use policy::legality::PairAnswer;
 
 // How the row order ends.
 pub enum Ended {
@@ -199,5 +198,52 @@ fn run(
                 handled += 1;
             }
         }
+    }
+}
+
+// Inner: the trace that ends at the row with the packet `last` is written, if there is room.
+fn tell(
+    packets: &[u16],
+    parents: &[u16],
+    listed: usize,
+    row: usize,
+    left_has: bool,
+    last: u16,
+    trace: &mut [u16],
+) -> Verdict
+    requires { ⌜ CanRead (now packets) (now parents) row listed ⌝ }
+    ensures { λ r. ⌜ Told (tellingAnswer (length (now (trace .entry))) (now (packets .entry)) (now (parents .entry)) row (cond «left_has» left right) last) (now (trace .entry)) r (now (trace .exit)) ⌝ }
+{
+    let needed = rows::trace_length(parents, listed, row);
+    if trace.len() < needed {
+        return Verdict::Refused(Refusal {
+            number: 12,
+            side: 0,
+            place: needed as u64,
+        });
+    }
+    rows::write_trace(packets, parents, listed, row, last, trace);
+    let alpha = rows::entering(packets, parents, listed, row);
+    if left_has {
+        return Verdict::Left(needed, alpha);
+    }
+    Verdict::Right(needed, alpha)
+}
+
+// Inner: the verdict where the row order has ended, and the trace.
+fn conclude(packets: &[u16], parents: &[u16], stop: Stop, trace: &mut [u16]) -> Verdict
+    requires { ⌜ Readable (now packets) (now parents) stop ⌝ }
+    ensures { λ r. ⌜ Told (endedAnswer (length (now (packets .entry))) (length (now (trace .entry))) (now (packets .entry)) (now (parents .entry)) stop) (now (trace .entry)) r (now (trace .exit)) ⌝ }
+{
+    let ended = stop.ended;
+    match ended {
+        Ended::Done(rows) => Verdict::Equal(rows),
+        Ended::Left(last) => tell(packets, parents, stop.listed, stop.row, true, last, trace),
+        Ended::Right(last) => tell(packets, parents, stop.listed, stop.row, false, last, trace),
+        Ended::Full => Verdict::Full(Refusal {
+            number: 11,
+            side: 0,
+            place: packets.len() as u64,
+        }),
     }
 }
