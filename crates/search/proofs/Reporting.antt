@@ -48,15 +48,21 @@ module _ {packets parents : List ℕ} {row listed : ℕ} (C : CanRead packets pa
     tells-short h = record { answers = sym (ap verdictOf (short-answer h)); leaves = sym (ap (λ a. traceAfter a trace) (short-answer h)) }
 
     pub tells-trace : needed ≤ length trace → (trace′ : List ℕ) → trace′ ≡ written (linePath packets parents row ++ (γ ∷ [])) trace → (α : ℕ) → α ≡ lineStart packets parents row
-        → Told (tellingAnswer (length trace) packets parents row s γ) trace (tellingVerdict s needed α) trace′
+        → (t : Side) → s ≡ t → Told (tellingAnswer (length trace) packets parents row s γ) trace (tellingVerdict t needed α) trace′
     unfolding verdictOf traceAfter path
-    tells-trace h trace′ w α enters =
+    tells-trace h trace′ w α enters t is =
         record {
-          answers = ap₂ (tellingVerdict s) (e ∙ sym path-long) enters ∙ sym (ap verdictOf (long-answer h));
+          answers = ap₂ (tellingVerdict t) (e ∙ sym path-long) enters ∙ ap (λ u. tellingVerdict u (length path) (lineStart packets parents row)) (sym is) ∙ sym (ap verdictOf (long-answer h));
           leaves = w ∙ sym (ap (λ a. traceAfter a trace) (long-answer h));
         }
 
 -- ---- the row order's end
+
+module _ (packets parents : List ℕ) (stop : Stop) where
+  pub telling-reads : (s : Side) (γ : ℕ) → Readable packets parents stop → stop .ended ≡ tellingAt s γ → CanRead packets parents (stop .row) (stop .listed)
+  unfolding Readable ReadableAt
+  telling-reads left γ C f = subst (ReadableAt packets parents (stop .row) (stop .listed)) f C
+  telling-reads right γ C f = subst (ReadableAt packets parents (stop .row) (stop .listed)) f C
 
 module _ (rows : ℕ) (packets parents : List ℕ) (stop : Stop) (trace : List ℕ) where
   answer-is : (e : Ended) → stop .ended ≡ e → endedAnswer rows (length trace) packets parents stop ≡ answerAtEnd rows (length trace) packets parents (stop .row) e
@@ -74,11 +80,6 @@ module _ (rows : ℕ) (packets parents : List ℕ) (stop : Stop) (trace : List �
   pub ends-full : stop .ended ≡ FullUp → Told (endedAnswer rows (length trace) packets parents stop) trace (Full (refusal 11 0 rows)) trace
   unfolding answerAtEnd verdictOf traceAfter
   ends-full f = told-as (answer-is FullUp f) (record { answers = refl; leaves = refl })
-
-  pub telling-reads : (s : Side) (γ : ℕ) → Readable packets parents stop → stop .ended ≡ tellingAt s γ → CanRead packets parents (stop .row) (stop .listed)
-  unfolding Readable ReadableAt
-  telling-reads left γ C f = subst (ReadableAt packets parents (stop .row) (stop .listed)) f C
-  telling-reads right γ C f = subst (ReadableAt packets parents (stop .row) (stop .listed)) f C
 
   pub ends-telling : (s : Side) (γ : ℕ) → stop .ended ≡ tellingAt s γ → (verdict : Verdict) (trace′ : List ℕ)
       → Told (tellingAnswer (length trace) packets parents (stop .row) s γ) trace verdict trace′ → Told (endedAnswer rows (length trace) packets parents stop) trace verdict trace′
