@@ -1,3 +1,4 @@
 pub mod Stepping
 pub mod Rounds
 pub mod Reporting
+pub mod Answering

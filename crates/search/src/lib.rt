@@ -247,3 +247,106 @@ fn conclude(packets: &[u16], parents: &[u16], stop: Stop, trace: &mut [u16]) -> 
         }),
     }
 }
+
+// Inner: the search where no cause of 1 to 10 holds.
+fn search_accepted(
+    sizes: &[u16],
+    count: u16,
+    left_kind: &[u8],
+    left_first: &[u16],
+    left_second: &[u16],
+    right_kind: &[u8],
+    right_first: &[u16],
+    right_second: &[u16],
+    packets: &mut [u16],
+    lefts: &mut [Mask],
+    rights: &mut [Mask],
+    parents: &mut [u16],
+    trace: &mut [u16],
+    work: &mut [u32],
+) -> Verdict
+    requires { ⌜ Accepted (now sizes) (asLists (now «left_kind») (now «left_first») (now «left_second»)) (asLists (now «right_kind») (now «right_first») (now «right_second»)) count (lent (now packets) (now lefts) (now rights) (now parents) (now trace) (now work)) ⌝ }
+    ensures { λ r. ⌜ SearchDone (now (sizes .entry)) (asLists (now («left_kind» .entry)) (now («left_first» .entry)) (now («left_second» .entry))) (asLists (now («right_kind» .entry)) (now («right_first» .entry)) (now («right_second» .entry))) (lent (now (packets .entry)) (now (lefts .entry)) (now (rights .entry)) (now (parents .entry)) (now (trace .entry)) (now (work .entry))) r (lent (now (packets .exit)) (now (lefts .exit)) (now (rights .exit)) (now (parents .exit)) (now (trace .exit)) (now (work .exit))) ⌝ }
+{
+    rows::clear(work);
+    let mut heads = [0u16; 65536];
+    let mut links = [0u16; 65536];
+    let mut next_left = [0u32; 1024];
+    let mut next_right = [0u32; 1024];
+    let stop = run(
+        sizes,
+        count,
+        left_kind,
+        left_first,
+        left_second,
+        right_kind,
+        right_first,
+        right_second,
+        packets,
+        lefts,
+        rights,
+        parents,
+        &mut heads,
+        &mut links,
+        &mut next_left,
+        &mut next_right,
+        work,
+    );
+    conclude(packets, parents, stop, trace)
+}
+
+// Whether two policies have the same traces from every packet: equal, or the shortest telling trace; the row lists then hold the row order as far
+// as it went. The work list holds at least 16,384 words.
+pub fn search(
+    sizes: &[u16],
+    left_kind: &[u8],
+    left_first: &[u16],
+    left_second: &[u16],
+    right_kind: &[u8],
+    right_first: &[u16],
+    right_second: &[u16],
+    packets: &mut [u16],
+    lefts: &mut [Mask],
+    rights: &mut [Mask],
+    parents: &mut [u16],
+    trace: &mut [u16],
+    work: &mut [u32],
+) -> Verdict
+    ensures { λ r. ⌜ Searched (now (sizes .entry)) (asLists (now («left_kind» .entry)) (now («left_first» .entry)) (now («left_second» .entry))) (asLists (now («right_kind» .entry)) (now («right_first» .entry)) (now («right_second» .entry))) (lent (now (packets .entry)) (now (lefts .entry)) (now (rights .entry)) (now (parents .entry)) (now (trace .entry)) (now (work .entry))) r (lent (now (packets .exit)) (now (lefts .exit)) (now (rights .exit)) (now (parents .exit)) (now (trace .exit)) (now (work .exit))) ⌝ }
+{
+    let lists = rows::search_lists(
+        packets.len(),
+        lefts.len(),
+        rights.len(),
+        parents.len(),
+        work.len(),
+    );
+    match rows::lent_tests(
+        sizes,
+        left_kind,
+        left_first,
+        left_second,
+        right_kind,
+        right_first,
+        right_second,
+        lists,
+    ) {
+        Counted::Refused(r) => Verdict::Refused(r),
+        Counted::Packets(count) => search_accepted(
+            sizes,
+            count,
+            left_kind,
+            left_first,
+            left_second,
+            right_kind,
+            right_first,
+            right_second,
+            packets,
+            lefts,
+            rights,
+            parents,
+            trace,
+            work,
+        ),
+    }
+}

@@ -1,0 +1,202 @@
+-- The call: what is ready where no cause refuses, and the promise. Assumes nothing.
+use Prim.Native.Nat.{ℕ, _<_, _≤_}
+use mathlib.Core.List.{List, [], _∷_, _++_}
+use mathlib.Core.Logic.{_↔_}
+use mathlib.Core.Path.{_≡_, refl, sym, ap, _∙_, subst}
+use native.Mathlib.Omega.{arith}
+use lib.ListN.{length, getD, replicate, take, drop, length-replicate, getD-replicate}
+use lib.Seq.{take-append-seam}
+use Rattle.packet.specs.declared.Refusal.{Refusal}
+use Rattle.packet.specs.declared.Tested.{Tested}
+use Rattle.packet.specs.declared.Tested.the-variants.{Passed, Refused as Stopped}
+use Rattle.packet.specs.declared.Counted.{Counted}
+use Rattle.packet.specs.declared.Counted.the-variants.{Packets, Refused as NotCounted}
+use Rattle.packet.specs.Refusals.{refusal}
+use Rattle.packet.specs.Sizes.{product, counted}
+use Rattle.packet.proofs.Sizes.{counted-packets, counted-refused}
+use Rattle.policy.specs.Meaning.{SameTracesBelow}
+use Rattle.policy.specs.NodeLists.{NodeLists, policyOf}
+use Rattle.system.specs.RowOrder.{NeedsMore, held}
+use Rattle.pair.specs.Sides.{Side, left, right, policies}
+use Rattle.pair.specs.Pair.{pairSystem}
+use Rattle.pair.specs.Search.{SearchAnswer, equal, different, rowsFull, traceShort, heldColumns, searchAnswer, Distinguishes}
+use Rattle.pair.proofs.Lawful.{EvaluablePair, legal-pair}
+use Rattle.pair.proofs.Verdicts as verdicts
+use Rattle.index.specs.Appending.{Lists, lists}
+use Rattle.index.specs.Index.{Indexed}
+use Rattle.index.proofs.Growth.{indexed-none}
+use Rattle.rows.specs.Lent.{listsStage, rowsMisfit, lentTests}
+use Rattle.rows.specs.Written.{written}
+use Rattle.rows.proofs.Searching.{holds}
+use Rattle.rows.proofs.Testing.{LegalCall, tests-passed, lists-passed, row-list-fits, rows-few}
+use Rattle.search.specs.declared.Stop.{Stop}
+use Rattle.search.specs.declared.Verdict.{Verdict}
+use Rattle.search.specs.declared.Verdict.the-variants.{Equal, Left, Right, Full, Refused}
+use Rattle.search.specs.Ending.{endedAnswer, RowsReady, RowsRun}
+use Rattle.search.specs.Call.{tellingVerdict, verdictOf, traceAfter, Told, Lent, lent, filled, verdictAfter, lentAfter, searchTests, answerHere, rowsHere, searchVerdict, searchLeaves, Telling, Searched, Accepted, SearchDone}
+
+zero≢one : _≡_ {A = ℕ} 0 1 → ⊥
+zero≢one z = omega arith
+
+same-lent : {a a′ b b′ c c′ d d′ t t′ w w′ : List ℕ} → a ≡ a′ → b ≡ b′ → c ≡ c′ → d ≡ d′ → t ≡ t′ → w ≡ w′ → lent a b c d t w ≡ lent a′ b′ c′ d′ t′ w′
+same-lent p q r s t w = rw (p, q, r, s, t, w) refl
+
+-- ---- what a verdict says of its answer
+
+equal-of : (a : SearchAnswer) (n : ℕ) → verdictOf a ≡ Equal n → a ≡ equal n
+unfolding verdictOf
+equal-of (equal m) n e = let same : m ≡ n = cc in ap equal same
+equal-of (different left α t) n e = let z : _≡_ {A = ℕ} 0 1 = cc in absurd (zero≢one z)
+equal-of (different right α t) n e = let z : _≡_ {A = ℕ} 0 1 = cc in absurd (zero≢one z)
+equal-of (rowsFull m) n e = let z : _≡_ {A = ℕ} 0 1 = cc in absurd (zero≢one z)
+equal-of (traceShort m) n e = let z : _≡_ {A = ℕ} 0 1 = cc in absurd (zero≢one z)
+
+-- the trace of a telling verdict
+record Trace (a : SearchAnswer) (s : Side) (n α : ℕ) : Type 0 where
+  trace : List ℕ
+  answer : a ≡ different s α trace
+  long : length trace ≡ n
+
+telling-of : (a : SearchAnswer) (s : Side) (n α : ℕ) → verdictOf a ≡ tellingVerdict s n α → Trace a s n α
+unfolding verdictOf
+telling-of (equal m) left n α e = let z : _≡_ {A = ℕ} 0 1 = cc in absurd (zero≢one z)
+telling-of (equal m) right n α e = let z : _≡_ {A = ℕ} 0 1 = cc in absurd (zero≢one z)
+telling-of (different left β t) left n α e = let same : β ≡ α = cc in record { trace = t; answer = ap (λ γ. different left γ t) same; long = cc }
+telling-of (different left β t) right n α e = let z : _≡_ {A = ℕ} 0 1 = cc in absurd (zero≢one z)
+telling-of (different right β t) left n α e = let z : _≡_ {A = ℕ} 0 1 = cc in absurd (zero≢one z)
+telling-of (different right β t) right n α e = let same : β ≡ α = cc in record { trace = t; answer = ap (λ γ. different right γ t) same; long = cc }
+telling-of (rowsFull m) left n α e = let z : _≡_ {A = ℕ} 0 1 = cc in absurd (zero≢one z)
+telling-of (rowsFull m) right n α e = let z : _≡_ {A = ℕ} 0 1 = cc in absurd (zero≢one z)
+telling-of (traceShort m) left n α e = let z : _≡_ {A = ℕ} 0 1 = cc in absurd (zero≢one z)
+telling-of (traceShort m) right n α e = let z : _≡_ {A = ℕ} 0 1 = cc in absurd (zero≢one z)
+
+-- the rows of a full verdict
+full-of : (a : SearchAnswer) (r : Refusal) → verdictOf a ≡ Full r → (n : ℕ) × (a ≡ rowsFull n) × (r ≡ refusal 11 0 n)
+unfolding verdictOf
+full-of (equal m) r e = let z : _≡_ {A = ℕ} 0 1 = cc in absurd (zero≢one z)
+full-of (different left α t) r e = let z : _≡_ {A = ℕ} 0 1 = cc in absurd (zero≢one z)
+full-of (different right α t) r e = let z : _≡_ {A = ℕ} 0 1 = cc in absurd (zero≢one z)
+full-of (rowsFull m) r e = (m, refl, cc)
+full-of (traceShort m) r e = let z : _≡_ {A = ℕ} 0 1 = cc in absurd (zero≢one z)
+
+refused-telling : (r : Refusal) (s : Side) (n α : ℕ) → Refused r ≡ tellingVerdict s n α → ⊥
+refused-telling r left n α e = let z : _≡_ {A = ℕ} 0 1 = cc in zero≢one z
+refused-telling r right n α e = let z : _≡_ {A = ℕ} 0 1 = cc in zero≢one z
+
+-- ---- the tests
+
+-- the tests as they were made
+module _ (sizes : List ℕ) (L R : NodeLists) (x : Lent) {stage : Tested} (is : stage ≡ listsStage (length (x .packets) ∷ length (x .lefts) ∷ length (x .rights) ∷ length (x .parents) ∷ []) (length (x .work))) {found : Counted} (e : found ≡ counted (lentTests sizes L R stage) (product sizes)) where
+  tests-are : lentTests sizes L R stage ≡ searchTests sizes L R x
+  unfolding searchTests
+  tests-are = ap (lentTests sizes L R) is
+
+  pub tests-refuse : (r : Refusal) → found ≡ NotCounted r → searchTests sizes L R x ≡ Stopped r
+  tests-refuse r f = sym tests-are ∙ counted-refused _ _ r (sym e ∙ f)
+
+  pub tests-pass : (n : ℕ) → found ≡ Packets n → (searchTests sizes L R x ≡ Passed) × (n ≡ product sizes)
+  tests-pass n f = let h = counted-packets _ _ n (sym e ∙ f) in (sym tests-are ∙ h .0, h .1)
+
+module _ {sizes : List ℕ} {L R : NodeLists} {x : Lent} where
+  -- ---- where no cause of 1 to 10 holds
+
+  module _ {count : ℕ} (A : Accepted sizes L R count x) where
+    pub rows-ready : (work′ : List ℕ) → work′ ≡ replicate (length (x .work)) 0
+        → RowsReady sizes L R (lists (x .packets) (x .lefts) (x .rights) (x .parents) (replicate 65536 0) (replicate 65536 0)) count (replicate 1024 0) (replicate 1024 0) work′
+    rows-ready work′ w =
+        let few : product sizes ≤ 1024 = A .legal .small in
+        let l : length (replicate {A = ℕ} 65536 0) ≡ 65536 = length-replicate {A = ℕ} 65536 0 in
+        let k : length (replicate {A = ℕ} 1024 0) ≡ 1024 = length-replicate {A = ℕ} 1024 0 in
+        record {
+          legal = A .legal;
+          left-legal = A .left-legal;
+          right-legal = A .right-legal;
+          packets = A .packets;
+          indexed = indexed-none (x .packets) (x .lefts) (x .rights) count 65536 (replicate 65536 0) (record { left = A .lefts; right = A .rights }) (omega (arith, A .few)) (omega (arith, A .few, l)) (omega (arith, A .packets, few));
+          parents = A .parents;
+          left-room = omega (arith, A .packets, few, k);
+          right-room = omega (arith, A .packets, few, k);
+          long = subst (λ n. 16384 ≤ n) (sym (ap length w ∙ length-replicate {A = ℕ} (length (x .work)) 0)) (A .long);
+          zero = λ i h. ap (λ v. getD v i 0) w ∙ getD-replicate (length (x .work)) i 0 0 (omega (arith, A .long));
+        }
+
+    module _ {heads links : List ℕ} {z : Lists} {stop : Stop} (D : RowsRun sizes L R (lists (x .packets) (x .lefts) (x .rights) (x .parents) heads links) z count stop) (long : length (z .parents) ≡ length (z .packets)) (same : length (z .packets) ≡ length (x .packets)) where
+      answer-here : endedAnswer (length (z .packets)) (length (x .trace)) (z .packets) (z .parents) stop ≡ answerHere sizes L R x
+      answer-here = ap (λ n. endedAnswer n (length (x .trace)) (z .packets) (z .parents) stop) same ∙ sym (D .answers (length (x .trace)))
+
+      pub search-done : {verdict : Verdict} {trace′ work′ : List ℕ} → Told (endedAnswer (length (z .packets)) (length (x .trace)) (z .packets) (z .parents) stop) (x .trace) verdict trace′ → work′ ≡ replicate (length (x .work)) 0
+          → SearchDone sizes L R x verdict (lent (z .packets) (z .left) (z .right) (z .parents) trace′ work′)
+      unfolding filled heldColumns
+      search-done T w =
+          let H = holds sizes (policies L R) (D .standing) long in
+          record {
+            answers = T .answers ∙ ap verdictOf answer-here;
+            leaves = same-lent (H .packets) (H .left) (H .right) (H .parents) (T .leaves ∙ ap (λ a. traceAfter a (x .trace)) answer-here) w;
+          }
+
+  pub accepts : searchTests sizes L R x ≡ Passed → (count : ℕ) → count ≡ product sizes → Accepted sizes L R count x
+  unfolding searchTests rowsMisfit
+  accepts e count c =
+      let h = tests-passed sizes L R _ e in
+      let l = lists-passed _ _ (h .passed) in
+      let a = row-list-fits _ _ _ (l .0) in
+      let b = row-list-fits _ _ _ (a .1) in
+      let d = row-list-fits _ _ _ (b .1) in
+      record {
+        legal = h .legal-sizes;
+        left-legal = h .left-legal;
+        right-legal = h .right-legal;
+        packets = c;
+        lefts = a .0;
+        rights = b .0;
+        parents = d .0;
+        few = rows-few _ (d .1);
+        long = l .1;
+      }
+
+  -- ---- the promise
+
+  pub refuses : (r : Refusal) → searchTests sizes L R x ≡ Stopped r → Searched sizes L R x (Refused r) x
+  unfolding searchVerdict searchLeaves verdictAfter lentAfter
+  refuses r e =
+      record {
+        answers = sym (ap (λ (t : Tested). verdictAfter t (answerHere sizes L R x)) e);
+        leaves = sym (ap (λ (t : Tested). lentAfter t (rowsHere sizes L R x) (answerHere sizes L R x) x) e);
+        equal-same = λ rows q. let z : _≡_ {A = ℕ} 0 1 = cc in absurd (zero≢one z);
+        different-tells = λ s n α q. absurd (refused-telling r s n α q);
+        full-exactly = λ p. let z : Stopped r ≡ Passed = sym e ∙ p in let o : _≡_ {A = ℕ} 0 1 = cc in absurd (zero≢one o);
+        full-place = λ q f. let z : _≡_ {A = ℕ} 0 1 = cc in absurd (zero≢one z);
+      }
+
+  pub promised : searchTests sizes L R x ≡ Passed → {verdict : Verdict} {y : Lent} → SearchDone sizes L R x verdict y → Searched sizes L R x verdict y
+  unfolding searchTests searchVerdict searchLeaves verdictAfter lentAfter filled traceAfter written verdictOf
+  promised e {verdict} {y} D =
+      record {
+        answers = D .answers ∙ sym (ap (λ (t : Tested). verdictAfter t (answerHere sizes L R x)) e);
+        leaves = D .leaves ∙ sym (ap (λ (t : Tested). lentAfter t (rowsHere sizes L R x) (answerHere sizes L R x) x) e);
+        equal-same = λ rows q. verdicts.equal-same sizes (policies L R) ok (length (x .packets)) (length (x .trace)) rows (equal-of _ rows (sym (D .answers) ∙ q)) .1;
+        different-tells = λ s n α q. tells s n α (telling-of _ s n α (sym (D .answers) ∙ q));
+        full-exactly = λ p. (λ q. full q, λ m. D .answers ∙ ap verdictOf (verdicts.full-exactly sizes (policies L R) (length (x .packets)) (length (x .trace)) .1 m));
+        full-place = λ r q. let f = full-of _ r (sym (D .answers) ∙ q) in f .2 ∙ ap (refusal 11 0) (verdicts.full-place sizes (policies L R) (length (x .packets)) (length (x .trace)) (f .0) (f .1));
+      }
+    where
+      ok : EvaluablePair sizes (policies L R)
+      ok = let h = tests-passed sizes L R _ e in legal-pair sizes L R (h .left-legal) (h .right-legal)
+
+      full : verdict ≡ Full (refusal 11 0 (length (x .packets))) → NeedsMore (pairSystem sizes (policies L R)) (length (x .packets))
+      full q =
+          let f = full-of _ _ (sym (D .answers) ∙ q) in
+          verdicts.full-exactly sizes (policies L R) (length (x .packets)) (length (x .trace)) .0 (f .1 ∙ ap rowsFull (verdicts.full-place sizes (policies L R) (length (x .packets)) (length (x .trace)) (f .0) (f .1)))
+
+      tells : (s : Side) (n α : ℕ) → Trace (answerHere sizes L R x) s n α → Telling sizes L R x s n α (y .trace)
+      tells s n α t =
+          let first : take n (y .trace) ≡ t .trace =
+          ap (take n) (ap (λ (z : Lent). z .trace) (D .leaves) ∙ ap (λ a. traceAfter a (x .trace)) (t .answer))
+          ∙ ap (λ k. take k (t .trace ++ drop (length (t .trace)) (x .trace))) (sym (t .long))
+          ∙ take-append-seam (t .trace) (drop (length (t .trace)) (x .trace)) in
+          record {
+            long = ap length first ∙ t .long;
+            tells =
+                subst (Distinguishes sizes (policies L R) s α) (sym first)
+                (verdicts.different-tells sizes (policies L R) ok (length (x .packets)) (length (x .trace)) s α (t .trace) (t .answer));
+          }

@@ -1,0 +1,62 @@
+-- `search` meets its contract. Assumes nothing.
+use borrow.Author.Needs.{needs}
+use Rattle.search.proofs.Answering.{tests-refuse, tests-pass, accepts, refuses, promised}
+use Rattle.search.proofs.search.Statement.{statement}
+use Rattle.search.proofs.search.Tie as tie
+
+search-lists-requires : tie.Need-search-lists-requires
+search-lists-requires c κs = search needs
+
+lent-tests-requires : tie.Need-lent-tests-requires
+lent-tests-requires c κs = search needs
+
+enum-known-r : tie.Need-enum-known-r
+enum-known-r c = search needs
+
+enum-known-count : tie.Need-enum-known-count
+enum-known-count c = search needs
+
+search-accepted-requires : tie.Need-search-accepted-requires
+search-accepted-requires c κs = let h = tests-pass _ _ _ _ (c .before .before .before .before .before .before .before .before .before .before .search-lists .ensures) (c .before .before .before .before .before .before .before .before .before .lent-tests .ensures) _ (c .before .before .before .before .before .before .before .count .given .1) in accepts (h .0) _ (h .1)
+
+returns : tie.Need-returns
+returns c = refuses _ (tests-refuse _ _ _ _ (c .before .before .before .before .search-lists .ensures) (c .before .before .before .lent-tests .ensures) _ (c .before .r .given .1))
+
+same-length : tie.Need-same-length
+same-length c = search needs
+
+same-length-2 : tie.Need-same-length-2
+same-length-2 c = search needs
+
+same-length-3 : tie.Need-same-length-3
+same-length-3 c = search needs
+
+same-length-4 : tie.Need-same-length-4
+same-length-4 c = search needs
+
+same-length-5 : tie.Need-same-length-5
+same-length-5 c = search needs
+
+same-length-6 : tie.Need-same-length-6
+same-length-6 c = search needs
+
+returns-2 : tie.Need-returns-2
+returns-2 c = promised (tests-pass _ _ _ _ (c .before .before .before .before .before .before .before .before .before .before .before .before .before .before .before .before .before .before .before .before .before .before .before .search-lists .ensures) (c .before .before .before .before .before .before .before .before .before .before .before .before .before .before .before .before .before .before .before .before .before .before .lent-tests .ensures) _ (c .before .before .before .before .before .before .before .before .before .before .before .before .before .before .before .before .before .before .before .before .count .given .1) .0) (c .before .before .before .before .before .before .before .before .before .before .before .before .search-accepted .ensures)
+
+pub search-spec : {M : Type 1} → statement M
+search-spec =
+    tie.close
+    (tie.spec
+    search-lists-requires
+    lent-tests-requires
+    enum-known-r
+    enum-known-count
+    search-accepted-requires
+    returns
+    same-length
+    same-length-2
+    same-length-3
+    same-length-4
+    same-length-5
+    same-length-6
+    returns-2)
