@@ -1,7 +1,7 @@
 -- The call's answer: which cause refuses, what accepting means, and the row order of an equal pair.
 -- Assumes nothing.
 use Prim.Native.Nat.{ℕ, _≤_}
-use native.Mathlib.Nat.{le-trans}
+use native.Mathlib.Nat.{le-refl, le-trans}
 use native.Mathlib.Omega.{arith}
 use mathlib.Core.Bool.{Bool, false, not, _||_, true≢false}
 use mathlib.Core.List.{List, [], _∷_}
@@ -30,7 +30,9 @@ use Rattle.policy.specs.Meaning.{SameTracesBelow}
 use Rattle.policy.proofs.AnswerLaws.{legal-pair-stage}
 use Rattle.policy.proofs.LegalityLaws.{stage-passes}
 use Rattle.system.specs.System.{System}
-use Rattle.system.specs.RowOrder.{Entry, held}
+use Rattle.system.specs.RowOrder.{Entry, finished, turn, run, full, equal as allHandled, held}
+use Rattle.system.proofs.Answers.{full-iff, answer-finished, held-stopped}
+use Rattle.system.proofs.Runs.{finished≢handling}
 use Rattle.pair.specs.Sides.{Pair, Labelled, policies}
 use Rattle.pair.specs.Pair.{pairSystem}
 use Rattle.pair.specs.Search.{Columns, equal, columnsOf, searchAnswer, heldColumns}
@@ -197,6 +199,29 @@ module _ (sizes : List ℕ) (L R : NodeLists) where
       ap (λ (p : List ℕ). evidenceCall sizes L R p lefts rights words) (h .packets-held)
       ∙ ap₂ (λ (l r : List ℕ). evidenceCall sizes L R (heldColumns sizes (policies L R) (h .room) .packets) l r words) (h .lefts-held) (h .rights-held)
       ∙ held-accepted (h .room) words (h .few) pass long (row-order-accepted sizes (policies L R) (pair-evaluable pass) (h .room) same (h .enough))
+
+  -- the rows listed when all of them are handled are the row order
+  pub whole-order : (k : ℕ) → turn (pairSystem sizes (policies L R)) (run (pairSystem sizes (policies L R)) k) ≡ finished → length (run (pairSystem sizes (policies L R)) k .rows) ≤ 65535
+      → (let H = columnsOf sizes (policies L R) (run (pairSystem sizes (policies L R)) k .rows) in HoldRowOrder sizes L R (H .packets) (H .lefts) (H .rights))
+  unfolding heldColumns
+  whole-order k end few =
+      record {
+        room = length (run S k .rows);
+        few = few;
+        enough = λ m. not-full (sym (full-iff S (length (run S k .rows)) .1 m) ∙ answer-finished S (length (run S k .rows)) k end (le-refl _));
+        packets-held = ap (λ (es : List (Entry S)). columnsOf sizes (policies L R) es .packets) same;
+        lefts-held = ap (λ (es : List (Entry S)). columnsOf sizes (policies L R) es .lefts) same;
+        rights-held = ap (λ (es : List (Entry S)). columnsOf sizes (policies L R) es .rights) same;
+      }
+    where
+      S : System
+      S = pairSystem sizes (policies L R)
+
+      not-full : {c : ℕ} → full ≡ allHandled c → ⊥
+      not-full e = true≢false (cc)
+
+      same : run S k .rows ≡ held S (length (run S k .rows))
+      same = sym (held-stopped S (length (run S k .rows)) k (λ q. finished≢handling (sym end ∙ q)) (le-refl _))
 
   -- ---- the call
 

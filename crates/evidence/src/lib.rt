@@ -103,10 +103,10 @@ fn first_start_missing(
     requires { ⌜ Indexed (now packets) (now lefts) (now rights) count (length (now packets)) (now heads) (now links) ⌝ }
     ensures { λ r. ⌜ spotOf r ≡ lowest (startMissing (now (packets .entry)) (now (lefts .entry)) (now (rights .entry))) count ⌝ }
 {
-    let mut packet: u16 = 0;
-    while packet < count {
+    let mut alpha: u16 = 0;
+    while alpha < count {
         let row = Row {
-            packet,
+            packet: alpha,
             states: [1, 1],
         };
         if !index::find(
@@ -119,9 +119,9 @@ fn first_start_missing(
             links,
             row,
         ) {
-            return Spot::At(packet);
+            return Spot::At(alpha);
         }
-        packet += 1;
+        alpha += 1;
     }
     Spot::Nowhere
 }
@@ -187,9 +187,9 @@ fn first_next_missing(
     requires { ⌜ (count ≤ length (now «next_left»)) × (count ≤ length (now «next_right»)) ⌝ }
     ensures { λ r. ⌜ spotOf r ≡ lowest (λ γ. nextMissing (now (packets .entry)) (now (lefts .entry)) (now (rights .entry)) γ (getD (now («next_left» .entry)) γ 0) (getD (now («next_right» .entry)) γ 0)) count ⌝ }
 {
-    let mut packet: u16 = 0;
-    while packet < count {
-        let i = wide(packet);
+    let mut gamma: u16 = 0;
+    while gamma < count {
+        let i = wide(gamma);
         if next_missing(
             packets,
             lefts,
@@ -197,13 +197,13 @@ fn first_next_missing(
             count,
             heads,
             links,
-            packet,
+            gamma,
             next_left[i],
             next_right[i],
         ) {
-            return Spot::At(packet);
+            return Spot::At(gamma);
         }
-        packet += 1;
+        gamma += 1;
     }
     Spot::Nowhere
 }
@@ -263,7 +263,7 @@ fn row_checked(
             &next_left,
             &next_right,
         ) {
-            Spot::At(packet) => RowAnswer::Next(packet),
+            Spot::At(gamma) => RowAnswer::Next(gamma),
             Spot::Nowhere => RowAnswer::Keeps,
         },
     }
@@ -309,7 +309,7 @@ fn rows_checked(
             work,
         ) {
             RowAnswer::Outputs => return Evidence::RuleC(i as u16),
-            RowAnswer::Next(packet) => return Evidence::RuleD(i as u16, packet),
+            RowAnswer::Next(gamma) => return Evidence::RuleD(i as u16, gamma),
             RowAnswer::Keeps => i += 1,
         }
     }
@@ -338,7 +338,7 @@ fn starts_checked(
     let mut links = [0u16; 65536];
     index::index_all(packets, lefts, rights, count, &mut heads, &mut links);
     match first_start_missing(packets, lefts, rights, count, &heads, &links) {
-        Spot::At(packet) => Evidence::RuleB(packet),
+        Spot::At(alpha) => Evidence::RuleB(alpha),
         Spot::Nowhere => rows_checked(
             sizes,
             left_kind,

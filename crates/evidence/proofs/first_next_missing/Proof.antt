@@ -1,4 +1,4 @@
--- `evidence::first_next_missing` meets its contract: below `packet` no next row is missing. Assumes nothing.
+-- `evidence::first_next_missing` meets its contract: below `gamma` no next row is missing. Assumes nothing.
 use borrow.Author.Needs.{needs}
 use Prim.Native.Nat.{_-_}
 use lib.ListN.{getD}
@@ -8,10 +8,10 @@ use Rattle.evidence.proofs.first_next_missing.Statement.{statement}
 use Rattle.evidence.proofs.first_next_missing.Tie as tie
 
 abbrev Inv-loop : tie.InvT-loop
-Inv-loop packets lefts rights count heads links next-left next-right packet₀ packet = Unbroken (λ γ. nextMissing packets lefts rights γ (getD next-left γ 0) (getD next-right γ 0)) count packet
+Inv-loop packets lefts rights count heads links next-left next-right gamma₀ gamma = Unbroken (λ γ. nextMissing packets lefts rights γ (getD next-left γ 0) (getD next-right γ 0)) count gamma
 
 abbrev μ-loop : tie.MeasureT-loop
-μ-loop packets lefts rights count heads links next-left next-right packet₀ packet = count - packet
+μ-loop packets lefts rights count heads links next-left next-right gamma₀ gamma = count - gamma
 
 loop-holds : tie.Need-loop-holds Inv-loop μ-loop
 loop-holds c = unbroken-none _ _
@@ -37,8 +37,8 @@ next-missing-requires c κs = (c .before .before .before .before .before .before
 returns : tie.Need-returns Inv-loop μ-loop
 returns c = broken-here _ _ (c .before .before .before .before .before .before .loop .inv) (c .before .before .before .before .before .loop-test .taken) _ (next-at _ _ _ (c .before .before .before .before .before .before .before .before .before .before .before .before .before .before .args .next-left .now) (c .before .before .before .before .before .before .before .before .before .before .before .before .before .before .args .next-right .now) _ _ (c .before .before .before .before .wide .ensures) _ (c .before .next-missing .ensures)) (c .if1 .taken)
 
-add-packet : tie.Need-add-packet Inv-loop μ-loop
-add-packet c = search needs
+add-gamma : tie.Need-add-gamma Inv-loop μ-loop
+add-gamma c = search needs
 
 loop-less : tie.Need-loop-less Inv-loop μ-loop
 loop-less c = search needs
@@ -63,7 +63,7 @@ first-next-missing-spec =
     shared-slice-read-next-missing-2
     next-missing-requires
     returns
-    add-packet
+    add-gamma
     loop-less
     loop-again
     returns-2)

@@ -1,4 +1,4 @@
--- `evidence::first_start_missing` meets its contract: below `packet` no starting row is missing. Assumes nothing.
+-- `evidence::first_start_missing` meets its contract: below `alpha` no starting row is missing. Assumes nothing.
 use borrow.Author.Needs.{needs}
 use Prim.Native.Nat.{_-_}
 use Rattle.evidence.specs.Presence.{startMissing}
@@ -7,10 +7,10 @@ use Rattle.evidence.proofs.first_start_missing.Statement.{statement}
 use Rattle.evidence.proofs.first_start_missing.Tie as tie
 
 abbrev Inv-loop : tie.InvT-loop
-Inv-loop packets lefts rights count heads links packet₀ packet = Unbroken (startMissing packets lefts rights) count packet
+Inv-loop packets lefts rights count heads links alpha₀ alpha = Unbroken (startMissing packets lefts rights) count alpha
 
 abbrev μ-loop : tie.MeasureT-loop
-μ-loop packets lefts rights count heads links packet₀ packet = count - packet
+μ-loop packets lefts rights count heads links alpha₀ alpha = count - alpha
 
 loop-holds : tie.Need-loop-holds Inv-loop μ-loop
 loop-holds c = unbroken-none _ _
@@ -21,8 +21,8 @@ find-requires c κs = (c .before .before .before .before .before .before .before
 returns : tie.Need-returns Inv-loop μ-loop
 returns c = broken-here _ _ (c .before .before .before .loop .inv) (c .before .before .loop-test .taken) _ (start-at _ _ _ _ _ (c .before .find .ensures)) (c .if1 .taken)
 
-add-packet : tie.Need-add-packet Inv-loop μ-loop
-add-packet c = search needs
+add-alpha : tie.Need-add-alpha Inv-loop μ-loop
+add-alpha c = search needs
 
 loop-less : tie.Need-loop-less Inv-loop μ-loop
 loop-less c = search needs
@@ -42,7 +42,7 @@ first-start-missing-spec =
     loop-holds
     find-requires
     returns
-    add-packet
+    add-alpha
     loop-less
     loop-again
     returns-2)

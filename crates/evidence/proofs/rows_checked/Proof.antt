@@ -35,8 +35,8 @@ same-length c = c .before .before .before .before .row-checked .kept .1 .1 .1 .1
 returns : tie.Need-returns Inv-loop μ-loop
 returns c = rows-outputs _ _ _ _ _ _ (c .before .before .before .before .before .before .before .loop .inv) (c .before .before .before .before .before .before .loop-test .taken) (c .before .before .before .before .row-checked .ensures) (c .enum-told .given .1)
 
-enum-known-packet : tie.Need-enum-known-packet Inv-loop μ-loop
-enum-known-packet c = search needs
+enum-known-gamma : tie.Need-enum-known-gamma Inv-loop μ-loop
+enum-known-gamma c = search needs
 
 cast-t23 : tie.Need-cast-t23 Inv-loop μ-loop
 cast-t23 c = record { fits = omega (arith, c .before .before .before .before .before .before .before .loop-test .taken, c .before .before .before .before .before .before .before .before .before .before .before .before .before .before .before .before .before .before .before .before .before .before .pre .cleared .lent .numbered) }
@@ -45,7 +45,7 @@ same-length-2 : tie.Need-same-length-2 Inv-loop μ-loop
 same-length-2 c = c .before .before .before .before .before .row-checked .kept .1 .1 .1 .1 .1 .1 .1 .1 .1 .1 .1 .1 .1 .1 .0 ∙ ap length (c .before .before .before .before .before .before .before .before .loop .inv .kept)
 
 returns-2 : tie.Need-returns-2 Inv-loop μ-loop
-returns-2 c = rows-next _ _ _ _ _ _ (c .before .before .before .before .before .before .before .before .loop .inv) (c .before .before .before .before .before .before .before .loop-test .taken) (c .before .before .before .before .before .row-checked .ensures) _ (c .before .packet .given .1)
+returns-2 c = rows-next _ _ _ _ _ _ (c .before .before .before .before .before .before .before .before .loop .inv) (c .before .before .before .before .before .before .before .loop-test .taken) (c .before .before .before .before .before .row-checked .ensures) _ (c .before .gamma .given .1)
 
 enum-told-2 : tie.Need-enum-told-2 Inv-loop μ-loop
 enum-told-2 c = search needs
@@ -77,7 +77,7 @@ rows-checked-spec =
     cast-t22
     same-length
     returns
-    enum-known-packet
+    enum-known-gamma
     cast-t23
     same-length-2
     returns-2

@@ -23,8 +23,8 @@ slice-aggregate-first-start-missing-2 c = search needs
 first-start-missing-requires : tie.Need-first-start-missing-requires
 first-start-missing-requires c κs = c .before .before .before .before .index-all .ensures .0
 
-enum-known-packet : tie.Need-enum-known-packet
-enum-known-packet c = search needs
+enum-known-alpha : tie.Need-enum-known-alpha
+enum-known-alpha c = search needs
 
 enum-told : tie.Need-enum-told
 enum-told c = search needs
@@ -39,7 +39,7 @@ rows-checked-requires : tie.Need-rows-checked-requires
 rows-checked-requires c κs = record { cleared = c .before .before .before .before .before .before .before .before .before .before .before .before .before .before .before .before .before .before .before .before .before .before .before .before .pre; indexed = c .before .before .before .before .before .before .before .before .before .before .index-all .ensures .0 }
 
 returns : tie.Need-returns
-returns c = starts-broken _ _ _ _ _ _ (c .before .before .before .before .before .before .before .before .before .before .before .before .before .before .before .before .before .before .before .before .before .before .pre) (c .before .before .before .first-start-missing .ensures) _ (c .before .packet .given .1)
+returns c = starts-broken _ _ _ _ _ _ (c .before .before .before .before .before .before .before .before .before .before .before .before .before .before .before .before .before .before .before .before .before .before .pre) (c .before .before .before .first-start-missing .ensures) _ (c .before .alpha .given .1)
 
 same-length : tie.Need-same-length
 same-length c = c .before .before .rows-checked .kept .1 .1 .1 .1 .1 .1 .1 .1 .1 .1 .1 .1 .1 .0
@@ -57,7 +57,7 @@ starts-checked-spec =
     slice-aggregate-first-start-missing
     slice-aggregate-first-start-missing-2
     first-start-missing-requires
-    enum-known-packet
+    enum-known-alpha
     enum-told
     slice-aggregate-rows-checked
     slice-aggregate-rows-checked-2
