@@ -75,8 +75,8 @@ class Pair:
         return rows
 
 
-def answer(sizes, policies, rows, lengths, words):
-    """The answer with the rows again and again in lists of these lengths, and a work list of so many words."""
+def answer(sizes, policies, rows, lengths, words, last):
+    """The answer with the rows again and again in lists of these lengths, a row put last instead, and so many words."""
     said = legality(sizes, policies)
     if said.startswith("refused"):
         return said + ", work 0 found"
@@ -84,6 +84,8 @@ def answer(sizes, policies, rows, lengths, words):
         return "refused 10 0 0, work 0 found"
     pair = Pair(sizes, *(list(zip(*policy)) for policy in policies))
     table = list(itertools.islice(itertools.cycle(rows), lengths[0])) if rows else [(0, 0, 0)] * lengths[0]
+    if last and table:
+        table[-1] = tuple(last)
     return "%s, work %d found" % (pair.check(table), words)
 
 
@@ -242,24 +244,29 @@ def damaged():
 
 
 def cases():
-    """Sizes, two policies as lists, rows, the lengths of the lent lists, the words of the work list."""
+    """Sizes, two policies as lists, rows, the lengths of the lent lists, the words of the work list, a last row."""
     sizes, left, right = P2
     policies = (lists(left), lists(right))
     for words in (0, 16383, 16384, 16385, 20000):
         for rows in (P2_ROWS, P2_ROWS[:3], P2_ROWS[1:], P2_ROWS + [(0, 2, 0)], P2_ROWS + [(2, 0, 0)]):
-            yield sizes, policies, rows, [len(rows)] * 3, words
+            yield sizes, policies, rows, [len(rows)] * 3, words, []
     for lengths in ([0] * 3, [1] * 3, [2] * 3, [4] * 3, [65534] * 3, [65535] * 3, [65536] * 3, [65537] * 3,
                     [4, 4, 5], [4, 5, 4], [5, 4, 4], [4, 3, 4], [0, 0, 4], [65535, 65535, 65536], [65536, 65535, 65535]):
-        yield sizes, policies, P2_ROWS, lengths, WORK
-    yield [1], (lists([(ID, 0, 0)]),) * 2, [], [0] * 3, WORK
-    yield [1], (lists([(ID, 0, 0)]),) * 2, [], [3] * 3, WORK
-    yield [1], (lists([(ID, 0, 0)]),) * 2, [(0, 1, 1)], [1] * 3, WORK
+        yield sizes, policies, P2_ROWS, lengths, WORK, []
+    # the last of so many rows breaks a rule, or none
+    for row in ((0, 2, 0), (1, 4, 2), (0, 0, 4), (2, 0, 0), (1, 1, 3), (0, 1, 0), (1, 0, 1), (0, 0, 0)):
+        yield sizes, policies, P2_ROWS, [65535] * 3, WORK, list(row)
+        yield sizes, policies, P2_ROWS, [260] * 3, WORK, list(row)
+        yield sizes, policies, P2_ROWS, [5] * 3, WORK, list(row)
+    yield [1], (lists([(ID, 0, 0)]),) * 2, [], [0] * 3, WORK, []
+    yield [1], (lists([(ID, 0, 0)]),) * 2, [], [3] * 3, WORK, []
+    yield [1], (lists([(ID, 0, 0)]),) * 2, [(0, 1, 1)], [1] * 3, WORK, []
     for given, a, b in damaged():
-        yield given, (a, b), P2_ROWS, [4] * 3, WORK
-    yield [2, 0], policies, P2_ROWS, [4, 4, 65536], 3
-    yield sizes, (policies[0], lists(dups(32))), P2_ROWS, [4, 4, 5], WORK
+        yield given, (a, b), P2_ROWS, [4] * 3, WORK, []
+    yield [2, 0], policies, P2_ROWS, [4, 4, 65536], 3, []
+    yield sizes, (policies[0], lists(dups(32))), P2_ROWS, [4, 4, 5], WORK, []
     for sizes, left, right, rows in tables():
-        yield sizes, (lists(left), lists(right)), rows, [len(rows)] * 3, WORK
+        yield sizes, (lists(left), lists(right)), rows, [len(rows)] * 3, WORK, []
 
 
 def halves(masks):
@@ -270,11 +277,19 @@ def halves(masks):
 
 def main():
     given, expected = [], []
-    for sizes, policies, rows, lengths, words in cases():
+    places = set()
+    for sizes, policies, rows, lengths, words, last in cases():
         packets, lefts, rights = (list(column) for column in zip(*rows)) if rows else ([], [], [])
         columns = [sizes, *policies[0], *policies[1], packets, *halves(lefts), *halves(rights)]
-        given.append(" ".join([spread(c) for c in columns] + [str(n) for n in lengths + [words]]))
-        expected.append(answer(sizes, policies, rows, lengths, words))
+        given.append(" ".join([spread(c) for c in columns] + [str(n) for n in lengths + [words]] + [spread(last)]))
+        expected.append(answer(sizes, policies, rows, lengths, words, last))
+        said = expected[-1].split(",")[0].split()
+        if said[0] in "abcd":
+            spots = World(sizes).count if said[0] == "b" else lengths[0]
+            places.add((said[0], int(said[1]) == 0, int(said[1]) == spots - 1))
+    # each rule is broken at a first, a middle and a last spot
+    for rule, place in itertools.product("abcd", ((True, False), (False, False), (False, True))):
+        assert (rule, *place) in places, (rule, place)
     assert Pair(*P2).row_order(9) == P2_ROWS and Pair(*P5).row_order(9) == P5_ROWS and Pair(*P10).row_order(9) == P10_ROWS
     assert Pair(*P2).check(P2_ROWS) == "accepted" and Pair(*P2).check(P2_ROWS[:3]) == "d 1 1"
     store("evidence_cases", given, expected, sys.argv[1:] == ["--check"])

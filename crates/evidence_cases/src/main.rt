@@ -1,7 +1,8 @@
 // Runs the cases of its input through the evidence checker. A case is the sizes; of the left and of the right policy the
 // kinds, the first and the second entries; rows as five lists, the packets, the left masks' high and low halves and the
 // right ones'; each list after its length; then the lengths of the three lent row lists, in which the rows stand again and
-// again, and of the work list. It writes the answer, how many words of the work list are 0, and whether the others are as found.
+// again, and of the work list; then none or three numbers, the row that stands last instead. It writes the answer, how many
+// words of the work list are 0, and whether the others are as found.
 use evidence::Evidence;
 ghost use mathlib.Core.Path.{_≡_};
 ghost use Prim.Native.Nat.{_<_, _≤_};
@@ -130,6 +131,35 @@ fn spread_masks(high: &[u16], low: &[u16], out: &mut [u32]) {
     }
 }
 
+fn put_packet(out: &mut [u16], n: usize, x: u16) {
+    if n == 0 {
+        return;
+    }
+    if out.len() < n {
+        return;
+    }
+    out[n - 1] = x;
+}
+
+fn put_mask(out: &mut [u32], n: usize, x: u16) {
+    if n == 0 {
+        return;
+    }
+    if out.len() < n {
+        return;
+    }
+    out[n - 1] = wide(x);
+}
+
+// The last of the n rows becomes the given one, if one is given.
+fn put_last(given: &[u16], n: usize, packets: &mut [u16], lefts: &mut [u32], rights: &mut [u32]) {
+    if 3 <= given.len() {
+        put_packet(packets, n, given[0]);
+        put_mask(lefts, n, given[1]);
+        put_mask(rights, n, given[2]);
+    }
+}
+
 fn answer(
     sizes: &[u16],
     left_kind: &[u8],
@@ -183,6 +213,9 @@ fn lent(
     let left_count = harness::scan(input, packet_count.at);
     let right_count = harness::scan(input, left_count.at);
     let words = harness::scan(input, right_count.at);
+    let ending = harness::scan_short(input, words.at);
+    let last = ending.numbers;
+    let given = ending.count;
     let mut packets = [0u16; 65537];
     let mut lefts = [0u32; 65537];
     let mut rights = [0u32; 65537];
@@ -192,6 +225,7 @@ fn lent(
     let p = least(packet_count.value, 65537);
     let l = least(left_count.value, 65537);
     let r = least(right_count.value, 65537);
+    put_last(&last[..given], p, &mut packets, &mut lefts, &mut rights);
     answer(
         sizes,
         left_kind,
@@ -205,7 +239,7 @@ fn lent(
         &rights[..r],
         words.value,
     );
-    words.at
+    ending.at
 }
 
 fn table(
