@@ -3,15 +3,14 @@
 use Prim.Native.Nat.{ℕ, _≤_}
 use native.Mathlib.Nat.{le-refl, le-trans}
 use native.Mathlib.Omega.{arith}
-use mathlib.Core.Bool.{Bool, false, not, _||_, true≢false}
+use mathlib.Core.Bool.{true≢false}
 use mathlib.Core.List.{List, [], _∷_}
 use mathlib.Core.Logic.{_↔_}
 use mathlib.Core.Path.{_≡_, refl, sym, _∙_, ap, ap₂, subst}
-use lib.Dec.{eqb, ltb}
-use lib.ListN.{length, replicate, take, length-take, length-map}
+use lib.ListN.{length, take, length-take, length-map}
 use borrow.Author.Tests.{eqb-true, eq-eqb, ltb-false, le-ltb, not-false}
-use Rattle.packet.specs.Refusals.{refusedAt, atPlace, firstOf}
-use Rattle.packet.specs.Sizes.{fieldsStage, productStage, packetCount, LegalSizes}
+use Rattle.packet.specs.Refusals.{refusedAt, atPlace}
+use Rattle.packet.specs.Sizes.{fieldsStage, packetCount}
 use Rattle.packet.specs.declared.Counted.the-variants.{Packets, Refused as NotCounted}
 use Rattle.packet.specs.declared.Refusal.{Refusal}
 use Rattle.packet.specs.declared.Tested.{Tested}
@@ -24,7 +23,7 @@ use Rattle.policy.specs.declared.legality.PairAnswer.{PairAnswer}
 use Rattle.policy.specs.declared.legality.PairAnswer.the-variants.{Legal as LegalPair, Refused as PairRefused}
 use Rattle.policy.specs.Each.{Each}
 use Rattle.policy.specs.NodeLists.{NodeLists, nodeCount, dupsBelow, policyOf}
-use Rattle.policy.specs.Legality.{Legal, policiesStage}
+use Rattle.policy.specs.Legality.{policiesStage}
 use Rattle.policy.specs.Answers.{sided, pairTests, pairAnswer, pairStage}
 use Rattle.policy.specs.Meaning.{SameTracesBelow}
 use Rattle.policy.proofs.AnswerLaws.{legal-pair-stage}
@@ -33,7 +32,7 @@ use Rattle.system.specs.System.{System}
 use Rattle.system.specs.RowOrder.{Entry, finished, turn, run, full, equal as allHandled, held}
 use Rattle.system.proofs.Answers.{full-iff, answer-finished, held-stopped}
 use Rattle.system.proofs.Runs.{finished≢handling}
-use Rattle.pair.specs.Sides.{Pair, Labelled, policies}
+use Rattle.pair.specs.Sides.{policies}
 use Rattle.pair.specs.Pair.{pairSystem}
 use Rattle.pair.specs.Search.{Columns, equal, columnsOf, searchAnswer, heldColumns}
 use Rattle.pair.specs.Rules.{Checked, accepted, ruleA, ruleB, ruleC, ruleD, Judged}

@@ -1,13 +1,13 @@
 -- The tests of the columns are the row rules of the two policies.
 -- Assumes nothing.
-use Prim.Native.Nat.{ℕ, zero, suc, _≤_, _<_}
+use Prim.Native.Nat.{ℕ, zero, suc, _<_}
 use native.Mathlib.Nat.{le-refl}
 use native.Mathlib.Omega.{arith}
-use mathlib.Core.Bool.{Bool, true, false, not, _&&_, _||_}
+use mathlib.Core.Bool.{Bool, not, _||_}
 use mathlib.Core.List.{List}
-use mathlib.Core.Option.{Option, none, some}
-use mathlib.Core.Path.{_≡_, refl, sym, _∙_, ap, ap₂}
-use lib.ListN.{length, getD}
+use mathlib.Core.Option.{none}
+use mathlib.Core.Path.{_≡_, refl, _∙_, ap, ap₂}
+use lib.ListN.{length}
 use borrow.Author.Tests.{ltb-true, not-false}
 use Rattle.packet.specs.Lowest.{lowest}
 use Rattle.packet.specs.Sizes.{product}
@@ -22,11 +22,8 @@ use Rattle.pair.specs.Pair as pair
 use Rattle.pair.specs.Pair.{bothZero, bitsOfDups, pairSystem}
 use Rattle.pair.specs.Rules.{Table, present, breaksA, breaksB}
 use Rattle.pair.specs.Evidence.{tableOf}
-use Rattle.index.specs.Columns as columns
 use Rattle.index.specs.Columns.{Small, rowAt, sameStates, sameRow, listedBelow}
-use Rattle.evidence.specs.declared.Spot.{Spot}
-use Rattle.evidence.specs.declared.Spot.the-variants.{At, Nowhere}
-use Rattle.evidence.specs.Presence.{spotOf, maskRow, fits, zeroStates, inColumns, strays, startMissing, nextMissing}
+use Rattle.evidence.specs.Presence.{maskRow, fits, zeroStates, inColumns, strays, startMissing, nextMissing}
 
 -- tests that agree below n find the same
 pub lowest-agree : (test other : ℕ → Bool) (n m : ℕ) → n ≡ m → ((i : ℕ) → i < m → test i ≡ other i) → lowest test n ≡ lowest other m

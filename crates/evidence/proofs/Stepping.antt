@@ -4,10 +4,9 @@ use Prim.Native.Nat.{ℕ, zero, suc, _+_, _≤_, _<_}
 use native.Mathlib.Nat.{le-antisymm, not-suc-le-zero}
 use native.Mathlib.Numerals.{add-one}
 use native.Mathlib.Omega.{arith}
-use mathlib.Core.Bool.{Bool}
 use mathlib.Core.List.{List}
 use mathlib.Core.Logic.{_⊎_, inl, inr}
-use mathlib.Core.Option.{Option, none, some}
+use mathlib.Core.Option.{Option}
 use mathlib.Core.Path.{_≡_, refl, sym, _∙_, ap, ap₂, subst}
 use lib.ListN.{length, getD, replicate, length-replicate, getD-replicate}
 use Rattle.packet.specs.Lowest.{lowest}
@@ -15,14 +14,14 @@ use Rattle.packet.specs.Sizes.{product}
 use Rattle.packet.proofs.Tests.{last-or-before}
 use Rattle.policy.specs.Legality.{maxDups}
 use Rattle.policy.specs.NodeLists.{NodeLists, nodeCount, dupsBelow}
-use Rattle.system.specs.System.{System, Row, tells}
+use Rattle.system.specs.System.{System}
 use Rattle.system.specs.RowOrder.{lowestTelling}
 use Rattle.pair.specs.Sides.{Side, left, right, policies}
-use Rattle.pair.specs.Pair.{nextAt, pairSystem}
+use Rattle.pair.specs.Pair.{pairSystem}
 use Rattle.pair.specs.Rules.{Table, Checked, accepted, ruleA, ruleB, ruleC, ruleD, andThen, brokenAt, breaksA, breaksB, breaksD, checkRow, checkRows, checkRules}
 use Rattle.pair.specs.Evidence.{tableOf, evidenceAnswer}
 use Rattle.index.specs.declared.Row.{Row as MaskRow}
-use Rattle.index.specs.Columns.{Small, rowAt}
+use Rattle.index.specs.Columns.{rowAt}
 use Rattle.index.specs.Index.{Indexed}
 use Rattle.index.proofs.Growth.{indexed-none}
 use Rattle.compare.specs.declared.Compared.{Compared}
@@ -37,7 +36,7 @@ use Rattle.evidence.specs.declared.Spot.{Spot}
 use Rattle.evidence.specs.declared.Spot.the-variants.{At, Nowhere}
 use Rattle.evidence.specs.Presence.{spotOf, strays, startMissing, nextMissing}
 use Rattle.evidence.specs.Calls.{reported}
-use Rattle.evidence.specs.Steps.{rowTold, Allowed, Lent, Cleared, Ready, RowChecked, RowsChecked, StartsChecked, TableChecked}
+use Rattle.evidence.specs.Steps.{rowTold, Lent, Cleared, Ready, RowChecked, RowsChecked, StartsChecked, TableChecked}
 use Rattle.evidence.proofs.Joining.{lowest-agree, lowest-stray, packets-small, lowest-start, missing-is}
 
 -- the spot found, as the lowest of a test

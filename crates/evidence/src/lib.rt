@@ -7,7 +7,7 @@ ghost use Rattle.policy.specs.AsLists.{asLists};
 ghost use Rattle.policy.specs.NodeLists.{dupsBelow, nodeCount};
 ghost use Rattle.index.specs.Columns.{Table};
 ghost use Rattle.index.specs.Index.{Indexed};
-ghost use Rattle.evidence.specs.Presence.{spotOf, fits, zeroStates, inColumns, strays, startMissing, nextMissing};
+ghost use Rattle.evidence.specs.Presence.{spotOf, fits, zeroStates, strays, startMissing, nextMissing};
 ghost use Rattle.evidence.specs.Calls.{CheckedRows};
 ghost use Rattle.evidence.specs.Steps.{Lent, Cleared, Ready, RowChecked, RowsChecked, StartsChecked, TableChecked};
 use compare::Compared;

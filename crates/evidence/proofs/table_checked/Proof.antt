@@ -1,6 +1,5 @@
 -- `evidence::table_checked` meets its contract: (a) over all rows first. Assumes nothing.
 use borrow.Author.Needs.{needs}
-use native.Mathlib.Omega.{arith}
 use mathlib.Core.Path.{_∙_}
 use Rattle.evidence.proofs.Stepping.{dups-few, table-broken, table-cleared, table-kept}
 use Rattle.evidence.proofs.table_checked.Statement.{statement}
