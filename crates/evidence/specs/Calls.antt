@@ -56,7 +56,8 @@ module _ (sizes : List ℕ) (L R : NodeLists) where
     unfoldable pub evidenceCall : ℕ → Evidence
     evidenceCall words = evidenceOf (evidenceTests words) (evidenceAnswer sizes (policies L R) packets lefts rights)
 
-    -- The columns hold the row order itself, row for row, and it has at most 65,535 rows.
+    -- The columns hold the row order itself, row for row: it needs no more than `room` rows, at most 65,535, and they are what so
+    -- many lent rows hold in the end (law `whole-order`: the rows listed when all of them are handled).
     pub record HoldRowOrder : Type 0 where
       pub room : ℕ
       pub few : room ≤ 65535
