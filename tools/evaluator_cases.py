@@ -123,8 +123,8 @@ def joined(a, b):
     return {i: a.get(i, frozenset()) | b.get(i, frozenset()) for i in {**a, **b}}
 
 
-def step(sizes, nodes, state, packet):
-    world, policy = World(sizes), terms(nodes)
+def stepped(world, policy, state, packet):
+    """The output of a state at a packet, and the packets at which a state is next, with that state."""
     remainders = {0: policy, **spines(policy)}
     output, following = frozenset(), {}
     for i, remainder in remainders.items():
@@ -134,6 +134,11 @@ def step(sizes, nodes, state, packet):
             for dup, packets in world.reaches(remainder, start).items():
                 for p in packets:
                     following[p] = following.get(p, 0) | 1 << dup
+    return output, following
+
+
+def step(sizes, nodes, state, packet):
+    output, following = stepped(World(sizes), terms(nodes), state, packet)
     return (
         "output" + "".join(" %d" % p for p in sorted(output))
         + ", next" + "".join(" %d:%d" % (p, m) for p, m in sorted(following.items()))

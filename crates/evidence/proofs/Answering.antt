@@ -1,0 +1,286 @@
+-- The call's answer: which cause refuses, what accepting means, and the row order of an equal pair.
+-- Assumes nothing.
+use Prim.Native.Nat.{ℕ, _≤_}
+use native.Mathlib.Nat.{le-refl, le-trans}
+use native.Mathlib.Omega.{arith}
+use mathlib.Core.Bool.{true≢false}
+use mathlib.Core.List.{List, [], _∷_}
+use mathlib.Core.Logic.{_↔_}
+use mathlib.Core.Path.{_≡_, refl, sym, _∙_, ap, ap₂, subst}
+use lib.ListN.{length, take, length-take, length-map}
+use borrow.Author.Tests.{eqb-true, eq-eqb, ltb-false, le-ltb, not-false}
+use Rattle.packet.specs.Refusals.{refusedAt, atPlace}
+use Rattle.packet.specs.Sizes.{fieldsStage, packetCount}
+use Rattle.packet.specs.declared.Counted.the-variants.{Packets, Refused as NotCounted}
+use Rattle.packet.specs.declared.Refusal.{Refusal}
+use Rattle.packet.specs.declared.Tested.{Tested}
+use Rattle.packet.specs.declared.Tested.the-variants.{Passed, Refused}
+use Rattle.packet.proofs.Legal.{passed-legal}
+use Rattle.packet.proofs.Sizes.{count-packets, count-refused}
+use Rattle.packet.proofs.Tests.{or-false}
+use Rattle.packet.proofs.Stages.{firstOf-last, firstOf-refused, firstOf-next, firstOf-passed, refusedAt-passed, atPlace-none}
+use Rattle.policy.specs.declared.legality.PairAnswer.{PairAnswer}
+use Rattle.policy.specs.declared.legality.PairAnswer.the-variants.{Legal as LegalPair, Refused as PairRefused}
+use Rattle.policy.specs.Each.{Each}
+use Rattle.policy.specs.NodeLists.{NodeLists, nodeCount, dupsBelow, policyOf}
+use Rattle.policy.specs.Legality.{policiesStage}
+use Rattle.policy.specs.Answers.{sided, pairTests, pairAnswer, pairStage}
+use Rattle.policy.specs.Meaning.{SameTracesBelow}
+use Rattle.policy.proofs.AnswerLaws.{legal-pair-stage}
+use Rattle.policy.proofs.LegalityLaws.{stage-passes}
+use Rattle.system.specs.System.{System}
+use Rattle.system.specs.RowOrder.{Entry, finished, turn, run, full, equal as allHandled, held}
+use Rattle.system.proofs.Answers.{full-iff, answer-finished, held-stopped}
+use Rattle.system.proofs.Runs.{finished≢handling}
+use Rattle.pair.specs.Sides.{policies}
+use Rattle.pair.specs.Pair.{pairSystem}
+use Rattle.pair.specs.Search.{Columns, equal, columnsOf, searchAnswer, heldColumns}
+use Rattle.pair.specs.Rules.{Checked, accepted, ruleA, ruleB, ruleC, ruleD, Judged}
+use Rattle.pair.specs.Evidence.{tableOf, evidenceAnswer, RowRules}
+use Rattle.pair.proofs.Lawful.{EvaluablePair, legal-pair}
+use Rattle.pair.proofs.Evidence.{evidence-judged, accepted-same, evidence-iff, search-accepted, row-order-accepted}
+use Rattle.rows.specs.Lent.{misfit, rowsMisfit, listsStage}
+use Rattle.evidence.specs.declared.Evidence.{Evidence}
+use Rattle.evidence.specs.declared.Evidence.the-variants.{Accepted, RuleA, RuleB, RuleC, RuleD, Refused as NotChecked}
+use Rattle.evidence.specs.Calls.{reported, evidenceOf, workAfter, evidenceTests, evidenceCall, HoldRowOrder, CheckedRows}
+use Rattle.evidence.specs.Steps.{Lent, TableChecked}
+
+-- ---- the cases of the answer tell the rule and the spot
+
+told : Evidence → Checked
+told Accepted = accepted
+told (RuleA i) = ruleA i
+told (RuleB α) = ruleB α
+told (RuleC i) = ruleC i
+told (RuleD i γ) = ruleD i γ
+told (NotChecked r) = ruleA 0
+
+told-reported : (x : Checked) → told (reported x) ≡ x
+unfolding told reported
+told-reported accepted = refl
+told-reported (ruleA i) = refl
+told-reported (ruleB α) = refl
+told-reported (ruleC i) = refl
+told-reported (ruleD i γ) = refl
+
+reported-same : (x y : Checked) → reported x ≡ reported y → x ≡ y
+reported-same x y e = sym (told-reported x) ∙ ap told e ∙ told-reported y
+
+not-accepted : {r : Refusal} → NotChecked r ≡ Accepted → ⊥
+not-accepted e = true≢false (cc)
+
+accepted-passed : (t : Tested) (x : Checked) → evidenceOf t x ≡ Accepted → (t ≡ Passed) × (x ≡ accepted)
+unfolding evidenceOf reported
+accepted-passed Passed x e = (refl, reported-same x accepted e)
+accepted-passed (Refused r) x e = absurd (not-accepted e)
+
+take-few : {A : Type 0} (n : ℕ) (l : List A) → length (take n l) ≤ n
+take-few n l = omega (arith, length-take n l)
+
+-- ---- cause 10
+
+lists-pass : (n work : ℕ) → n ≤ 65535 → 16384 ≤ work → listsStage (n ∷ n ∷ n ∷ []) work ≡ Passed
+unfolding listsStage rowsMisfit misfit refusedAt atPlace
+lists-pass n work few long = rw (eq-eqb n n refl, le-ltb 65535 n few, le-ltb work 16384 long) refl
+
+lists-passed : (a b c work : ℕ) → listsStage (a ∷ b ∷ c ∷ []) work ≡ Passed → (b ≡ a) × (c ≡ a) × (a ≤ 65535) × (16384 ≤ work)
+unfolding listsStage rowsMisfit misfit
+lists-passed a b c work e =
+    let x = or-false _ _ (atPlace-none 0 _ (refusedAt-passed 10 0 _ e)) in
+    let y = or-false _ _ (x .0) in
+    let z = or-false _ _ (y .1) in
+    (eqb-true b a (not-false _ (y .0)), eqb-true c a (not-false _ (z .0)), ltb-false 65535 a (z .1), ltb-false work 16384 (x .1))
+
+-- ---- causes 4 to 9
+
+pair-legal : (t : Tested) (d e m n : ℕ) → pairAnswer t d e ≡ LegalPair m n → t ≡ Passed
+unfolding pairAnswer
+pair-legal Passed d e m n q = refl
+pair-legal (Refused r) d e m n q = absurd (true≢false (cc))
+
+refusalIn : PairAnswer → Refusal → Refusal
+refusalIn (LegalPair m n) r = r
+refusalIn (PairRefused q) r = q
+
+pair-refused : (t : Tested) (d e : ℕ) (r : Refusal) → pairAnswer t d e ≡ PairRefused r → t ≡ Refused r
+unfolding pairAnswer refusalIn
+pair-refused Passed d e r q = absurd (true≢false (cc))
+pair-refused (Refused p) d e r q = ap (λ (a : PairAnswer). Refused (refusalIn a r)) q
+
+module _ (sizes : List ℕ) (L R : NodeLists) where
+  -- the policies are legal
+  both-legal : policiesStage sizes (sided 1 L ∷ sided 2 R ∷ []) ≡ Passed → EvaluablePair sizes (policies L R)
+  unfolding Each sided
+  both-legal e = let g = stage-passes sizes (sided 1 L ∷ sided 2 R ∷ []) .0 e in legal-pair sizes L R (g .0) (g .1 .0)
+
+  pub pair-dups : (dl dr : ℕ) → pairStage sizes L R ≡ LegalPair dl dr → (dl ≡ dupsBelow L (nodeCount L)) × (dr ≡ dupsBelow R (nodeCount R))
+  pair-dups dl dr e = let g = legal-pair-stage sizes L R dl dr e in (g .2, g .3)
+
+  pair-evaluable : pairTests sizes L R ≡ Passed → EvaluablePair sizes (policies L R)
+  unfolding pairTests
+  pair-evaluable e = both-legal (firstOf-passed _ _ (firstOf-passed _ _ (firstOf-passed _ _ e .1) .1) .0)
+
+  module _ (packets lefts rights : List ℕ) where
+    -- two policies and their sizes that no cause refuses, and lists that fit
+    tests-pass : (words : ℕ) → pairTests sizes L R ≡ Passed → listsStage (length packets ∷ length lefts ∷ length rights ∷ []) words ≡ Passed → evidenceTests sizes L R packets lefts rights words ≡ Passed
+    unfolding pairTests evidenceTests
+    tests-pass words e l =
+        let f = firstOf-passed _ _ e in
+        let p = firstOf-passed _ _ (f .1) in
+        let q = firstOf-passed _ _ (p .1) in
+        firstOf-next _ _ (f .0) ∙ firstOf-next _ _ (p .0) ∙ firstOf-next _ _ (q .0) ∙ firstOf-last _ ∙ l
+
+    evaluable : (words : ℕ) → evidenceTests sizes L R packets lefts rights words ≡ Passed → EvaluablePair sizes (policies L R)
+    unfolding evidenceTests
+    evaluable words e = both-legal (firstOf-passed _ _ (firstOf-passed _ _ (firstOf-passed _ _ e .1) .1) .0)
+
+    -- accepted exactly when no cause refuses and the four row rules hold
+    pub call-accepted : (words : ℕ) → (evidenceCall sizes L R packets lefts rights words ≡ Accepted)
+        ↔ ((evidenceTests sizes L R packets lefts rights words ≡ Passed) × RowRules sizes (policies L R) packets lefts rights)
+    unfolding evidenceCall evidenceOf reported
+    call-accepted words = (
+      λ e.
+          let x = accepted-passed _ _ e in
+          (x .0, evidence-iff sizes (policies L R) (evaluable words (x .0)) packets lefts rights .0 (x .1)),
+      λ k.
+          ap (λ (t : Tested). evidenceOf t (evidenceAnswer sizes (policies L R) packets lefts rights)) (k .0)
+          ∙ ap reported (evidence-iff sizes (policies L R) (evaluable words (k .0)) packets lefts rights .1 (k .1)),
+    )
+
+    -- accepted: the same traces from every packet
+    pub call-sound : (words : ℕ) → evidenceCall sizes L R packets lefts rights words ≡ Accepted → SameTracesBelow sizes (policyOf L) (policyOf R)
+    unfolding evidenceCall
+    call-sound words e = let x = accepted-passed _ _ e in accepted-same sizes (policies L R) (evaluable words (x .0)) packets lefts rights (x .1)
+
+    -- where no cause refuses, the answer names the first broken rule and its spot
+    pub call-judged : (words : ℕ) → evidenceTests sizes L R packets lefts rights words ≡ Passed → (x : Checked) → evidenceCall sizes L R packets lefts rights words ≡ reported x
+        → Judged (pairSystem sizes (policies L R)) (tableOf sizes (policies L R) packets lefts rights) x
+    unfolding evidenceCall evidenceOf
+    call-judged words p x e =
+        let same : evidenceAnswer sizes (policies L R) packets lefts rights ≡ x = reported-same _ x (sym (ap (λ (t : Tested). evidenceOf t (evidenceAnswer sizes (policies L R) packets lefts rights)) p) ∙ e) in
+        subst (Judged (pairSystem sizes (policies L R)) (tableOf sizes (policies L R) packets lefts rights)) same
+        (evidence-judged sizes (policies L R) (evaluable words p) packets lefts rights)
+
+  -- ---- the rows that a search of an equal pair lists
+
+  module _ (room words : ℕ) (few : room ≤ 65535) (pass : pairTests sizes L R ≡ Passed) (long : 16384 ≤ words) where
+    abbrev H : Columns
+    H = heldColumns sizes (policies L R) room
+
+    held-length : length (held (pairSystem sizes (policies L R)) room) ≤ 65535
+    unfolding held
+    held-length = le-trans (take-few room _) few
+
+    held-tests : evidenceTests sizes L R (H .packets) (H .lefts) (H .rights) words ≡ Passed
+    unfolding heldColumns columnsOf
+    held-tests =
+        tests-pass (H .packets) (H .lefts) (H .rights) words pass
+        (ap (λ (ns : List ℕ). listsStage ns words) lengths ∙ lists-pass _ words held-length long)
+      where
+        es : List (Entry (pairSystem sizes (policies L R)))
+        es = held (pairSystem sizes (policies L R)) room
+
+        lengths : (length (H .packets) ∷ length (H .lefts) ∷ length (H .rights) ∷ []) ≡ (length es ∷ length es ∷ length es ∷ [])
+        lengths = rw (length-map es (λ e. e .row .packet), length-map es (λ e. e .row .state .left), length-map es (λ e. e .row .state .right)) refl
+
+    held-accepted : evidenceAnswer sizes (policies L R) (H .packets) (H .lefts) (H .rights) ≡ accepted → evidenceCall sizes L R (H .packets) (H .lefts) (H .rights) words ≡ Accepted
+    unfolding evidenceCall evidenceOf reported
+    held-accepted e = ap₂ evidenceOf held-tests e
+
+    -- the rows of a search that answered equal are accepted
+    pub equal-accepted : (trace count : ℕ) → searchAnswer sizes (policies L R) room trace ≡ equal count → evidenceCall sizes L R (H .packets) (H .lefts) (H .rights) words ≡ Accepted
+    equal-accepted trace count e = held-accepted (search-accepted sizes (policies L R) (pair-evaluable pass) room trace count e)
+
+  -- the row order of an equal pair is accepted
+  pub call-complete : (packets lefts rights : List ℕ) (words : ℕ) → pairTests sizes L R ≡ Passed → SameTracesBelow sizes (policyOf L) (policyOf R) → HoldRowOrder sizes L R packets lefts rights → 16384 ≤ words
+      → evidenceCall sizes L R packets lefts rights words ≡ Accepted
+  call-complete packets lefts rights words pass same h long =
+      ap (λ (p : List ℕ). evidenceCall sizes L R p lefts rights words) (h .packets-held)
+      ∙ ap₂ (λ (l r : List ℕ). evidenceCall sizes L R (heldColumns sizes (policies L R) (h .room) .packets) l r words) (h .lefts-held) (h .rights-held)
+      ∙ held-accepted (h .room) words (h .few) pass long (row-order-accepted sizes (policies L R) (pair-evaluable pass) (h .room) same (h .enough))
+
+  -- the rows listed when all of them are handled are the row order
+  pub whole-order : (k : ℕ) → turn (pairSystem sizes (policies L R)) (run (pairSystem sizes (policies L R)) k) ≡ finished → length (run (pairSystem sizes (policies L R)) k .rows) ≤ 65535
+      → (let H = columnsOf sizes (policies L R) (run (pairSystem sizes (policies L R)) k .rows) in HoldRowOrder sizes L R (H .packets) (H .lefts) (H .rights))
+  unfolding heldColumns
+  whole-order k end few =
+      record {
+        room = length (run S k .rows);
+        few = few;
+        enough = λ m. not-full (sym (full-iff S (length (run S k .rows)) .1 m) ∙ answer-finished S (length (run S k .rows)) k end (le-refl _));
+        packets-held = ap (λ (es : List (Entry S)). columnsOf sizes (policies L R) es .packets) same;
+        lefts-held = ap (λ (es : List (Entry S)). columnsOf sizes (policies L R) es .lefts) same;
+        rights-held = ap (λ (es : List (Entry S)). columnsOf sizes (policies L R) es .rights) same;
+      }
+    where
+      S : System
+      S = pairSystem sizes (policies L R)
+
+      not-full : {c : ℕ} → full ≡ allHandled c → ⊥
+      not-full e = true≢false (cc)
+
+      same : run S k .rows ≡ held S (length (run S k .rows))
+      same = sym (held-stopped S (length (run S k .rows)) k (λ q. finished≢handling (sym end ∙ q)) (le-refl _))
+
+  -- ---- the call
+
+  module _ (packets lefts rights work : List ℕ) where
+    -- the answer and the work list from what the causes say
+    checked-rows : (t : Tested) → evidenceTests sizes L R packets lefts rights (length work) ≡ t → (answer : Evidence) → answer ≡ evidenceOf t (evidenceAnswer sizes (policies L R) packets lefts rights)
+        → (work′ : List ℕ) → work′ ≡ workAfter t work → CheckedRows sizes L R packets lefts rights work answer work′
+    unfolding evidenceCall
+    checked-rows t e answer f work′ g =
+        record {
+          answers = is;
+          works = g ∙ ap (λ (u : Tested). workAfter u work) (sym e);
+          accepts = (λ h. call-accepted packets lefts rights (length work) .0 (sym is ∙ h), λ k. is ∙ call-accepted packets lefts rights (length work) .1 k);
+          rejects = λ p x h. call-judged packets lefts rights (length work) p x (sym is ∙ h);
+          sound = λ h. call-sound packets lefts rights (length work) (sym is ∙ h);
+          complete = λ p s o l. is ∙ call-complete packets lefts rights (length work) p s o l;
+        }
+      where
+        is : answer ≡ evidenceCall sizes L R packets lefts rights (length work)
+        is = f ∙ ap (λ (u : Tested). evidenceOf u (evidenceAnswer sizes (policies L R) packets lefts rights)) (sym e)
+
+    refused : (r : Refusal) → evidenceTests sizes L R packets lefts rights (length work) ≡ Refused r → CheckedRows sizes L R packets lefts rights work (NotChecked r) work
+    unfolding evidenceOf workAfter
+    refused r e = checked-rows (Refused r) e (NotChecked r) refl work refl
+
+    pub fields-refused : (r : Refusal) → fieldsStage sizes ≡ Refused r → CheckedRows sizes L R packets lefts rights work (NotChecked r) work
+    unfolding evidenceTests
+    fields-refused r e = refused r (firstOf-refused _ _ r e)
+
+    module _ (fields : fieldsStage sizes ≡ Passed) where
+      pub product-refused : (r : Refusal) → packetCount sizes ≡ NotCounted r → CheckedRows sizes L R packets lefts rights work (NotChecked r) work
+      unfolding evidenceTests
+      product-refused r e = refused r (firstOf-next _ _ fields ∙ firstOf-refused _ _ r (count-refused sizes r e))
+
+      module _ (count : ℕ) (counted : packetCount sizes ≡ Packets count) where
+        pub policies-refused : (r : Refusal) → pairStage sizes L R ≡ PairRefused r → CheckedRows sizes L R packets lefts rights work (NotChecked r) work
+        unfolding evidenceTests pairStage
+        policies-refused r e = refused r (firstOf-next _ _ fields ∙ firstOf-next _ _ (count-packets sizes count counted .0) ∙ firstOf-refused _ _ r (pair-refused _ _ _ r e))
+
+        module _ (dl dr : ℕ) (legal : pairStage sizes L R ≡ LegalPair dl dr) where
+          lists-tests : evidenceTests sizes L R packets lefts rights (length work) ≡ listsStage (length packets ∷ length lefts ∷ length rights ∷ []) (length work)
+          unfolding evidenceTests pairStage
+          lists-tests = firstOf-next _ _ fields ∙ firstOf-next _ _ (count-packets sizes count counted .0) ∙ firstOf-next _ _ (pair-legal _ _ _ dl dr legal) ∙ firstOf-last _
+
+          pub lists-refused : (r : Refusal) → listsStage (length packets ∷ length lefts ∷ length rights ∷ []) (length work) ≡ Refused r → CheckedRows sizes L R packets lefts rights work (NotChecked r) work
+          lists-refused r e = refused r (lists-tests ∙ e)
+
+          module _ (lists : listsStage (length packets ∷ length lefts ∷ length rights ∷ []) (length work) ≡ Passed) where
+            pub lent : Lent sizes L R packets lefts rights count work
+            lent =
+                let c = count-packets sizes count counted in
+                let g = legal-pair-stage sizes L R dl dr legal in
+                let n = lists-passed _ _ _ _ lists in
+                record {
+                  allowed = record { legal = passed-legal sizes fields (c .0); left-legal = g .0; right-legal = g .1; packet-count = c .1 };
+                  table = record { left = n .0; right = n .1 };
+                  numbered = n .2;
+                  long = n .3;
+                }
+
+            pub table-answered : (answer : Evidence) (work′ : List ℕ) → TableChecked sizes L R packets lefts rights work answer work′ → CheckedRows sizes L R packets lefts rights work answer work′
+            unfolding evidenceOf workAfter
+            table-answered answer work′ t = checked-rows Passed (lists-tests ∙ lists) answer (t .answers) work′ (t .cleared)

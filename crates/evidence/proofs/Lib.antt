@@ -1,0 +1,4 @@
+pub mod Looking
+pub mod Joining
+pub mod Stepping
+pub mod Answering

@@ -1,0 +1,80 @@
+-- The evidence checker's call: the first cause that refuses, else the row rules (document 01, "Row rules for evidence").
+use Prim.Native.Nat.{ℕ, _≤_}
+use mathlib.Core.List.{List, [], _∷_}
+use mathlib.Core.Logic.{_↔_}
+use mathlib.Core.Path.{_≡_}
+use lib.ListN.{length, replicate}
+use Rattle.packet.specs.Refusals.{firstOf}
+use Rattle.packet.specs.Sizes.{fieldsStage, productStage}
+use Rattle.packet.specs.declared.Tested.{Tested}
+use Rattle.packet.specs.declared.Tested.the-variants.{Passed, Refused}
+use Rattle.policy.specs.NodeLists.{NodeLists, policyOf}
+use Rattle.policy.specs.Legality.{policiesStage}
+use Rattle.policy.specs.Answers.{sided, pairTests}
+use Rattle.policy.specs.Meaning.{SameTracesBelow}
+use Rattle.system.specs.RowOrder.{NeedsMore}
+use Rattle.pair.specs.Sides.{policies}
+use Rattle.pair.specs.Pair.{pairSystem}
+use Rattle.pair.specs.Search.{heldColumns}
+use Rattle.pair.specs.Rules.{Checked, accepted, ruleA, ruleB, ruleC, ruleD, Judged}
+use Rattle.pair.specs.Evidence.{tableOf, evidenceAnswer, RowRules}
+use Rattle.rows.specs.Lent.{listsStage}
+use Rattle.evidence.specs.declared.Evidence.{Evidence}
+use Rattle.evidence.specs.declared.Evidence.the-variants.{Accepted, RuleA, RuleB, RuleC, RuleD, Refused as NotChecked}
+
+-- the broken rule and its spot: (a) row; (b) packet; (c) row; (d) row and packet
+unfoldable pub reported : Checked → Evidence
+reported accepted = Accepted
+reported (ruleA i) = RuleA i
+reported (ruleB α) = RuleB α
+reported (ruleC i) = RuleC i
+reported (ruleD i γ) = RuleD i γ
+
+-- the answer: a refusal has its own number, side and place
+unfoldable pub evidenceOf : Tested → Checked → Evidence
+evidenceOf Passed x = reported x
+evidenceOf (Refused r) x = NotChecked r
+
+-- "past refusal 10 the work list is all 0 on return"; causes 1 to 10 leave it as it was
+unfoldable pub workAfter : Tested → List ℕ → List ℕ
+workAfter Passed work = replicate (length work) 0
+workAfter (Refused r) work = work
+
+module _ (sizes : List ℕ) (L R : NodeLists) where
+  module _ (packets lefts rights : List ℕ) where
+    -- the causes in the order tested, 1 to 10; the work list has so many words
+    unfoldable pub evidenceTests : ℕ → Tested
+    evidenceTests words =
+        firstOf
+        (fieldsStage sizes
+        ∷ productStage sizes
+        ∷ policiesStage sizes (sided 1 L ∷ sided 2 R ∷ [])
+        ∷ listsStage (length packets ∷ length lefts ∷ length rights ∷ []) words
+        ∷ [])
+
+    -- the checker's answer
+    unfoldable pub evidenceCall : ℕ → Evidence
+    evidenceCall words = evidenceOf (evidenceTests words) (evidenceAnswer sizes (policies L R) packets lefts rights)
+
+    -- The columns hold the row order itself, row for row: it needs no more than `room` rows, at most 65,535, and they are what so
+    -- many lent rows hold in the end (law `whole-order`: the rows listed when all of them are handled).
+    pub record HoldRowOrder : Type 0 where
+      pub room : ℕ
+      pub few : room ≤ 65535
+      pub enough : NeedsMore (pairSystem sizes (policies L R)) room → ⊥
+      pub packets-held : packets ≡ heldColumns sizes (policies L R) room .packets
+      pub lefts-held : lefts ≡ heldColumns sizes (policies L R) room .lefts
+      pub rights-held : rights ≡ heldColumns sizes (policies L R) room .rights
+
+    -- Demand 3: what the call answers, and what it leaves in the work list.
+    pub record CheckedRows (work : List ℕ) (answer : Evidence) (work′ : List ℕ) : Type 0 where
+      pub answers : answer ≡ evidenceCall (length work)
+      pub works : work′ ≡ workAfter (evidenceTests (length work)) work
+      -- "it accepts exactly when no listed cause of refusal holds and the rows keep all four row rules"
+      pub accepts : (answer ≡ Accepted) ↔ ((evidenceTests (length work) ≡ Passed) × RowRules sizes (policies L R) packets lefts rights)
+      -- "where no cause holds and a rule is broken, it rejects with the rule and spot that document 01 names"
+      pub rejects : evidenceTests (length work) ≡ Passed → (x : Checked) → answer ≡ reported x → Judged (pairSystem sizes (policies L R)) (tableOf sizes (policies L R) packets lefts rights) x
+      -- "whenever it accepts, the two policies have the same traces from every packet"
+      pub sound : answer ≡ Accepted → SameTracesBelow sizes (policyOf L) (policyOf R)
+      -- an equal pair's row order "is a table that the checker accepts, with any work list that refusal 10 lets pass"
+      pub complete : pairTests sizes L R ≡ Passed → SameTracesBelow sizes (policyOf L) (policyOf R) → HoldRowOrder → 16384 ≤ length work → answer ≡ Accepted

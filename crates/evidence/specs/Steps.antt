@@ -1,0 +1,74 @@
+-- What the inner steps of the checker ask and answer.
+use Prim.Native.Nat.{ℕ, _<_, _≤_}
+use mathlib.Core.List.{List}
+use mathlib.Core.Path.{_≡_}
+use lib.ListN.{length, getD, replicate}
+use Rattle.packet.specs.Sizes.{product, LegalSizes}
+use Rattle.policy.specs.Legality.{Legal}
+use Rattle.policy.specs.NodeLists.{NodeLists}
+use Rattle.pair.specs.Sides.{policies}
+use Rattle.pair.specs.Pair.{pairSystem}
+use Rattle.pair.specs.Rules.{Checked, accepted, ruleB, ruleC, ruleD, andThen, brokenAt, breaksB, checkRow, checkRows}
+use Rattle.pair.specs.Evidence.{tableOf, evidenceAnswer}
+use Rattle.packet.specs.Lowest.{lowest}
+use Rattle.index.specs.Columns.{Table, Small}
+use Rattle.index.specs.Index.{Indexed}
+use Rattle.evidence.specs.declared.Evidence.{Evidence}
+use Rattle.evidence.specs.declared.RowAnswer.{RowAnswer}
+use Rattle.evidence.specs.declared.RowAnswer.the-variants.{Keeps, Outputs, Next}
+use Rattle.evidence.specs.Calls.{reported}
+
+-- what a row's answer says of row i
+unfoldable pub rowTold : ℕ → RowAnswer → Checked
+rowTold i Keeps = accepted
+rowTold i Outputs = ruleC i
+rowTold i (Next γ) = ruleD i γ
+
+module _ (sizes : List ℕ) (L R : NodeLists) (packets lefts rights : List ℕ) where
+  -- causes 1 to 9 don't hold, and N is `count`
+  pub record Allowed (count : ℕ) : Type 0 where
+    pub legal : LegalSizes sizes
+    pub left-legal : Legal sizes L
+    pub right-legal : Legal sizes R
+    pub packet-count : count ≡ product sizes
+
+  -- cause 10 doesn't hold either
+  pub record Lent (count : ℕ) (work : List ℕ) : Type 0 where
+    pub allowed : Allowed count
+    pub table : Table packets lefts rights
+    pub numbered : length packets ≤ 65535
+    pub long : 16384 ≤ length work
+
+  -- rule (a) is kept, and the work list is all 0
+  pub record Cleared (count : ℕ) (work : List ℕ) : Type 0 where
+    pub lent : Lent count work
+    pub small : Small packets count
+    pub zero : (i : ℕ) → i < 16384 → getD work i 0 ≡ 0
+
+  -- the rows are indexed
+  pub record Ready (count : ℕ) (heads links work : List ℕ) : Type 0 where
+    pub cleared : Cleared count work
+    pub indexed : Indexed packets lefts rights count (length packets) heads links
+
+  -- (c), then (d), at row i
+  pub record RowChecked (i : ℕ) (work : List ℕ) (answer : RowAnswer) (work′ : List ℕ) : Type 0 where
+    pub told : rowTold i answer ≡ checkRow (pairSystem sizes (policies L R)) (tableOf sizes (policies L R) packets lefts rights) i
+    pub kept : work′ ≡ work
+
+  -- row by row
+  pub record RowsChecked (work : List ℕ) (answer : Evidence) (work′ : List ℕ) : Type 0 where
+    pub answers : answer ≡ reported (checkRows (pairSystem sizes (policies L R)) (tableOf sizes (policies L R) packets lefts rights) (length packets))
+    pub kept : work′ ≡ work
+
+  -- (b), then row by row
+  pub record StartsChecked (work : List ℕ) (answer : Evidence) (work′ : List ℕ) : Type 0 where
+    pub answers : answer
+        ≡ reported
+        (andThen (brokenAt ruleB (lowest (breaksB (pairSystem sizes (policies L R)) (tableOf sizes (policies L R) packets lefts rights)) (product sizes)))
+        (checkRows (pairSystem sizes (policies L R)) (tableOf sizes (policies L R) packets lefts rights) (length packets)))
+    pub kept : work′ ≡ work
+
+  -- all four rules
+  pub record TableChecked (work : List ℕ) (answer : Evidence) (work′ : List ℕ) : Type 0 where
+    pub answers : answer ≡ reported (evidenceAnswer sizes (policies L R) packets lefts rights)
+    pub cleared : work′ ≡ replicate (length work) 0

@@ -1,0 +1,299 @@
+#!/usr/bin/env python3
+"""Writes the input and the expected output of the program evidence_cases, worked out from document 01, "Row rules for
+evidence" and "Causes, in the order tested"; output and next by way of document 004's right spines.
+
+    tools/evidence_cases.py            write crates/evidence_cases/stdin and stdout
+    tools/evidence_cases.py --check    compare them with what is stored
+"""
+import itertools
+import random
+import sys
+
+from evaluator_cases import DROP, DUP, EQ, ID, NE, SEQ, SET, STAR, SUM, World, random_policy, spread, stepped, terms
+from policy_cases import answer as legality
+from policy_cases import lists
+from stored import store
+
+WORK = 16384
+
+
+class Pair:
+    """Two legal policies, and what rows say of them."""
+
+    def __init__(self, sizes, left, right):
+        self.world = World(sizes)
+        self.sides = [(terms(nodes), sum(kind == DUP for kind, _, _ in nodes)) for nodes in (left, right)]
+        self.known = {}
+
+    def handled(self, row):
+        """Are the outputs equal, and which row is next at each packet?"""
+        if row not in self.known:
+            packet, *states = row
+            steps = [stepped(self.world, term, state, packet) for (term, _), state in zip(self.sides, states)]
+            following = [(g, steps[0][1].get(g, 0), steps[1][1].get(g, 0)) for g in range(self.world.count)]
+            self.known[row] = (steps[0][0] == steps[1][0], following)
+        return self.known[row]
+
+    def fits(self, row):
+        packet, *states = row
+        return packet < self.world.count and all(s < 2 << dups for s, (_, dups) in zip(states, self.sides))
+
+    def check(self, rows):
+        for i, row in enumerate(rows):
+            if not self.fits(row):
+                return "a %d" % i
+        present = set(rows)
+        for alpha in range(self.world.count):
+            if (alpha, 1, 1) not in present:
+                return "b %d" % alpha
+        kept = set()
+        for i, row in enumerate(rows):
+            if row in kept:
+                continue
+            same, following = self.handled(row)
+            if not same:
+                return "c %d" % i
+            for gamma, left, right in following:
+                if (left or right) and (gamma, left, right) not in present:
+                    return "d %d %d" % (i, gamma)
+            kept.add(row)
+        return "accepted"
+
+    def row_order(self, most):
+        """The row order of an equal pair; None if it has more rows."""
+        rows = [(alpha, 1, 1) for alpha in range(self.world.count)]
+        listed = set(rows)
+        for row in rows:
+            same, following = self.handled(row)
+            assert same
+            for new in following:
+                if (new[1] or new[2]) and new not in listed:
+                    listed.add(new)
+                    rows.append(new)
+            if len(rows) > most:
+                return None
+        return rows
+
+
+def answer(sizes, policies, rows, lengths, words, last):
+    """The answer with the rows again and again in lists of these lengths, a row put last instead, and so many words."""
+    said = legality(sizes, policies)
+    if said.startswith("refused"):
+        return said + ", work 0 found"
+    if len(set(lengths)) > 1 or lengths[0] > 65535 or words < WORK:
+        return "refused 10 0 0, work 0 found"
+    pair = Pair(sizes, *(list(zip(*policy)) for policy in policies))
+    table = list(itertools.islice(itertools.cycle(rows), lengths[0])) if rows else [(0, 0, 0)] * lengths[0]
+    if last and table:
+        table[-1] = tuple(last)
+    return "%s, work %d found" % (pair.check(table), words)
+
+
+# ---- policies
+
+P2 = ([2], [(EQ, 0, 0), (DUP, 0, 0), (SEQ, 0, 1)], [(DUP, 0, 0), (EQ, 0, 0), (SEQ, 0, 1)])
+P2_ROWS = [(0, 1, 1), (1, 1, 1), (0, 2, 2), (1, 0, 2)]
+P5 = ([1], [(DUP, 0, 0), (STAR, 0, 0)], [(ID, 0, 0), (DUP, 0, 0), (DUP, 0, 0), (STAR, 2, 0), (SEQ, 1, 3), (SUM, 0, 4)])
+P5_ROWS = [(0, 1, 1), (0, 2, 2), (0, 2, 4)]
+P10 = ([1], [(DUP, 0, 0), (DROP, 0, 0), (SEQ, 0, 1)], [(DROP, 0, 0)])
+P10_ROWS = [(0, 1, 1), (0, 2, 0)]
+
+
+def shifted(nodes, by):
+    return [(k, a + by if k in (SUM, SEQ, STAR) else a, b + by if k in (SUM, SEQ) else b) for k, a, b in nodes]
+
+
+def sum_of(a, b):
+    return a + shifted(b, len(a)) + [(SUM, len(a) - 1, len(a) + len(b) - 1)]
+
+
+def seq_of(a, b):
+    return a + shifted(b, len(a)) + [(SEQ, len(a) - 1, len(a) + len(b) - 1)]
+
+
+def starred(a):
+    return a + [(STAR, len(a) - 1, 0)]
+
+
+def dups(count):
+    nodes = [(DUP, 0, 0)]
+    for _ in range(count - 1):
+        nodes = seq_of(nodes, [(DUP, 0, 0)])
+    return nodes
+
+
+def equal_pairs(rng):
+    """Pairs that are equal by the laws of NetKAT."""
+    for sizes in ([1], [2], [3], [2, 3], [33]):
+        for length in (6, 10):
+            a = random_policy(rng, sizes, length)
+            b = random_policy(rng, sizes, length // 2)
+            yield sizes, a, sum_of(a, a)
+            yield sizes, seq_of([(ID, 0, 0)], a), sum_of(a, [(DROP, 0, 0)])
+            yield sizes, sum_of(a, b), sum_of(b, a)
+            yield sizes, starred(a), starred(starred(a))
+            yield sizes, starred(a), sum_of([(ID, 0, 0)], seq_of(a, starred(a)))
+
+
+# ---- tables
+
+def broken(rng, pair, rows, tries):
+    """Tables with one row more or less, one for each rule and place of the spot: first, middle, last."""
+    found = {}
+    for _ in range(tries):
+        table = list(rows)
+        at = rng.choice((0, rng.randrange(len(table) + 1), len(table)))
+        bits = [2 << d for _, d in pair.sides]
+        choice = rng.random()
+        if choice < 0.5:
+            table.insert(at, (rng.randrange(pair.world.count), rng.randrange(bits[0]), rng.randrange(bits[1])))
+        elif choice < 0.6:
+            table.insert(at, rng.choice(((pair.world.count, 1, 1), (0, bits[0], 1), (0, 1, bits[1]), (65535, 0, 0))))
+        elif choice < 0.8:
+            rng.shuffle(table)
+            table.pop()
+        else:
+            table.pop(rng.randrange(len(table)))
+        if not table:
+            continue
+        said = pair.check(table).split()
+        if said[0] == "accepted":
+            continue
+        last = pair.world.count - 1 if said[0] == "b" else len(table) - 1
+        spot = int(said[1])
+        place = "first" if spot == 0 else "last" if spot == last else "middle"
+        found.setdefault((said[0], place), table)
+    return [found[key] for key in sorted(found)]
+
+
+def tables():
+    """Sizes, two policies as nodes, rows."""
+    yield (*P2, P2_ROWS)
+    yield (*P2, P2_ROWS[:3])
+    yield (*P5, P5_ROWS)
+    yield (*P10, P10_ROWS)
+    yield (*P10, P10_ROWS[:1])
+    # P1, P4, P7, P9: no table is accepted
+    yield [2], [(DROP, 0, 0)], [(ID, 0, 0)], [(0, 1, 1), (1, 1, 1)]
+    yield [3], [(EQ, 0, 0), (EQ, 0, 1), (SUM, 0, 1)], [(ID, 0, 0)], [(0, 1, 1), (1, 1, 1), (2, 1, 1)]
+    yield [1], [(DUP, 0, 0)], dups(2), [(0, 1, 1), (0, 2, 2), (0, 0, 4)]
+    yield [2], [(SET, 0, 0), (SET, 0, 1), (SUM, 0, 1)], [(ID, 0, 0)], [(0, 1, 1), (1, 1, 1)]
+    # rows with both states 0, repeats, another order
+    yield (*P2, P2_ROWS + [(0, 0, 0), (1, 0, 0)])
+    yield (*P2, [(1, 0, 0)] + P2_ROWS[::-1] * 3)
+    yield (*P2, [(2, 0, 0)] + P2_ROWS)
+    # a stray bit just above the dups, on either side, and far above
+    for left, right in ((4, 0), (0, 4), (1 << 31, 0), (0, 1 << 31), (3, 3)):
+        yield (*P2, P2_ROWS + [(0, left, right)])
+        yield (*P2, [(0, left, right)] + P2_ROWS)
+    # 31 dups: bit 31 belongs to the last
+    chain = [(0, 1 << i, 1 << i) for i in range(32)]
+    yield [1], dups(31), dups(31), chain
+    yield [1], dups(31), dups(31), chain[:-1]
+    yield [1], dups(31), dups(31), chain + [(0, (1 << 32) - 1, (1 << 32) - 1)]
+    yield [1], dups(31), dups(30), chain
+    yield [1], dups(30), dups(31), chain
+    # outputs that differ in the last word alone
+    many = [(alpha, 1, 1) for alpha in range(65)]
+    yield [65], [(ID, 0, 0)], [(ID, 0, 0)], many
+    yield [65], [(ID, 0, 0)], [(NE, 0, 64)], many
+    yield [65], [(SET, 0, 64)], [(SET, 0, 32)], many
+    yield [1], [(ID, 0, 0)], [(ID, 0, 0)], [(0, 1, 1)]
+    rng = random.Random(8)
+    for sizes, left, right in (P2, P5, P10):
+        pair = Pair(sizes, left, right)
+        for table in broken(rng, pair, pair.row_order(99), 400):
+            yield sizes, left, right, table
+    for sizes, left, right in equal_pairs(rng):
+        pair = Pair(sizes, left, right)
+        if any(d > 31 for _, d in pair.sides):
+            continue
+        rows = pair.row_order(60)
+        if rows is None or len(rows) < 2 * pair.world.count:
+            continue
+        yield sizes, left, right, rows
+        table = rows + [rng.choice(rows) for _ in range(4)] + [(rng.randrange(pair.world.count), 0, 0)]
+        rng.shuffle(table)
+        yield sizes, left, right, table
+        few = [table for table in broken(rng, pair, rows, 120) if len(table) < 20]
+        for table in rng.sample(few, min(3, len(few))):
+            yield sizes, left, right, table
+
+
+def damaged():
+    """Causes 1 to 9, on either side and together with others, as sizes and two policies as lists."""
+    sizes, left, right = P2
+    good, also = lists(left), lists(right)
+    for bad in ([], [2] * 9, [2, 0], [0, 2], [5, 205], [1024, 2], [32, 33]):
+        yield bad, good, also
+    wrong = [
+        ([5], [0], []), ([], [], []), ([5, 1], [0], [0]),
+        ([9], [0], [0]), ([1, 200, 7], [0, 0, 0], [0, 0, 1]),
+        ([2], [1], [0]), ([4], [0], [2]), ([1], [0], [1]), ([5], [1], [0]),
+        ([8], [0], [0]), ([1, 1, 7], [0, 0, 0], [0, 0, 2]),
+        ([1, 1], [0, 0], [0, 0]), ([1, 6], [0, 0], [0, 0]),
+        lists(dups(32)),
+    ]
+    for policy in wrong:
+        yield sizes, policy, also
+        yield sizes, good, policy
+    yield sizes, wrong[-1], wrong[0]
+    yield sizes, wrong[0], wrong[-1]
+    yield sizes, wrong[3], wrong[4]
+    yield [2, 0], wrong[0], wrong[-1]
+
+
+def cases():
+    """Sizes, two policies as lists, rows, the lengths of the lent lists, the words of the work list, a last row."""
+    sizes, left, right = P2
+    policies = (lists(left), lists(right))
+    for words in (0, 16383, 16384, 16385, 20000):
+        for rows in (P2_ROWS, P2_ROWS[:3], P2_ROWS[1:], P2_ROWS + [(0, 2, 0)], P2_ROWS + [(2, 0, 0)]):
+            yield sizes, policies, rows, [len(rows)] * 3, words, []
+    for lengths in ([0] * 3, [1] * 3, [2] * 3, [4] * 3, [65534] * 3, [65535] * 3, [65536] * 3, [65537] * 3,
+                    [4, 4, 5], [4, 5, 4], [5, 4, 4], [4, 3, 4], [0, 0, 4], [65535, 65535, 65536], [65536, 65535, 65535]):
+        yield sizes, policies, P2_ROWS, lengths, WORK, []
+    # the last of so many rows breaks a rule, or none
+    for row in ((0, 2, 0), (1, 4, 2), (0, 0, 4), (2, 0, 0), (1, 1, 3), (0, 1, 0), (1, 0, 1), (0, 0, 0)):
+        yield sizes, policies, P2_ROWS, [65535] * 3, WORK, list(row)
+        yield sizes, policies, P2_ROWS, [260] * 3, WORK, list(row)
+        yield sizes, policies, P2_ROWS, [5] * 3, WORK, list(row)
+    yield [1], (lists([(ID, 0, 0)]),) * 2, [], [0] * 3, WORK, []
+    yield [1], (lists([(ID, 0, 0)]),) * 2, [], [3] * 3, WORK, []
+    yield [1], (lists([(ID, 0, 0)]),) * 2, [(0, 1, 1)], [1] * 3, WORK, []
+    for given, a, b in damaged():
+        yield given, (a, b), P2_ROWS, [4] * 3, WORK, []
+    yield [2, 0], policies, P2_ROWS, [4, 4, 65536], 3, []
+    yield sizes, (policies[0], lists(dups(32))), P2_ROWS, [4, 4, 5], WORK, []
+    for sizes, left, right, rows in tables():
+        yield sizes, (lists(left), lists(right)), rows, [len(rows)] * 3, WORK, []
+
+
+def halves(masks):
+    """High and low halves; where all high ones are 0, one 0 stands for them."""
+    high = [m >> 16 for m in masks]
+    return [high if any(high) else high[:1], [m & 65535 for m in masks]]
+
+
+def main():
+    given, expected = [], []
+    places = set()
+    for sizes, policies, rows, lengths, words, last in cases():
+        packets, lefts, rights = (list(column) for column in zip(*rows)) if rows else ([], [], [])
+        columns = [sizes, *policies[0], *policies[1], packets, *halves(lefts), *halves(rights)]
+        given.append(" ".join([spread(c) for c in columns] + [str(n) for n in lengths + [words]] + [spread(last)]))
+        expected.append(answer(sizes, policies, rows, lengths, words, last))
+        said = expected[-1].split(",")[0].split()
+        if said[0] in "abcd":
+            spots = World(sizes).count if said[0] == "b" else lengths[0]
+            places.add((said[0], int(said[1]) == 0, int(said[1]) == spots - 1))
+    # each rule is broken at a first, a middle and a last spot
+    for rule, place in itertools.product("abcd", ((True, False), (False, False), (False, True))):
+        assert (rule, *place) in places, (rule, place)
+    assert Pair(*P2).row_order(9) == P2_ROWS and Pair(*P5).row_order(9) == P5_ROWS and Pair(*P10).row_order(9) == P10_ROWS
+    assert Pair(*P2).check(P2_ROWS) == "accepted" and Pair(*P2).check(P2_ROWS[:3]) == "d 1 1"
+    store("evidence_cases", given, expected, sys.argv[1:] == ["--check"])
+
+
+if __name__ == "__main__":
+    main()
