@@ -26,7 +26,7 @@ use Rattle.pair.proofs.Verdicts.{different-tells}
 use Rattle.traces.specs.declared.TraceChecked.{TraceChecked}
 use Rattle.traces.specs.declared.TraceChecked.the-variants.{Left, Right, Both, Neither, Refused as CheckRefused}
 use Rattle.traces.specs.Checking.{packetsStage, checkedAs, checkedUnless, lentTests, traceTests, traceCall, zeroUnless, workAfter, Checked, FollowReady, Followed}
-use Rattle.traces.proofs.Testing.{packets-inside, inside-packets, Lent, lent-passed, pair-lent, trace-refused, trace-tested, trace-passed}
+use Rattle.traces.proofs.Testing.{packets-inside, inside-packets, lent-passed, pair-lent, trace-refused, trace-tested, trace-passed}
 
 -- ---- the cases of the call
 
@@ -88,6 +88,34 @@ module _ (sizes : List ℕ) (L R : NodeLists) where
   unfolding traceCall checkedUnless checkedAs
   empty-neither α words e = ap₂ checkedUnless e (trace-empty sizes (policies L R) α)
 
+  -- ---- what following the trace asks, with a work list of so many words that is all 0
+
+  module _ (α : ℕ) (trace : List ℕ) (words : ℕ) (e : lentTests sizes L R words ≡ Passed) {work : List ℕ} (w : work ≡ replicate words 0) (q : packetsStage (product sizes) α trace ≡ Passed) {count : ℕ} (c : count ≡ product sizes) where
+    ready : (M : NodeLists) → Legal sizes M → FollowReady sizes M count α trace work
+    ready M legal =
+        let lent = lent-passed sizes L R words e in
+        let inside = packets-inside _ _ _ q in
+        record {
+          legal-sizes = lent .legal-sizes;
+          legal = legal;
+          packets = c;
+          entering = inside .0;
+          inside = inside .1;
+          long = subst (λ (n : ℕ). 16384 ≤ n) (sym (length-replicate words 0) ∙ ap length (sym w)) (lent .long);
+          zero = λ i h. ap (λ (v : List ℕ). getD v i 0) w ∙ getD-replicate words i 0 0 (enough i h (lent .long));
+        }
+      where
+        enough : (i : ℕ) → i < 16384 → 16384 ≤ words → i < words
+        enough i h k = omega arith
+
+    pub left-ready : FollowReady sizes L count α trace work
+    left-ready = ready L (lent-passed sizes L R words e .left-legal)
+
+    pub right-ready : FollowReady sizes R count α trace work
+    right-ready = ready R (lent-passed sizes L R words e .right-legal)
+
+  -- ---- the promise
+
   module _ (α : ℕ) (trace work : List ℕ) where
     checked : {answer : TraceChecked} {work′ : List ℕ} → answer ≡ traceCall sizes L R α trace (length work) → work′ ≡ workAfter sizes L R work
         → Checked sizes L R α trace work answer work′
@@ -121,41 +149,15 @@ module _ (sizes : List ℕ) (L R : NodeLists) where
       unfolding checkedUnless
       packet-refused r q = checked (called (Refused r) q) cleared
 
-      module _ (q : packetsStage (product sizes) α trace ≡ Passed) {count : ℕ} (c : count ≡ product sizes) where
-        lent : Lent sizes L R (length work)
-        lent = lent-passed sizes L R (length work) e
-
-        ready : (M : NodeLists) → Legal sizes M → FollowReady sizes M count α trace work′
-        ready M legal =
-            let inside = packets-inside _ _ _ q in
-            record {
-              legal-sizes = lent .legal-sizes;
-              legal = legal;
-              packets = c;
-              entering = inside .0;
-              inside = inside .1;
-              long = subst (λ (n : ℕ). 16384 ≤ n) (sym (length-replicate (length work) 0) ∙ ap length (sym w)) (lent .long);
-              zero = λ i h. ap (λ (v : List ℕ). getD v i 0) w ∙ getD-replicate (length work) i 0 0 (enough i h);
-            }
-          where
-            enough : (i : ℕ) → i < 16384 → i < length work
-            enough i h = let k = lent .long in omega arith
-
-        pub left-ready : FollowReady sizes L count α trace work′
-        left-ready = ready L (lent .left-legal)
-
-        pub right-ready : FollowReady sizes R count α trace work′
-        right-ready = ready R (lent .right-legal)
-
-        pub answered : {l r : Bool} {work₁ work₂ : List ℕ} → Followed sizes L α trace work′ l work₁ → Followed sizes R α trace work₁ r work₂
-            → (answer : TraceChecked) → answer ≡ checkedAs (answerOf l r) → Checked sizes L R α trace work answer work₂
-        unfolding checkedUnless traceAnswer sideHas at
-        answered f g answer a =
-            checked (a ∙ ap checkedAs (ap₂ answerOf (f .answers) (g .answers)) ∙ called Passed q) (g .kept ∙ f .kept ∙ cleared)
+      pub answered : packetsStage (product sizes) α trace ≡ Passed → {l r : Bool} {work₁ work₂ : List ℕ} → Followed sizes L α trace work′ l work₁ → Followed sizes R α trace work₁ r work₂
+          → (answer : TraceChecked) → answer ≡ checkedAs (answerOf l r) → Checked sizes L R α trace work answer work₂
+      unfolding checkedUnless traceAnswer sideHas at
+      answered q f g answer a =
+          checked (a ∙ ap checkedAs (ap₂ answerOf (f .answers) (g .answers)) ∙ called Passed q) (g .kept ∙ f .kept ∙ cleared)
 
   -- ---- the search's trace
 
-  -- Item for item: where causes 1 to 10 let the call pass, the trace with which the search answered a side is answered by that side.
+  -- where causes 1 to 10 let the call pass, a trace with which the search answers left is answered left, and right, right
   pub search-checked : (words : ℕ) → pairTests sizes L R ≡ Passed → 16384 ≤ words → (rows lent : ℕ) (s : Side) (α : ℕ) (trace : List ℕ)
       → searchAnswer sizes (policies L R) rows lent ≡ different s α trace → traceCall sizes L R α trace words ≡ checkedAs (only s)
   unfolding traceCall checkedUnless SideTraces

@@ -85,7 +85,7 @@ module _ (sizes : List ℕ) (L : NodeLists) (count α : ℕ) (trace work : List 
           ended : drop i trace ≡ []
           ended = let w = f .within in let e : _≡_ i (length trace) = omega arith in ap (λ (j : ℕ). drop j trace) e ∙ drop-length trace
 
-      module _ (left-over : i < length trace) {out next′ work₂ : List ℕ} (st : Stepped sizes L (nodeCount L - 1) state β next work′ out next′ work₂) where
+      module _ (left-over : i < length trace) where
         abbrev γ : ℕ
         γ = getD trace i 0
 
@@ -95,36 +95,40 @@ module _ (sizes : List ℕ) (L : NodeLists) (count α : ℕ) (trace work : List 
         pub packet-small : getD trace i 0 < 1024
         packet-small = let h = packet-inside in let k = ready .legal-sizes .small in omega arith
 
-        -- the last packet: it is in the output or not
-        pub last-packet : suc i ≡ length trace → (answer : Bool) → answer ≡ member out γ → Followed sizes L α trace work answer work₂
-        unfolding runs
-        last-packet e answer a =
-            record {
-              answers = a ∙ st .output γ ∙ ap (λ (q : Policy). bit (outputMask sizes q state β) γ) (root-tree L some-nodes) ∙ sym (ap (runs sizes p dups state β) alone) ∙ f .rest;
-              kept = st .kept ∙ f .kept;
-            }
-          where
-            alone : drop i trace ≡ γ ∷ []
-            alone = drop-cons trace i 0 left-over ∙ ap (λ (t : List ℕ). γ ∷ t) (ap (λ (j : ℕ). drop j trace) e ∙ drop-length trace)
-
-        module _ (more : suc i ≡ length trace → ⊥) (state′ : ℕ) (s : state′ ≡ getD next′ γ 0) where
-          onward : runs sizes p dups state′ γ (drop (suc i) trace) ≡ hasTrace sizes p dups α trace
+        module _ {out next′ work₂ : List ℕ} (st : Stepped sizes L (nodeCount L - 1) state β next work′ out next′ work₂) where
+          -- the last packet: it is in the output or not
+          pub last-packet : suc i ≡ length trace → (answer : Bool) → answer ≡ member out γ → Followed sizes L α trace work answer work₂
           unfolding runs
-          onward =
-              ap₂ (λ (m : ℕ) (t : List ℕ). runs sizes p dups m γ t) (s ∙ st .nexts γ packet-inside ∙ ap (λ (q : Policy). nextMask sizes q dups state β γ) (root-tree L some-nodes)) rest-is
-              ∙ sym (ap (runs sizes p dups state β) (drop-cons trace i 0 left-over ∙ ap (λ (t : List ℕ). γ ∷ t) rest-is))
-              ∙ f .rest
-            where
-              rest-is : drop (suc i) trace ≡ getD trace (suc i) 0 ∷ drop (suc (suc i)) trace
-              rest-is = drop-cons trace (suc i) 0 (omega arith)
-
-          pub following-more : length next′ ≡ 1024 → Following next′ state′ γ work₂ (suc i)
-          following-more room = record { within = left-over; packet = packet-inside; room = room; rest = onward; kept = st .kept ∙ f .kept }
-
-          -- nothing can follow
-          pub dead-end : state′ ≡ 0 → Followed sizes L α trace work false work₂
-          dead-end e =
+          last-packet e answer a =
               record {
-                answers = sym (ap (λ (m : ℕ). runs sizes p dups m γ (drop (suc i) trace)) e ∙ dead-runs sizes dups p can γ (drop (suc i) trace)) ∙ onward;
+                answers = a ∙ st .output γ ∙ ap (λ (q : Policy). bit (outputMask sizes q state β) γ) (root-tree L some-nodes) ∙ sym (ap (runs sizes p dups state β) alone) ∙ f .rest;
                 kept = st .kept ∙ f .kept;
               }
+            where
+              alone : drop i trace ≡ γ ∷ []
+              alone = drop-cons trace i 0 left-over ∙ ap (λ (t : List ℕ). γ ∷ t) (ap (λ (j : ℕ). drop j trace) e ∙ drop-length trace)
+
+          -- a packet but the last: the state next there has the rest or not
+          module _ (more : suc i ≡ length trace → ⊥) {k : ℕ} (at : k ≡ γ) where
+            onward : runs sizes p dups (getD next′ k 0) γ (drop (suc i) trace) ≡ hasTrace sizes p dups α trace
+            unfolding runs
+            onward =
+                ap₂ (λ (m : ℕ) (t : List ℕ). runs sizes p dups m γ t)
+                (ap (λ (j : ℕ). getD next′ j 0) at ∙ st .nexts γ packet-inside ∙ ap (λ (q : Policy). nextMask sizes q dups state β γ) (root-tree L some-nodes))
+                rest-is
+                ∙ sym (ap (runs sizes p dups state β) (drop-cons trace i 0 left-over ∙ ap (λ (t : List ℕ). γ ∷ t) rest-is))
+                ∙ f .rest
+              where
+                rest-is : drop (suc i) trace ≡ getD trace (suc i) 0 ∷ drop (suc (suc i)) trace
+                rest-is = drop-cons trace (suc i) 0 (omega arith)
+
+            pub following-more : length next′ ≡ 1024 → Following next′ (getD next′ k 0) γ work₂ (suc i)
+            following-more room = record { within = left-over; packet = packet-inside; room = room; rest = onward; kept = st .kept ∙ f .kept }
+
+            -- nothing can follow
+            pub dead-end : getD next′ k 0 ≡ 0 → Followed sizes L α trace work false work₂
+            dead-end e =
+                record {
+                  answers = sym (ap (λ (m : ℕ). runs sizes p dups m γ (drop (suc i) trace)) e ∙ dead-runs sizes dups p can γ (drop (suc i) trace)) ∙ onward;
+                  kept = st .kept ∙ f .kept;
+                }

@@ -2,7 +2,7 @@
 use Prim.Native.Nat.{ℕ, zero, suc, _<_, _≤_}
 use mathlib.Core.Bool.{Bool, false, true≢false}
 use mathlib.Core.List.{List, [], _∷_}
-use mathlib.Core.Option.{none, some}
+use mathlib.Core.Option.{Option, none, some}
 use mathlib.Core.Path.{_≡_, refl, sym, ap, _∙_}
 use native.Mathlib.Omega.{arith}
 use borrow.Author.Tests.{le-leb, lt-leb, leb-false, le-ltb, ltb-false}
@@ -17,11 +17,10 @@ use Rattle.packet.specs.Sizes.{product, counted, fieldsStage, productStage, Leg
 use Rattle.packet.proofs.Legal.{passed-legal}
 use Rattle.packet.proofs.Lowest.{lowest-none, none-lowest, lowest-more, lowest-found}
 use Rattle.packet.proofs.Stages.{firstOf-last, firstOf-refused, firstOf-next, firstOf-passed, refusedAt-passed, atPlace-none}
-use Rattle.policy.specs.declared.legality.PairAnswer.{PairAnswer}
 use Rattle.policy.specs.declared.legality.PairAnswer.the-variants.{Legal as LegalPair, Refused as PairRefused}
 use Rattle.policy.specs.Answers.{sided, pairTests, pairAnswer, pairStage}
 use Rattle.policy.specs.Each.{Each}
-use Rattle.policy.specs.Legality.{Legal, policiesStage}
+use Rattle.policy.specs.Legality.{Legal}
 use Rattle.policy.specs.NodeLists.{NodeLists}
 use Rattle.policy.proofs.LegalityLaws.{stage-passes}
 use Rattle.rows.specs.Lent.{listsStage, rowsMisfit}
@@ -46,6 +45,11 @@ module _ (N α : ℕ) (trace : List ℕ) where
     pub packet-good : getD trace i 0 < N → lowest (badPacket N α trace) (suc (suc i)) ≡ none
     unfolding badPacket
     packet-good h = lowest-more (badPacket N α trace) (suc i) e (lt-leb N (getD trace i 0) h)
+
+  -- the stage from the place found; n is the packet count
+  pub packets-tested : {n : ℕ} {t : Tested} {o : Option ℕ} → n ≡ N → t ≡ refusedAt 13 0 o → o ≡ lowest (badPacket n α trace) (suc (length trace)) → packetsStage N α trace ≡ t
+  unfolding packetsStage
+  packets-tested c e l = sym (e ∙ ap (refusedAt 13 0) (l ∙ ap (λ (m : ℕ). lowest (badPacket m α trace) (suc (length trace))) c))
 
   -- what holds where it passes
   pub packets-inside : packetsStage N α trace ≡ Passed → (α < N) × ((i : ℕ) → i < length trace → getD trace i 0 < N)

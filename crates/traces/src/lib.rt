@@ -97,7 +97,6 @@ fn has_trace(
     requires { ⌜ FollowReady (now sizes) (asLists (now kind) (now first) (now second)) count entering (now trace) (now work) ⌝ }
     ensures { λ r. ⌜ Followed (now (sizes .entry)) (asLists (now (kind .entry)) (now (first .entry)) (now (second .entry))) entering (now (trace .entry)) (now (work .entry)) r (now (work .exit)) ⌝ }
 {
-    let root = kind.len() - 1;
     let mut next = [0u32; 1024];
     let mut state = 1;
     let mut packet = entering;
@@ -107,7 +106,7 @@ fn has_trace(
             kind,
             first,
             second,
-            root,
+            kind.len() - 1,
             sizes,
             count,
             state,
