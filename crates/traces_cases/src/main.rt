@@ -49,13 +49,20 @@ fn repeat(trace: &mut [u16], times: usize, part: &[u16]) -> usize {
     at
 }
 
+fn weight(counts: bool) -> usize
+    ensures { λ r. ⌜ r ≤ 1 ⌝ }
+{
+    if counts {
+        return 1;
+    }
+    0
+}
+
 fn holding(work: &[u32], value: u32) -> usize {
     let mut count: usize = 0;
     let mut i = 0;
     while i < work.len() {
-        if work[i] == value {
-            count += 1;
-        }
+        count += weight(work[i] == value);
         i += 1;
     }
     count
