@@ -40,7 +40,7 @@ class Packets:
 
 
 def joined(before, then):
-    """Figure 1's sequence, of traces up to a length: all ab where aβ is a trace of the first and b one of the second from β."""
+    """Figure 1's sequence: all ab where aβ is a trace of the first and b one of the second from β."""
     return {a[:-1] + b for a in before for b in then(a[-1], len(a) - 1)}
 
 
@@ -145,7 +145,8 @@ class Case:
         )
 
     def expected(self):
-        said, cleared = answer(self.sizes, self.left, self.right, self.entering, self.part * self.times + self.rest, self.words)
+        trace = self.part * self.times + self.rest
+        said, cleared = answer(self.sizes, self.left, self.right, self.entering, trace, self.words)
         return "%s, work %d %d" % (said, self.words if cleared else 0, 0 if cleared else self.words)
 
 
@@ -161,8 +162,9 @@ drop, one, dup = leaf(DROP), leaf(ID), leaf(DUP)
 
 
 def join(kind, p, q):
-    moved = [(k, a + len(p), b + len(p)) if k in (SUM, SEQ) else (k, a + len(p), b) if k == STAR else (k, a, b) for k, a, b in q]
-    return p + moved + [(kind, len(p) - 1, len(p) + len(q) - 1)]
+    n = len(p)
+    moved = [(k, a + n if k in (SUM, SEQ, STAR) else a, b + n if k in (SUM, SEQ) else b) for k, a, b in q]
+    return p + moved + [(kind, n - 1, n + len(q) - 1)]
 
 
 def star(p):
@@ -223,10 +225,9 @@ def work_lists():
 def refusals():
     """1 to 10, each with the causes behind it: a work list too short or long enough, a packet out of range."""
     good = lists(one)
-    bad = [
-        lists([]), ([1], [0], []), lists(leaf(9)), lists(leaf(ID, 0, 1)), lists(leaf(EQ, 0, 2)), lists(leaf(EQ, 1, 0)),
-        lists([(STAR, 0, 0)]), lists(one + one), lists(one + [(SUM, 0, 0)]), lists(chain(dup * 32)),
-    ]
+    bad = [lists([]), ([1], [0], [])]
+    bad += [lists(leaf(*node)) for node in ((9,), (ID, 0, 1), (EQ, 0, 2), (EQ, 1, 0), (STAR, 0, 0))]
+    bad += [lists(one + one), lists(one + [(SUM, 0, 0)]), lists(chain(dup * 32))]
     for words in (WORDS - 1, WORDS):
         for sizes in ([], [2] * 9, [2, 0], [0] * 9, [5, 205], [1024, 2, 0]):
             yield Case(sizes, bad[0], bad[0], 65535, [65535], words)

@@ -71,7 +71,7 @@ module _ (sizes : List ℕ) (L R : NodeLists) where
     pub left-trace : (a : TraceAnswer) → answer ≡ checkedAs a → T (has left a) ↔ Traces (numbered sizes) (policyOf L) α trace
     pub right-trace : (a : TraceAnswer) → answer ≡ checkedAs a → T (has right a) ↔ Traces (numbered sizes) (policyOf R) α trace
 
--- what following a trace through one policy asks: causes 1 to 13 don't hold, N = count, and the first words of the work list 0
+-- what following a trace through one policy asks: causes 1 to 10 and 13 don't hold, N = count, and the first words of the work list 0
 pub record FollowReady (sizes : List ℕ) (L : NodeLists) (count α : ℕ) (trace work : List ℕ) : Type 0 where
   pub legal-sizes : LegalSizes sizes
   pub legal : Legal sizes L

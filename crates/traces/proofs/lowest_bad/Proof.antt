@@ -3,8 +3,8 @@ use borrow.Author.Needs.{needs}
 use Prim.Native.Nat.{suc, _≤_, _-_}
 use native.Mathlib.Numerals.{add-one}
 use native.Mathlib.Omega.{arith}
-use mathlib.Core.Option.{none}
-use mathlib.Core.Path.{_≡_, sym}
+use mathlib.Core.Option.{none, some}
+use mathlib.Core.Path.{_≡_, sym, ap, _∙_}
 use lib.ListN.{length}
 use Rattle.packet.specs.Lowest.{lowest}
 use Rattle.packet.proofs.Lowest.{lowest-none-whole}
@@ -35,7 +35,7 @@ shared-slice-read-if2 : tie.Need-shared-slice-read-if2 Inv-loop μ-loop
 shared-slice-read-if2 c = search needs
 
 returns-2 : tie.Need-returns-2 Inv-loop μ-loop
-returns-2 c = rw add-one (sym (packet-bad _ _ _ (c .before .before .before .loop .inv .1) (c .before .before .loop-test .taken) (c .if2 .taken)))
+returns-2 c = sym (packet-bad _ _ _ (c .before .before .before .loop .inv .1) (c .before .before .loop-test .taken) (c .if2 .taken) ∙ ap some (sym (add-one _)))
 
 loop-less : tie.Need-loop-less Inv-loop μ-loop
 loop-less c = search needs
