@@ -1,0 +1,171 @@
+-- The trace checker's answer from its parts, in terms of Figure 1, and on the search's trace. Assumes nothing.
+use Prim.Native.Nat.{ℕ, zero, suc, _<_, _≤_}
+use mathlib.Core.Bool.{Bool, true, false, true≢false}
+use mathlib.Core.List.{List, [], _∷_, List·Memᴰ, List·Memᴰ·head, List·Memᴰ·tail}
+use mathlib.Core.Logic.{_↔_}
+use mathlib.Core.Path.{_≡_, refl, sym, ap, ap₂, _∙_, subst}
+use native.Mathlib.Nat.{not-suc-le-zero, le-of-suc-le-suc}
+use native.Mathlib.Omega.{arith}
+use lib.Dec.{T}
+use lib.ListN.{length, getD, replicate, getD-replicate, length-replicate}
+use Rattle.packet.specs.declared.Refusal.{Refusal}
+use Rattle.packet.specs.declared.Tested.{Tested}
+use Rattle.packet.specs.declared.Tested.the-variants.{Passed, Refused}
+use Rattle.packet.specs.Sizes.{product}
+use Rattle.policy.specs.Answers.{pairTests}
+use Rattle.policy.specs.Legality.{Legal}
+use Rattle.policy.specs.NodeLists.{NodeLists}
+use Rattle.automaton.proofs.Laws.{traces-below}
+use Rattle.pair.specs.Sides.{Side, left, right, at, policies}
+use Rattle.pair.specs.Pair.{SideTraces}
+use Rattle.pair.specs.Search.{searchAnswer, different}
+use Rattle.pair.specs.TraceCheck.{TraceAnswer, only, both, neither, has, answerOf, sideHas, traceAnswer}
+use Rattle.pair.proofs.Lawful.{EvaluablePair, legal-pair}
+use Rattle.pair.proofs.TraceCheck.{trace-iff, different-only, trace-empty}
+use Rattle.pair.proofs.Verdicts.{different-tells}
+use Rattle.traces.specs.declared.TraceChecked.{TraceChecked}
+use Rattle.traces.specs.declared.TraceChecked.the-variants.{Left, Right, Both, Neither, Refused as CheckRefused}
+use Rattle.traces.specs.Checking.{packetsStage, checkedAs, checkedUnless, lentTests, traceTests, traceCall, zeroUnless, workAfter, Checked, FollowReady, Followed}
+use Rattle.traces.proofs.Testing.{packets-inside, inside-packets, lent-passed, pair-lent, trace-refused, trace-tested, trace-passed}
+
+-- ---- the cases of the call
+
+answerIn : TraceChecked → TraceAnswer
+answerIn Left = only left
+answerIn Right = only right
+answerIn Both = both
+answerIn Neither = neither
+answerIn (CheckRefused r) = neither
+
+answer-in : (a : TraceAnswer) → answerIn (checkedAs a) ≡ a
+unfolding checkedAs answerIn
+answer-in (only left) = refl
+answer-in (only right) = refl
+answer-in both = refl
+answer-in neither = refl
+
+isRefused : TraceChecked → Bool
+isRefused Left = false
+isRefused Right = false
+isRefused Both = false
+isRefused Neither = false
+isRefused (CheckRefused r) = true
+
+not-refused : (a : TraceAnswer) → isRefused (checkedAs a) ≡ false
+unfolding checkedAs isRefused
+not-refused (only left) = refl
+not-refused (only right) = refl
+not-refused both = refl
+not-refused neither = refl
+
+-- an answer is given where the tests pass
+unless-answer : (t : Tested) (a b : TraceAnswer) → checkedUnless t a ≡ checkedAs b → (t ≡ Passed) × (a ≡ b)
+unfolding checkedUnless isRefused
+unless-answer Passed a b e = (refl, sym (answer-in a) ∙ ap answerIn e ∙ answer-in b)
+unless-answer (Refused r) a b e = absurd (true≢false (ap isRefused e ∙ not-refused b))
+
+mem-at : (t : List ℕ) (i : ℕ) → i < length t → List·Memᴰ (getD t i 0) t
+mem-at [] i l = absurd (not-suc-le-zero l)
+mem-at (γ ∷ t) zero l = List·Memᴰ·head refl
+mem-at (γ ∷ t) (suc i) l = List·Memᴰ·tail (mem-at t i (le-of-suc-le-suc l))
+
+module _ (sizes : List ℕ) (L R : NodeLists) where
+  evaluable : (words : ℕ) → lentTests sizes L R words ≡ Passed → EvaluablePair sizes (policies L R)
+  evaluable words e = let h = lent-passed sizes L R words e in legal-pair sizes L R (h .left-legal) (h .right-legal)
+
+  -- an answer says of each side whether Figure 1 gives it the trace
+  pub answer-iff : (α : ℕ) (trace : List ℕ) (words : ℕ) (a : TraceAnswer) → traceCall sizes L R α trace words ≡ checkedAs a
+      → (s : Side) → T (has s a) ↔ SideTraces sizes (policies L R) s α trace
+  unfolding traceCall
+  answer-iff α trace words a e s =
+      let g = unless-answer _ _ a e in
+      let t = trace-passed sizes L R words α trace (g .0) in
+      subst (λ (b : TraceAnswer). T (has s b) ↔ SideTraces sizes (policies L R) s α trace) (g .1)
+      (trace-iff sizes (policies L R) (evaluable words (t .0)) s α (packets-inside _ _ _ (t .1) .0) trace)
+
+  -- a trace of length 0 is neither
+  pub empty-neither : (α words : ℕ) → traceTests sizes L R α [] words ≡ Passed → traceCall sizes L R α [] words ≡ Neither
+  unfolding traceCall checkedUnless checkedAs
+  empty-neither α words e = ap₂ checkedUnless e (trace-empty sizes (policies L R) α)
+
+  -- ---- what following the trace asks, with a work list of so many words that is all 0
+
+  module _ (α : ℕ) (trace : List ℕ) (words : ℕ) (e : lentTests sizes L R words ≡ Passed) {work : List ℕ} (w : work ≡ replicate words 0) (q : packetsStage (product sizes) α trace ≡ Passed) {count : ℕ} (c : count ≡ product sizes) where
+    ready : (M : NodeLists) → Legal sizes M → FollowReady sizes M count α trace work
+    ready M legal =
+        let lent = lent-passed sizes L R words e in
+        let inside = packets-inside _ _ _ q in
+        record {
+          legal-sizes = lent .legal-sizes;
+          legal = legal;
+          packets = c;
+          entering = inside .0;
+          inside = inside .1;
+          long = subst (λ (n : ℕ). 16384 ≤ n) (sym (length-replicate words 0) ∙ ap length (sym w)) (lent .long);
+          zero = λ i h. ap (λ (v : List ℕ). getD v i 0) w ∙ getD-replicate words i 0 0 (enough i h (lent .long));
+        }
+      where
+        enough : (i : ℕ) → i < 16384 → 16384 ≤ words → i < words
+        enough i h k = omega arith
+
+    pub left-ready : FollowReady sizes L count α trace work
+    left-ready = ready L (lent-passed sizes L R words e .left-legal)
+
+    pub right-ready : FollowReady sizes R count α trace work
+    right-ready = ready R (lent-passed sizes L R words e .right-legal)
+
+  -- ---- the promise
+
+  module _ (α : ℕ) (trace work : List ℕ) where
+    checked : {answer : TraceChecked} {work′ : List ℕ} → answer ≡ traceCall sizes L R α trace (length work) → work′ ≡ workAfter sizes L R work
+        → Checked sizes L R α trace work answer work′
+    unfolding SideTraces at
+    checked e w =
+        record {
+          answers = e;
+          work-list = w;
+          left-trace = λ a q. answer-iff α trace (length work) a (sym e ∙ q) left;
+          right-trace = λ a q. answer-iff α trace (length work) a (sym e ∙ q) right;
+        }
+
+    pub lent-refused : (r : Refusal) → lentTests sizes L R (length work) ≡ Refused r → Checked sizes L R α trace work (CheckRefused r) work
+    unfolding traceCall checkedUnless workAfter zeroUnless
+    lent-refused r e =
+        checked
+        (sym (ap (λ (t : Tested). checkedUnless t (traceAnswer sizes (policies L R) α trace)) (trace-refused sizes L R (length work) α trace r e)))
+        (sym (ap (λ (t : Tested). zeroUnless t work) e))
+
+    module _ (e : lentTests sizes L R (length work) ≡ Passed) {work′ : List ℕ} (w : work′ ≡ replicate (length work) 0) where
+      cleared : work′ ≡ workAfter sizes L R work
+      unfolding workAfter zeroUnless
+      cleared = w ∙ sym (ap (λ (t : Tested). zeroUnless t work) e)
+
+      called : (t : Tested) → packetsStage (product sizes) α trace ≡ t
+          → checkedUnless t (traceAnswer sizes (policies L R) α trace) ≡ traceCall sizes L R α trace (length work)
+      unfolding traceCall
+      called t q = sym (ap (λ (u : Tested). checkedUnless u (traceAnswer sizes (policies L R) α trace)) (trace-tested sizes L R (length work) α trace e ∙ q))
+
+      pub packet-refused : (r : Refusal) → packetsStage (product sizes) α trace ≡ Refused r → Checked sizes L R α trace work (CheckRefused r) work′
+      unfolding checkedUnless
+      packet-refused r q = checked (called (Refused r) q) cleared
+
+      pub answered : packetsStage (product sizes) α trace ≡ Passed → {l r : Bool} {work₁ work₂ : List ℕ} → Followed sizes L α trace work′ l work₁ → Followed sizes R α trace work₁ r work₂
+          → (answer : TraceChecked) → answer ≡ checkedAs (answerOf l r) → Checked sizes L R α trace work answer work₂
+      unfolding checkedUnless traceAnswer sideHas at
+      answered q f g answer a =
+          checked (a ∙ ap checkedAs (ap₂ answerOf (f .answers) (g .answers)) ∙ called Passed q) (g .kept ∙ f .kept ∙ cleared)
+
+  -- ---- the search's trace
+
+  -- where causes 1 to 10 let the call pass, a trace with which the search answers left is answered left, and right, right
+  pub search-checked : (words : ℕ) → pairTests sizes L R ≡ Passed → 16384 ≤ words → (rows lent : ℕ) (s : Side) (α : ℕ) (trace : List ℕ)
+      → searchAnswer sizes (policies L R) rows lent ≡ different s α trace → traceCall sizes L R α trace words ≡ checkedAs (only s)
+  unfolding traceCall checkedUnless SideTraces
+  search-checked words e h rows lent s α trace d =
+      let passed = pair-lent sizes L R words e h in
+      let ok = evaluable words passed in
+      let tells = different-tells sizes (policies L R) ok rows lent s α trace d in
+      ap₂ checkedUnless
+      (trace-tested sizes L R words α trace passed
+      ∙ inside-packets _ _ _ (tells .enters) (λ i l. traces-below sizes (at s (policies L R) .dups) (at s (policies L R) .tree) (ok s) α (tells .enters) trace (tells .has) _ (mem-at trace i l)))
+      (different-only sizes (policies L R) ok rows lent s α trace d)

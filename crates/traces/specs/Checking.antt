@@ -1,0 +1,87 @@
+-- The trace checker (document 01, "Row rules for evidence" and "Causes, in the order tested").
+use Prim.Native.Nat.{ℕ, suc, _<_, _≤_}
+use mathlib.Core.Bool.{Bool}
+use mathlib.Core.List.{List, [], _∷_}
+use mathlib.Core.Logic.{_↔_}
+use mathlib.Core.Path.{_≡_}
+use lib.Dec.{T, leb}
+use lib.ListN.{length, getD, replicate}
+use Rattle.packet.specs.declared.Tested.{Tested}
+use Rattle.packet.specs.declared.Tested.the-variants.{Passed, Refused}
+use Rattle.packet.specs.Lowest.{lowest}
+use Rattle.packet.specs.Refusals.{refusedAt, firstOf}
+use Rattle.packet.specs.Sizes.{product, fieldsStage, productStage, LegalSizes}
+use Rattle.policy.specs.Answers.{sided}
+use Rattle.policy.specs.Legality.{Legal, policiesStage}
+use Rattle.policy.specs.Meaning.{numbered, Traces}
+use Rattle.policy.specs.NodeLists.{NodeLists, nodeCount, dupsBelow, policyOf}
+use Rattle.automaton.specs.State.{hasTrace}
+use Rattle.pair.specs.Sides.{left, right, policies}
+use Rattle.pair.specs.TraceCheck.{TraceAnswer, only, both, neither, has, traceAnswer}
+use Rattle.rows.specs.Lent.{listsStage}
+use Rattle.traces.specs.declared.TraceChecked.{TraceChecked}
+use Rattle.traces.specs.declared.TraceChecked.the-variants.{Left, Right, Both, Neither, Refused as CheckRefused}
+
+-- cause 13 with N packets: place 0 is the entering packet, place i the i-th packet of the trace
+unfoldable pub badPacket : ℕ → ℕ → List ℕ → ℕ → Bool
+badPacket N α trace i = leb N (getD (α ∷ trace) i 0)
+
+-- stage "packets": cause 13
+unfoldable pub packetsStage : ℕ → ℕ → List ℕ → Tested
+packetsStage N α trace = refusedAt 13 0 (lowest (badPacket N α trace) (suc (length trace)))
+
+-- an answer's case of the call
+unfoldable pub checkedAs : TraceAnswer → TraceChecked
+checkedAs (only left) = Left
+checkedAs (only right) = Right
+checkedAs both = Both
+checkedAs neither = Neither
+
+-- each case's number and values: a refusal's are its own
+unfoldable pub checkedUnless : Tested → TraceAnswer → TraceChecked
+checkedUnless Passed a = checkedAs a
+checkedUnless (Refused r) a = CheckRefused r
+
+-- the work list after the tests of causes 1 to 10: past them it is all 0
+unfoldable pub zeroUnless : Tested → List ℕ → List ℕ
+zeroUnless Passed work = replicate (length work) 0
+zeroUnless (Refused r) work = work
+
+module _ (sizes : List ℕ) (L R : NodeLists) where
+  -- the tests on what else is lent, with a work list of so many words: causes 1 to 10
+  unfoldable pub lentTests : ℕ → Tested
+  lentTests words = firstOf (fieldsStage sizes ∷ productStage sizes ∷ policiesStage sizes (sided 1 L ∷ sided 2 R ∷ []) ∷ listsStage [] words ∷ [])
+
+  -- the order of causes: 1 to 10, then 13
+  unfoldable pub traceTests : ℕ → List ℕ → ℕ → Tested
+  traceTests α trace words = firstOf (lentTests words ∷ packetsStage (product sizes) α trace ∷ [])
+
+  -- the trace checker's answer
+  unfoldable pub traceCall : ℕ → List ℕ → ℕ → TraceChecked
+  traceCall α trace words = checkedUnless (traceTests α trace words) (traceAnswer sizes (policies L R) α trace)
+
+  -- what the work list holds after
+  unfoldable pub workAfter : List ℕ → List ℕ
+  workAfter work = zeroUnless (lentTests (length work)) work
+
+  -- The call's promise. Where it answers, the answer says of each policy whether Figure 1 gives it the trace from the entering packet.
+  pub record Checked (α : ℕ) (trace work : List ℕ) (answer : TraceChecked) (work′ : List ℕ) : Type 0 where
+    pub answers : answer ≡ traceCall α trace (length work)
+    pub work-list : work′ ≡ workAfter work
+    pub left-trace : (a : TraceAnswer) → answer ≡ checkedAs a → T (has left a) ↔ Traces (numbered sizes) (policyOf L) α trace
+    pub right-trace : (a : TraceAnswer) → answer ≡ checkedAs a → T (has right a) ↔ Traces (numbered sizes) (policyOf R) α trace
+
+-- what following a trace through one policy asks: causes 1 to 10 and 13 don't hold, N = count, and the first words of the work list 0
+pub record FollowReady (sizes : List ℕ) (L : NodeLists) (count α : ℕ) (trace work : List ℕ) : Type 0 where
+  pub legal-sizes : LegalSizes sizes
+  pub legal : Legal sizes L
+  pub packets : count ≡ product sizes
+  pub entering : α < product sizes
+  pub inside : (i : ℕ) → i < length trace → getD trace i 0 < product sizes
+  pub long : 16384 ≤ length work
+  pub zero : (i : ℕ) → i < 16384 → getD work i 0 ≡ 0
+
+-- the policy has the trace or not, and the work list is as it was
+pub record Followed (sizes : List ℕ) (L : NodeLists) (α : ℕ) (trace work : List ℕ) (answer : Bool) (work′ : List ℕ) : Type 0 where
+  pub answers : answer ≡ hasTrace sizes (policyOf L) (dupsBelow L (nodeCount L)) α trace
+  pub kept : work′ ≡ work

@@ -1,0 +1,203 @@
+// The trace checker (document 01, "Row rules for evidence"): which of two policies has a trace. `check` is the public call.
+ghost use mathlib.Core.Path.{_≡_};
+ghost use Prim.Native.Nat.{suc};
+ghost use lib.ListN.{length};
+ghost use Rattle.packet.specs.Lowest.{lowest, optionOf};
+ghost use Rattle.packet.specs.Sizes.{counted, product};
+ghost use Rattle.policy.specs.AsLists.{asLists};
+ghost use Rattle.pair.specs.TraceCheck.{answerOf};
+ghost use Rattle.traces.specs.Checking.{badPacket, checkedAs, lentTests, Checked, FollowReady, Followed};
+use packet::Counted;
+use packet::Place;
+use packet::Refusal;
+use packet::Tested;
+use policy::legality::PairAnswer;
+
+// The answer on a trace: which of the two policies have it, or the first cause that refuses.
+pub enum TraceChecked {
+    Left,
+    Right,
+    Both,
+    Neither,
+    Refused(Refusal),
+}
+
+// Cause 13: the lowest place of a packet out of range; place 0 is the entering packet, place i the i-th of the trace.
+fn lowest_bad(count: u16, entering: u16, trace: &[u16]) -> Place
+    ensures { λ r. ⌜ optionOf r ≡ lowest (badPacket count entering (now (trace .entry))) (suc (length (now (trace .entry)))) ⌝ }
+{
+    if count <= entering {
+        return Place::At(0);
+    }
+    let mut i = 0;
+    while i < trace.len() {
+        let place = i + 1;
+        if count <= trace[i] {
+            return Place::At(place as u64);
+        }
+        i = place;
+    }
+    Place::Nowhere
+}
+
+// Causes 1 to 10; the packet count where all pass.
+fn lent_stage(
+    sizes: &[u16],
+    left_kind: &[u8],
+    left_first: &[u16],
+    left_second: &[u16],
+    right_kind: &[u8],
+    right_first: &[u16],
+    right_second: &[u16],
+    work: usize,
+) -> Counted
+    ensures { λ r. ⌜ r ≡ counted (lentTests (now (sizes .entry)) (asLists (now («left_kind» .entry)) (now («left_first» .entry)) (now («left_second» .entry))) (asLists (now («right_kind» .entry)) (now («right_first» .entry)) (now («right_second» .entry))) work) (product (now (sizes .entry))) ⌝ }
+{
+    match packet::fields_stage(sizes) {
+        Tested::Refused(r) => Counted::Refused(r),
+        Tested::Passed => match packet::packet_count(sizes) {
+            Counted::Refused(r) => Counted::Refused(r),
+            Counted::Packets(n) => match policy::legality::pair_stage(
+                sizes,
+                left_kind,
+                left_first,
+                left_second,
+                right_kind,
+                right_first,
+                right_second,
+            ) {
+                PairAnswer::Refused(r) => Counted::Refused(r),
+                PairAnswer::Legal(_, _) => match rows::work_list(work) {
+                    Tested::Refused(r) => Counted::Refused(r),
+                    Tested::Passed => Counted::Packets(n),
+                },
+            },
+        },
+    }
+}
+
+fn wide(x: u16) -> usize
+    ensures { λ r. ⌜ r ≡ x ⌝ }
+{
+    x as usize
+}
+
+// Has the policy the trace? Its state is followed along the trace; count is the packet count.
+// The work list is 0 in its first 16,384 words before, and as it was after.
+fn has_trace(
+    kind: &[u8],
+    first: &[u16],
+    second: &[u16],
+    sizes: &[u16],
+    count: u16,
+    entering: u16,
+    trace: &[u16],
+    work: &mut [u32],
+) -> bool
+    requires { ⌜ FollowReady (now sizes) (asLists (now kind) (now first) (now second)) count entering (now trace) (now work) ⌝ }
+    ensures { λ r. ⌜ Followed (now (sizes .entry)) (asLists (now (kind .entry)) (now (first .entry)) (now (second .entry))) entering (now (trace .entry)) (now (work .entry)) r (now (work .exit)) ⌝ }
+{
+    let mut next = [0u32; 1024];
+    let mut state = 1;
+    let mut packet = entering;
+    let mut i = 0;
+    while i < trace.len() {
+        let output = evaluator::step(
+            kind,
+            first,
+            second,
+            kind.len() - 1,
+            sizes,
+            count,
+            state,
+            packet,
+            &mut next,
+            work,
+        );
+        packet = trace[i];
+        i += 1;
+        if i == trace.len() {
+            return packet_set::contains(output, packet);
+        }
+        state = next[wide(packet)];
+        if state == 0 {
+            return false;
+        }
+    }
+    false
+}
+
+// The answer from what each policy has.
+fn named(left: bool, right: bool) -> TraceChecked
+    ensures { λ r. ⌜ r ≡ checkedAs (answerOf left right) ⌝ }
+{
+    if left {
+        if right {
+            return TraceChecked::Both;
+        }
+        return TraceChecked::Left;
+    }
+    if right {
+        return TraceChecked::Right;
+    }
+    TraceChecked::Neither
+}
+
+// Which of the two policies have the trace from the entering packet: causes 1 to 10, of 10 the work list alone, then 13.
+// The work list is as found where one of 1 to 10 refuses, and else all 0.
+pub fn check(
+    sizes: &[u16],
+    left_kind: &[u8],
+    left_first: &[u16],
+    left_second: &[u16],
+    right_kind: &[u8],
+    right_first: &[u16],
+    right_second: &[u16],
+    entering: u16,
+    trace: &[u16],
+    work: &mut [u32],
+) -> TraceChecked
+    ensures { λ r. ⌜ Checked (now (sizes .entry)) (asLists (now («left_kind» .entry)) (now («left_first» .entry)) (now («left_second» .entry))) (asLists (now («right_kind» .entry)) (now («right_first» .entry)) (now («right_second» .entry))) entering (now (trace .entry)) (now (work .entry)) r (now (work .exit)) ⌝ }
+{
+    match lent_stage(
+        sizes,
+        left_kind,
+        left_first,
+        left_second,
+        right_kind,
+        right_first,
+        right_second,
+        work.len(),
+    ) {
+        Counted::Refused(r) => TraceChecked::Refused(r),
+        Counted::Packets(count) => {
+            rows::clear(work);
+            match packet::refused_at(13, 0, lowest_bad(count, entering, trace)) {
+                Tested::Refused(r) => TraceChecked::Refused(r),
+                Tested::Passed => {
+                    let left = has_trace(
+                        left_kind,
+                        left_first,
+                        left_second,
+                        sizes,
+                        count,
+                        entering,
+                        trace,
+                        work,
+                    );
+                    let right = has_trace(
+                        right_kind,
+                        right_first,
+                        right_second,
+                        sizes,
+                        count,
+                        entering,
+                        trace,
+                        work,
+                    );
+                    named(left, right)
+                }
+            }
+        }
+    }
+}
