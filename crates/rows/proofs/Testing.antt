@@ -1,9 +1,8 @@
 -- Causes 1 to 10: how the tests go on, and what holds where they pass. Assumes nothing.
 use Prim.Native.Nat.{ℕ, _≤_}
-use mathlib.Core.Bool.{Bool, true, false, true≢false, _||_, not}
+use mathlib.Core.Bool.{Bool, true, false, true≢false, _||_}
 use mathlib.Core.List.{List, [], _∷_}
 use mathlib.Core.Path.{_≡_, refl, sym, ap, _∙_}
-use lib.Dec.{eqb, ltb}
 use borrow.Author.Tests.{ltb-false, le-ltb, eqb-true, not-false}
 use Rattle.packet.specs.declared.Counted.the-variants.{Packets, Refused as NotCounted}
 use Rattle.packet.specs.declared.Refusal.{Refusal}

@@ -1,7 +1,6 @@
 -- The call: what is ready where no cause refuses, and the promise. Assumes nothing.
-use Prim.Native.Nat.{ℕ, _<_, _≤_}
+use Prim.Native.Nat.{ℕ, _≤_}
 use mathlib.Core.List.{List, [], _∷_, _++_}
-use mathlib.Core.Logic.{_↔_}
 use mathlib.Core.Path.{_≡_, refl, sym, ap, _∙_, subst}
 use native.Mathlib.Omega.{arith}
 use lib.ListN.{length, getD, replicate, take, drop, length-replicate, getD-replicate}
@@ -14,24 +13,22 @@ use Rattle.packet.specs.declared.Counted.the-variants.{Packets, Refused as NotC
 use Rattle.packet.specs.Refusals.{refusal}
 use Rattle.packet.specs.Sizes.{product, counted}
 use Rattle.packet.proofs.Sizes.{counted-packets, counted-refused}
-use Rattle.policy.specs.Meaning.{SameTracesBelow}
-use Rattle.policy.specs.NodeLists.{NodeLists, policyOf}
-use Rattle.system.specs.RowOrder.{NeedsMore, held}
+use Rattle.policy.specs.NodeLists.{NodeLists}
+use Rattle.system.specs.RowOrder.{NeedsMore}
 use Rattle.pair.specs.Sides.{Side, left, right, policies}
 use Rattle.pair.specs.Pair.{pairSystem}
-use Rattle.pair.specs.Search.{SearchAnswer, equal, different, rowsFull, traceShort, heldColumns, searchAnswer, Distinguishes}
+use Rattle.pair.specs.Search.{SearchAnswer, equal, different, rowsFull, traceShort, heldColumns, Distinguishes}
 use Rattle.pair.proofs.Lawful.{EvaluablePair, legal-pair}
 use Rattle.pair.proofs.Verdicts as verdicts
 use Rattle.index.specs.Appending.{Lists, lists}
-use Rattle.index.specs.Index.{Indexed}
 use Rattle.index.proofs.Growth.{indexed-none}
 use Rattle.rows.specs.Lent.{listsStage, rowsMisfit, lentTests}
 use Rattle.rows.specs.Written.{written}
 use Rattle.rows.proofs.Searching.{holds}
-use Rattle.rows.proofs.Testing.{LegalCall, tests-passed, lists-passed, row-list-fits, rows-few}
+use Rattle.rows.proofs.Testing.{tests-passed, lists-passed, row-list-fits, rows-few}
 use Rattle.search.specs.declared.Stop.{Stop}
 use Rattle.search.specs.declared.Verdict.{Verdict}
-use Rattle.search.specs.declared.Verdict.the-variants.{Equal, Left, Right, Full, Refused}
+use Rattle.search.specs.declared.Verdict.the-variants.{Equal, Full, Refused}
 use Rattle.search.specs.Ending.{endedAnswer, RowsReady, RowsRun}
 use Rattle.search.specs.Call.{tellingVerdict, verdictOf, traceAfter, Told, Lent, lent, filled, verdictAfter, lentAfter, searchTests, answerHere, rowsHere, searchVerdict, searchLeaves, Telling, Searched, Accepted, SearchDone}
 
@@ -43,7 +40,7 @@ same-lent p q r s t w = rw (p, q, r, s, t, w) refl
 
 -- ---- what a verdict says of its answer
 
-equal-of : (a : SearchAnswer) (n : ℕ) → verdictOf a ≡ Equal n → a ≡ equal n
+pub equal-of : (a : SearchAnswer) (n : ℕ) → verdictOf a ≡ Equal n → a ≡ equal n
 unfolding verdictOf
 equal-of (equal m) n e = let same : m ≡ n = cc in ap equal same
 equal-of (different left α t) n e = let z : _≡_ {A = ℕ} 0 1 = cc in absurd (zero≢one z)
@@ -52,12 +49,12 @@ equal-of (rowsFull m) n e = let z : _≡_ {A = ℕ} 0 1 = cc in absurd (zero≢o
 equal-of (traceShort m) n e = let z : _≡_ {A = ℕ} 0 1 = cc in absurd (zero≢one z)
 
 -- the trace of a telling verdict
-record Trace (a : SearchAnswer) (s : Side) (n α : ℕ) : Type 0 where
-  trace : List ℕ
-  answer : a ≡ different s α trace
-  long : length trace ≡ n
+pub record Trace (a : SearchAnswer) (s : Side) (n α : ℕ) : Type 0 where
+  pub trace : List ℕ
+  pub answer : a ≡ different s α trace
+  pub long : length trace ≡ n
 
-telling-of : (a : SearchAnswer) (s : Side) (n α : ℕ) → verdictOf a ≡ tellingVerdict s n α → Trace a s n α
+pub telling-of : (a : SearchAnswer) (s : Side) (n α : ℕ) → verdictOf a ≡ tellingVerdict s n α → Trace a s n α
 unfolding verdictOf
 telling-of (equal m) left n α e = let z : _≡_ {A = ℕ} 0 1 = cc in absurd (zero≢one z)
 telling-of (equal m) right n α e = let z : _≡_ {A = ℕ} 0 1 = cc in absurd (zero≢one z)

@@ -1,6 +1,6 @@
 -- The verdict where the row order has ended, and the trace that it leaves. Assumes nothing.
 use Prim.Native.Nat.{ℕ, _+_, _<_, _≤_}
-use mathlib.Core.Bool.{Bool, cond}
+use mathlib.Core.Bool.{cond}
 use mathlib.Core.List.{List, [], _∷_, _++_}
 use mathlib.Core.Path.{_≡_, refl, sym, ap, ap₂, _∙_, subst}
 use native.Mathlib.Omega.{arith}
@@ -9,7 +9,7 @@ use borrow.Author.Tests.{lt-ltb, le-ltb}
 use Rattle.packet.specs.Refusals.{refusal}
 use Rattle.system.proofs.Basics.{length-snoc}
 use Rattle.pair.specs.Sides.{Side, left, right}
-use Rattle.pair.specs.Search.{SearchAnswer, equal, different, rowsFull, traceShort, reported}
+use Rattle.pair.specs.Search.{SearchAnswer, different, traceShort, reported}
 use Rattle.rows.specs.Lines.{lineDepth, linePath, lineStart}
 use Rattle.rows.specs.Written.{written}
 use Rattle.rows.proofs.Lines.{length-path}

@@ -12,7 +12,7 @@ use Rattle.packet.specs.Sizes.{product}
 use Rattle.packet.proofs.Legal.{product-positive}
 use Rattle.policy.specs.NodeLists.{NodeLists}
 use Rattle.system.specs.System.{System, Lawful}
-use Rattle.system.specs.RowOrder.{Entry, Run, Turn, finished, telling, handling, turn, current, run, held, path, entering}
+use Rattle.system.specs.RowOrder.{Turn, finished, telling, handling, turn, current, run, held, path, entering}
 use Rattle.system.specs.RowOrder as order
 use Rattle.system.proofs.Climb.{Earlier}
 use Rattle.system.proofs.Listing.{earlier}
@@ -26,15 +26,13 @@ use Rattle.index.specs.declared.Appended.the-variants.{Rows, Full as FullUp}
 use Rattle.index.specs.Appending.{Lists}
 use Rattle.index.specs.Entries.{Masks}
 use Rattle.rows.specs.Standing.{Standing, pairMasks, Started}
-use Rattle.rows.specs.Lines.{linePath, lineStart}
 use Rattle.rows.proofs.Standing.{stands-length}
 use Rattle.rows.proofs.Growing.{SameLengths, lengths-then}
 use Rattle.rows.proofs.Searching.{Running, IsFull, stands-then, entry-at, rooted, path-line, entering-line, search-begins, start-full, search-goes, search-fills, search-ends, search-tells}
 use Rattle.search.specs.declared.Ended.{Ended}
-use Rattle.search.specs.declared.Ended.the-variants.{Done, Left, Right, Full}
+use Rattle.search.specs.declared.Ended.the-variants.{Done, Full}
 use Rattle.search.specs.declared.Handled.{Handled}
 use Rattle.search.specs.declared.Handled.the-variants.{Open, Stopped}
-use Rattle.search.specs.declared.Stop.{Stop}
 use Rattle.search.specs.Step.{tellingAt, goesOn, runAt, afterRow, stepAnswer, stepRows, RowHandled, StepReady}
 use Rattle.search.specs.Ending.{CanRead, tellingAnswer, answerAtEnd, endedAnswer, ReadableAt, Readable, RowsReady, RowsRun}
 

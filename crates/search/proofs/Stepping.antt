@@ -6,9 +6,7 @@ use mathlib.Core.Path.{_≡_, refl, sym, ap, _∙_, subst}
 use native.Mathlib.Omega.{arith}
 use lib.Dec.{ltb}
 use borrow.Author.Tests.{lt-ltb, le-ltb}
-use lib.ListN.{length, getD, take}
-use Rattle.packet.specs.Sizes.{product, LegalSizes}
-use Rattle.policy.specs.Legality.{Legal}
+use lib.ListN.{length, getD}
 use Rattle.policy.specs.NodeLists.{NodeLists}
 use Rattle.system.specs.System.{System}
 use Rattle.system.specs.RowOrder.{Run, turn, telling, handling, current}
@@ -25,9 +23,8 @@ use Rattle.index.specs.Appending.{Lists}
 use Rattle.index.specs.Index.{Indexed}
 use Rattle.index.specs.Entries.{Masks}
 use Rattle.index.proofs.Entries.{entries-at}
-use Rattle.rows.specs.Standing.{answerFor, rowsIn, Standing, Continues, pairMasks, Nexts, NextAppended}
+use Rattle.rows.specs.Standing.{answerFor, Standing, Continues, pairMasks, Nexts, NextAppended}
 use Rattle.rows.proofs.Standing.{stands-none, stands-length}
-use Rattle.rows.proofs.Searching.{continues-listed, continues-over}
 use Rattle.compare.specs.declared.Compared.{Compared}
 use Rattle.compare.specs.declared.Compared.the-variants.{Same}
 use Rattle.compare.specs.Comparison.{differsAt, rowOf, answerAt, CompareReady, ComparedRow}

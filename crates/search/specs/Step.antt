@@ -8,9 +8,9 @@ use lib.ListN.{length, getD, take}
 use Rattle.packet.specs.Sizes.{product, LegalSizes}
 use Rattle.policy.specs.Legality.{Legal}
 use Rattle.policy.specs.NodeLists.{NodeLists}
-use Rattle.system.specs.RowOrder.{Entry, Run, Turn, finished, telling, handling, turn, current}
+use Rattle.system.specs.RowOrder.{Entry, Run, finished, telling, handling, turn, current}
 use Rattle.system.specs.RowOrder as order
-use Rattle.pair.specs.Sides.{Side, left, right, Pair, Labelled, policies}
+use Rattle.pair.specs.Sides.{Side, left, right, Pair, Labelled}
 use Rattle.pair.specs.Pair.{pairSystem}
 use Rattle.pair.specs.Search.{sideOf}
 use Rattle.index.specs.Appending.{Lists}

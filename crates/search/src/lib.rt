@@ -32,7 +32,7 @@ pub enum Handled {
     Stopped(Ended),
 }
 
-// Where the row order has ended: at a row of so many listed.
+// Where the row order has ended: the row being handled, and how many rows were listed before its turn; both 0 where the starting rows don't fit. Inner.
 pub struct Stop {
     pub row: usize,
     pub listed: usize,
@@ -62,8 +62,8 @@ fn goes_on(handled: usize, listed: usize) -> Handled
     Handled::Stopped(Ended::Done(listed))
 }
 
-// Inner: handles row `handled` of the `listed` rows. Time does not grow with the number of rows listed: two evaluations, and a lookup for each
-// successor.
+// Inner: handles row `handled` of the `listed` rows: two evaluations and a lookup for each successor; a lookup walks the rows of one bucket of the
+// index. The two lists for next are the step's own: what they hold after it is left open.
 pub fn handle(
     sizes: &[u16],
     count: u16,
@@ -295,8 +295,8 @@ fn search_accepted(
     conclude(packets, parents, stop, trace)
 }
 
-// Whether two policies have the same traces from every packet: equal, or the shortest telling trace; the row lists then hold the row order as far
-// as it went. The work list holds at least 16,384 words.
+// Whether two policies have the same traces from every packet: equal, or a shortest trace that one of them alone has, written to the trace list.
+// The row lists hold the rows of the row order listed so far, the work list is 0; refusals 1 to 10 leave all lists as they were.
 pub fn search(
     sizes: &[u16],
     left_kind: &[u8],

@@ -1,0 +1,94 @@
+-- What a search leaves is what the checkers take: the rows of an equal verdict are accepted, the trace of a telling one is that side's alone.
+-- Assumes nothing.
+use Prim.Native.Nat.{ℕ, _≤_}
+use mathlib.Core.List.{List, _++_}
+use mathlib.Core.Path.{_≡_, refl, sym, ap, ap₂, _∙_}
+use native.Mathlib.Omega.{arith}
+use lib.ListN.{length, take, drop, length-map}
+use lib.Seq.{take-append-seam}
+use Rattle.packet.specs.declared.Tested.{Tested}
+use Rattle.packet.specs.declared.Tested.the-variants.{Passed, Refused as Stopped}
+use Rattle.packet.specs.Sizes.{product}
+use Rattle.packet.proofs.Stages.{firstOf-next, firstOf-passed, firstOf-last}
+use Rattle.policy.specs.Answers.{pairTests}
+use Rattle.policy.specs.NodeLists.{NodeLists}
+use Rattle.system.specs.RowOrder.{held}
+use Rattle.pair.specs.Sides.{Side, left, right, policies}
+use Rattle.pair.specs.Pair.{pairSystem}
+use Rattle.pair.specs.Search.{SearchAnswer, equal, columnsOf, heldColumns}
+use Rattle.pair.specs.TraceCheck.{only}
+use Rattle.pair.proofs.Lawful.{legal-pair}
+use Rattle.pair.proofs.Verdicts.{equal-same}
+use Rattle.rows.specs.Lent.{lentTests}
+use Rattle.rows.specs.Written.{written}
+use Rattle.search.specs.declared.Verdict.{Verdict}
+use Rattle.search.specs.declared.Verdict.the-variants.{Equal}
+use Rattle.search.specs.Call.{tellingVerdict, verdictOf, traceAfter, Lent, filled, verdictAfter, lentAfter, searchTests, answerHere, rowsHere, searchVerdict, searchLeaves, Searched}
+use Rattle.search.proofs.Answering.{equal-of, telling-of, accepts}
+use Rattle.evidence.specs.declared.Evidence.the-variants.{Accepted}
+use Rattle.evidence.specs.Calls.{evidenceCall}
+use Rattle.evidence.proofs.Answering.{equal-accepted}
+use Rattle.traces.specs.Checking.{checkedAs, traceCall}
+use Rattle.traces.proofs.Calling.{search-checked}
+
+zero≢one : _≡_ {A = ℕ} 0 1 → ⊥
+zero≢one z = omega arith
+
+-- the first entries written
+take-written : (xs old : List ℕ) (n : ℕ) → length xs ≡ n → take n (written xs old) ≡ xs
+unfolding written
+take-written xs old n e = ap (λ k. take k (xs ++ drop (length xs) old)) (sym e) ∙ take-append-seam xs (drop (length xs) old)
+
+-- a verdict that is not a refusal: the tests passed
+passed-equal : (t : Tested) (a : SearchAnswer) (n : ℕ) → Equal n ≡ verdictAfter t a → (t ≡ Passed) × (verdictOf a ≡ Equal n)
+unfolding verdictAfter
+passed-equal Passed a n e = (refl, sym e)
+passed-equal (Stopped r) a n e = let z : _≡_ {A = ℕ} 0 1 = cc in absurd (zero≢one z)
+
+passed-telling : (t : Tested) (a : SearchAnswer) (s : Side) (n α : ℕ) → tellingVerdict s n α ≡ verdictAfter t a → (t ≡ Passed) × (verdictOf a ≡ tellingVerdict s n α)
+unfolding verdictAfter
+passed-telling Passed a s n α e = (refl, sym e)
+passed-telling (Stopped r) a left n α e = let z : _≡_ {A = ℕ} 0 1 = cc in absurd (zero≢one z)
+passed-telling (Stopped r) a right n α e = let z : _≡_ {A = ℕ} 0 1 = cc in absurd (zero≢one z)
+
+module _ (sizes : List ℕ) (L R : NodeLists) (x y : Lent) where
+  pair-passed : searchTests sizes L R x ≡ Passed → pairTests sizes L R ≡ Passed
+  unfolding searchTests lentTests pairTests
+  pair-passed e =
+      let f = firstOf-passed _ _ e in
+      let p = firstOf-passed _ _ (f .1) in
+      let q = firstOf-passed _ _ (p .1) in
+      firstOf-next _ _ (f .0) ∙ firstOf-next _ _ (p .0) ∙ firstOf-last _ ∙ q .0
+
+  left-as : searchTests sizes L R x ≡ Passed → {verdict : Verdict} → Searched sizes L R x verdict y → y ≡ filled (rowsHere sizes L R x) (answerHere sizes L R x) x
+  unfolding searchLeaves lentAfter
+  left-as p D = D .leaves ∙ ap (λ (t : Tested). lentAfter t (rowsHere sizes L R x) (answerHere sizes L R x) x) p
+
+  -- the rows of a search that answered equal are accepted, with any work list that refusal 10 lets pass
+  pub equal-rows-accepted : (n words : ℕ) → Searched sizes L R x (Equal n) y → 16384 ≤ words
+      → evidenceCall sizes L R (take n (y .packets)) (take n (y .lefts)) (take n (y .rights)) words ≡ Accepted
+  unfolding searchVerdict filled heldColumns columnsOf
+  equal-rows-accepted n words D long =
+      let h = passed-equal (searchTests sizes L R x) (answerHere sizes L R x) n (D .answers) in
+      let a = equal-of (answerHere sizes L R x) n (h .1) in
+      let A = accepts (h .0) (product sizes) refl in
+      let many : length (held (pairSystem sizes (policies L R)) (length (x .packets))) ≡ n = equal-same sizes (policies L R) (legal-pair sizes L R (A .left-legal) (A .right-legal)) (length (x .packets)) (length (x .trace)) n a .0 in
+      let is = left-as (h .0) D in
+      let packets : take n (y .packets) ≡ rowsHere sizes L R x .packets = ap (λ (z : Lent). take n (z .packets)) is ∙ take-written (rowsHere sizes L R x .packets) (x .packets) n (length-map (held (pairSystem sizes (policies L R)) (length (x .packets))) (λ e. e .row .packet) ∙ many) in
+      let lefts : take n (y .lefts) ≡ rowsHere sizes L R x .lefts = ap (λ (z : Lent). take n (z .lefts)) is ∙ take-written (rowsHere sizes L R x .lefts) (x .lefts) n (length-map (held (pairSystem sizes (policies L R)) (length (x .packets))) (λ e. e .row .state .left) ∙ many) in
+      let rights : take n (y .rights) ≡ rowsHere sizes L R x .rights = ap (λ (z : Lent). take n (z .rights)) is ∙ take-written (rowsHere sizes L R x .rights) (x .rights) n (length-map (held (pairSystem sizes (policies L R)) (length (x .packets))) (λ e. e .row .state .right) ∙ many) in
+      ap (λ (P : List ℕ). evidenceCall sizes L R P (take n (y .lefts)) (take n (y .rights)) words) packets
+      ∙ ap₂ (λ (P Q : List ℕ). evidenceCall sizes L R (rowsHere sizes L R x .packets) P Q words) lefts rights
+      ∙ equal-accepted sizes L R (length (x .packets)) words (A .few) (pair-passed (h .0)) long (length (x .trace)) n a
+
+  -- the trace of a search that answered left is answered left by the trace checker, and right, right
+  pub telling-trace-checked : (s : Side) (n α words : ℕ) → Searched sizes L R x (tellingVerdict s n α) y → 16384 ≤ words
+      → traceCall sizes L R α (take n (y .trace)) words ≡ checkedAs (only s)
+  unfolding searchVerdict filled traceAfter
+  telling-trace-checked s n α words D long =
+      let h = passed-telling (searchTests sizes L R x) (answerHere sizes L R x) s n α (D .answers) in
+      let t = telling-of (answerHere sizes L R x) s n α (h .1) in
+      let trace : take n (y .trace) ≡ t .trace =
+      ap (λ (z : Lent). take n (z .trace)) (left-as (h .0) D) ∙ ap (λ a. take n (traceAfter a (x .trace))) (t .answer) ∙ take-written (t .trace) (x .trace) n (t .long) in
+      ap (λ (w : List ℕ). traceCall sizes L R α w words) trace
+      ∙ search-checked sizes L R words (pair-passed (h .0)) long (length (x .packets)) (length (x .trace)) s α (t .trace) (t .answer)

@@ -1,0 +1,1 @@
+// Laws that tie the search to the two checkers; they have no code of their own.
