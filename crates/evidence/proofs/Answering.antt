@@ -39,7 +39,7 @@ use Rattle.pair.specs.Rules.{Checked, accepted, ruleA, ruleB, ruleC, ruleD, Jud
 use Rattle.pair.specs.Evidence.{tableOf, evidenceAnswer, RowRules}
 use Rattle.pair.proofs.Lawful.{EvaluablePair, legal-pair}
 use Rattle.pair.proofs.Evidence.{evidence-judged, accepted-same, evidence-iff, search-accepted, row-order-accepted}
-use Rattle.rows.specs.Lent.{misfit, rowsMisfit, listsStage}
+use Rattle.rows.specs.Lent.{misfit, rowsMisfit, listsStage, lentTests}
 use Rattle.evidence.specs.declared.Evidence.{Evidence}
 use Rattle.evidence.specs.declared.Evidence.the-variants.{Accepted, RuleA, RuleB, RuleC, RuleD, Refused as NotChecked}
 use Rattle.evidence.specs.Calls.{reported, evidenceOf, workAfter, evidenceTests, evidenceCall, HoldRowOrder, CheckedRows}
@@ -123,7 +123,7 @@ module _ (sizes : List ℕ) (L R : NodeLists) where
   module _ (packets lefts rights : List ℕ) where
     -- two policies and their sizes that no cause refuses, and lists that fit
     tests-pass : (words : ℕ) → pairTests sizes L R ≡ Passed → listsStage (length packets ∷ length lefts ∷ length rights ∷ []) words ≡ Passed → evidenceTests sizes L R packets lefts rights words ≡ Passed
-    unfolding pairTests evidenceTests
+    unfolding pairTests evidenceTests lentTests
     tests-pass words e l =
         let f = firstOf-passed _ _ e in
         let p = firstOf-passed _ _ (f .1) in
@@ -131,7 +131,7 @@ module _ (sizes : List ℕ) (L R : NodeLists) where
         firstOf-next _ _ (f .0) ∙ firstOf-next _ _ (p .0) ∙ firstOf-next _ _ (q .0) ∙ firstOf-last _ ∙ l
 
     evaluable : (words : ℕ) → evidenceTests sizes L R packets lefts rights words ≡ Passed → EvaluablePair sizes (policies L R)
-    unfolding evidenceTests
+    unfolding evidenceTests lentTests
     evaluable words e = both-legal (firstOf-passed _ _ (firstOf-passed _ _ (firstOf-passed _ _ e .1) .1) .0)
 
     -- accepted exactly when no cause refuses and the four row rules hold
@@ -247,22 +247,22 @@ module _ (sizes : List ℕ) (L R : NodeLists) where
     refused r e = checked-rows (Refused r) e (NotChecked r) refl work refl
 
     pub fields-refused : (r : Refusal) → fieldsStage sizes ≡ Refused r → CheckedRows sizes L R packets lefts rights work (NotChecked r) work
-    unfolding evidenceTests
+    unfolding evidenceTests lentTests
     fields-refused r e = refused r (firstOf-refused _ _ r e)
 
     module _ (fields : fieldsStage sizes ≡ Passed) where
       pub product-refused : (r : Refusal) → packetCount sizes ≡ NotCounted r → CheckedRows sizes L R packets lefts rights work (NotChecked r) work
-      unfolding evidenceTests
+      unfolding evidenceTests lentTests
       product-refused r e = refused r (firstOf-next _ _ fields ∙ firstOf-refused _ _ r (count-refused sizes r e))
 
       module _ (count : ℕ) (counted : packetCount sizes ≡ Packets count) where
         pub policies-refused : (r : Refusal) → pairStage sizes L R ≡ PairRefused r → CheckedRows sizes L R packets lefts rights work (NotChecked r) work
-        unfolding evidenceTests pairStage
+        unfolding evidenceTests lentTests pairStage
         policies-refused r e = refused r (firstOf-next _ _ fields ∙ firstOf-next _ _ (count-packets sizes count counted .0) ∙ firstOf-refused _ _ r (pair-refused _ _ _ r e))
 
         module _ (dl dr : ℕ) (legal : pairStage sizes L R ≡ LegalPair dl dr) where
           lists-tests : evidenceTests sizes L R packets lefts rights (length work) ≡ listsStage (length packets ∷ length lefts ∷ length rights ∷ []) (length work)
-          unfolding evidenceTests pairStage
+          unfolding evidenceTests lentTests pairStage
           lists-tests = firstOf-next _ _ fields ∙ firstOf-next _ _ (count-packets sizes count counted .0) ∙ firstOf-next _ _ (pair-legal _ _ _ dl dr legal) ∙ firstOf-last _
 
           pub lists-refused : (r : Refusal) → listsStage (length packets ∷ length lefts ∷ length rights ∷ []) (length work) ≡ Refused r → CheckedRows sizes L R packets lefts rights work (NotChecked r) work

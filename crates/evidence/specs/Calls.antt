@@ -4,13 +4,10 @@ use mathlib.Core.List.{List, [], _∷_}
 use mathlib.Core.Logic.{_↔_}
 use mathlib.Core.Path.{_≡_}
 use lib.ListN.{length, replicate}
-use Rattle.packet.specs.Refusals.{firstOf}
-use Rattle.packet.specs.Sizes.{fieldsStage, productStage}
 use Rattle.packet.specs.declared.Tested.{Tested}
 use Rattle.packet.specs.declared.Tested.the-variants.{Passed, Refused}
 use Rattle.policy.specs.NodeLists.{NodeLists, policyOf}
-use Rattle.policy.specs.Legality.{policiesStage}
-use Rattle.policy.specs.Answers.{sided, pairTests}
+use Rattle.policy.specs.Answers.{pairTests}
 use Rattle.policy.specs.Meaning.{SameTracesBelow}
 use Rattle.system.specs.RowOrder.{NeedsMore}
 use Rattle.pair.specs.Sides.{policies}
@@ -18,7 +15,7 @@ use Rattle.pair.specs.Pair.{pairSystem}
 use Rattle.pair.specs.Search.{heldColumns}
 use Rattle.pair.specs.Rules.{Checked, accepted, ruleA, ruleB, ruleC, ruleD, Judged}
 use Rattle.pair.specs.Evidence.{tableOf, evidenceAnswer, RowRules}
-use Rattle.rows.specs.Lent.{listsStage}
+use Rattle.rows.specs.Lent.{listsStage, lentTests}
 use Rattle.evidence.specs.declared.Evidence.{Evidence}
 use Rattle.evidence.specs.declared.Evidence.the-variants.{Accepted, RuleA, RuleB, RuleC, RuleD, Refused as NotChecked}
 
@@ -44,13 +41,7 @@ module _ (sizes : List ℕ) (L R : NodeLists) where
   module _ (packets lefts rights : List ℕ) where
     -- the causes in the order tested, 1 to 10; the work list has so many words
     unfoldable pub evidenceTests : ℕ → Tested
-    evidenceTests words =
-        firstOf
-        (fieldsStage sizes
-        ∷ productStage sizes
-        ∷ policiesStage sizes (sided 1 L ∷ sided 2 R ∷ [])
-        ∷ listsStage (length packets ∷ length lefts ∷ length rights ∷ []) words
-        ∷ [])
+    evidenceTests words = lentTests sizes L R (listsStage (length packets ∷ length lefts ∷ length rights ∷ []) words)
 
     -- the checker's answer
     unfoldable pub evidenceCall : ℕ → Evidence

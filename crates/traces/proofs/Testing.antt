@@ -1,29 +1,28 @@
 -- The order of the tests, and what holds where they pass. Assumes nothing.
 use Prim.Native.Nat.{ℕ, zero, suc, _<_, _≤_}
-use mathlib.Core.Bool.{Bool, false, true≢false}
-use mathlib.Core.List.{List, [], _∷_}
+use mathlib.Core.Bool.{false}
+use mathlib.Core.List.{List, []}
 use mathlib.Core.Option.{Option, none, some}
 use mathlib.Core.Path.{_≡_, refl, sym, ap, _∙_}
 use native.Mathlib.Omega.{arith}
-use borrow.Author.Tests.{le-leb, lt-leb, leb-false, le-ltb, ltb-false}
+use borrow.Author.Tests.{le-leb, lt-leb, leb-false}
 use lib.ListN.{length, getD}
-use Rattle.packet.specs.declared.Counted.the-variants.{Packets, Refused as NotCounted}
+use Rattle.packet.specs.declared.Counted.{Counted}
 use Rattle.packet.specs.declared.Refusal.{Refusal}
 use Rattle.packet.specs.declared.Tested.{Tested}
 use Rattle.packet.specs.declared.Tested.the-variants.{Passed, Refused}
 use Rattle.packet.specs.Lowest.{lowest}
-use Rattle.packet.specs.Refusals.{refusedAt, atPlace, atZero}
-use Rattle.packet.specs.Sizes.{product, counted, fieldsStage, productStage, LegalSizes}
-use Rattle.packet.proofs.Legal.{passed-legal}
+use Rattle.packet.specs.Refusals.{refusedAt}
+use Rattle.packet.specs.Sizes.{product, counted, LegalSizes}
 use Rattle.packet.proofs.Lowest.{lowest-none, none-lowest, lowest-more, lowest-found}
-use Rattle.packet.proofs.Stages.{firstOf-last, firstOf-refused, firstOf-next, firstOf-passed, refusedAt-passed, atPlace-none}
-use Rattle.policy.specs.declared.legality.PairAnswer.the-variants.{Legal as LegalPair, Refused as PairRefused}
-use Rattle.policy.specs.Answers.{sided, pairTests, pairAnswer, pairStage}
-use Rattle.policy.specs.Each.{Each}
+use Rattle.packet.proofs.Stages.{firstOf-last, firstOf-refused, firstOf-next, firstOf-passed, refusedAt-passed}
+use Rattle.policy.specs.Answers.{pairTests}
 use Rattle.policy.specs.Legality.{Legal}
 use Rattle.policy.specs.NodeLists.{NodeLists}
-use Rattle.policy.proofs.LegalityLaws.{stage-passes}
-use Rattle.rows.specs.Lent.{listsStage, rowsMisfit}
+use Rattle.rows.specs.Lent as rows
+use Rattle.rows.specs.Lent.{listsStage}
+use Rattle.rows.proofs.Testing as rows-laws
+use Rattle.rows.proofs.Testing.{tests-passed, lists-passed, work-passes}
 use Rattle.traces.specs.Checking.{badPacket, packetsStage, lentTests, traceTests}
 
 -- ---- cause 13, as a loop over the trace finds it
@@ -68,42 +67,10 @@ module _ (N α : ℕ) (trace : List ℕ) where
 
 -- ---- causes 1 to 10
 
-pair-passed : (t : Tested) (d e m n : ℕ) → pairAnswer t d e ≡ LegalPair m n → t ≡ Passed
-unfolding pairAnswer
-pair-passed Passed d e m n q = refl
-pair-passed (Refused r) d e m n q = absurd (true≢false (cc))
-
-pair-refused : (t : Tested) (d e : ℕ) (r : Refusal) → pairAnswer t d e ≡ PairRefused r → t ≡ Refused r
-unfolding pairAnswer
-pair-refused Passed d e r q = absurd (true≢false (cc))
-pair-refused (Refused p) d e r q = cc
-
-pub refused-counted : (t : Tested) (n : ℕ) (r : Refusal) → t ≡ Refused r → NotCounted r ≡ counted t n
-unfolding counted
-refused-counted t n r e = sym (ap (λ (u : Tested). counted u n) e)
-
-pub passed-counted : (t : Tested) (n m : ℕ) → t ≡ Passed → m ≡ n → Packets m ≡ counted t n
-unfolding counted
-passed-counted t n m e q = ap Packets q ∙ sym (ap (λ (u : Tested). counted u n) e)
-
 module _ (sizes : List ℕ) (L R : NodeLists) (words : ℕ) where
-  pub fields-refused : (r : Refusal) → fieldsStage sizes ≡ Refused r → lentTests sizes L R words ≡ Refused r
+  pub tests-made : {stage : Tested} {found : Counted} → stage ≡ listsStage [] words → found ≡ counted (rows.lentTests sizes L R stage) (product sizes) → found ≡ counted (lentTests sizes L R words) (product sizes)
   unfolding lentTests
-  fields-refused r e = firstOf-refused _ _ r e
-
-  module _ (f : fieldsStage sizes ≡ Passed) where
-    pub product-refused : (r : Refusal) → productStage sizes ≡ Refused r → lentTests sizes L R words ≡ Refused r
-    unfolding lentTests
-    product-refused r e = firstOf-next _ _ f ∙ firstOf-refused _ _ r e
-
-    module _ (p : productStage sizes ≡ Passed) where
-      pub policies-refused : (r : Refusal) → pairStage sizes L R ≡ PairRefused r → lentTests sizes L R words ≡ Refused r
-      unfolding lentTests pairStage
-      policies-refused r e = firstOf-next _ _ f ∙ firstOf-next _ _ p ∙ firstOf-refused _ _ r (pair-refused _ _ _ r e)
-
-      pub lists-tested : (m n : ℕ) → pairStage sizes L R ≡ LegalPair m n → lentTests sizes L R words ≡ listsStage [] words
-      unfolding lentTests pairStage
-      lists-tested m n e = firstOf-next _ _ f ∙ firstOf-next _ _ p ∙ firstOf-next _ _ (pair-passed _ _ _ m n e) ∙ firstOf-last _
+  tests-made e f = f ∙ ap (λ (t : Tested). counted (rows.lentTests sizes L R t) (product sizes)) e
 
   -- what holds where they pass
   pub record Lent : Type 0 where
@@ -113,27 +80,15 @@ module _ (sizes : List ℕ) (L R : NodeLists) (words : ℕ) where
     pub long : 16384 ≤ words
 
   pub lent-passed : lentTests sizes L R words ≡ Passed → Lent
-  unfolding lentTests listsStage rowsMisfit Each sided
+  unfolding lentTests
   lent-passed e =
-      let f = firstOf-passed _ _ e in
-      let p = firstOf-passed _ _ (f .1) in
-      let q = firstOf-passed _ _ (p .1) in
-      let g = stage-passes sizes (sided 1 L ∷ sided 2 R ∷ []) .0 (q .0) in
-      record {
-        legal-sizes = passed-legal sizes (f .0) (p .0);
-        left-legal = g .0;
-        right-legal = g .1 .0;
-        long = ltb-false words 16384 (atPlace-none 0 _ (refusedAt-passed 10 0 _ (firstOf-passed _ _ (q .1) .0)));
-      }
+      let h = tests-passed sizes L R _ e in
+      record { legal-sizes = h .legal-sizes; left-legal = h .left-legal; right-legal = h .right-legal; long = lists-passed [] words (h .passed) .1 }
 
   -- two policies that causes 1 to 9 let pass, and a work list that is long enough
   pub pair-lent : pairTests sizes L R ≡ Passed → 16384 ≤ words → lentTests sizes L R words ≡ Passed
-  unfolding pairTests lentTests listsStage rowsMisfit refusedAt atPlace
-  pair-lent e h =
-      let f = firstOf-passed _ _ e in
-      let p = firstOf-passed _ _ (f .1) in
-      let q = firstOf-passed _ _ (p .1) in
-      firstOf-next _ _ (f .0) ∙ firstOf-next _ _ (p .0) ∙ firstOf-next _ _ (q .0) ∙ firstOf-last _ ∙ ap (λ (b : Bool). refusedAt 10 0 (atZero b)) (le-ltb words 16384 h)
+  unfolding lentTests
+  pair-lent e h = rows-laws.pair-lent sizes L R (listsStage [] words) e (work-passes words h)
 
   -- ---- then 13
 

@@ -10,14 +10,14 @@ use Rattle.packet.specs.declared.Tested.{Tested}
 use Rattle.packet.specs.declared.Tested.the-variants.{Passed, Refused}
 use Rattle.packet.specs.Lowest.{lowest}
 use Rattle.packet.specs.Refusals.{refusedAt, firstOf}
-use Rattle.packet.specs.Sizes.{product, fieldsStage, productStage, LegalSizes}
-use Rattle.policy.specs.Answers.{sided}
-use Rattle.policy.specs.Legality.{Legal, policiesStage}
+use Rattle.packet.specs.Sizes.{product, LegalSizes}
+use Rattle.policy.specs.Legality.{Legal}
 use Rattle.policy.specs.Meaning.{numbered, Traces}
 use Rattle.policy.specs.NodeLists.{NodeLists, nodeCount, dupsBelow, policyOf}
 use Rattle.automaton.specs.State.{hasTrace}
 use Rattle.pair.specs.Sides.{left, right, policies}
 use Rattle.pair.specs.TraceCheck.{TraceAnswer, only, both, neither, has, traceAnswer}
+use Rattle.rows.specs.Lent as rows
 use Rattle.rows.specs.Lent.{listsStage}
 use Rattle.traces.specs.declared.TraceChecked.{TraceChecked}
 use Rattle.traces.specs.declared.TraceChecked.the-variants.{Left, Right, Both, Neither, Refused as CheckRefused}
@@ -50,7 +50,7 @@ zeroUnless (Refused r) work = work
 module _ (sizes : List ℕ) (L R : NodeLists) where
   -- the tests on what else is lent, with a work list of so many words: causes 1 to 10
   unfoldable pub lentTests : ℕ → Tested
-  lentTests words = firstOf (fieldsStage sizes ∷ productStage sizes ∷ policiesStage sizes (sided 1 L ∷ sided 2 R ∷ []) ∷ listsStage [] words ∷ [])
+  lentTests words = rows.lentTests sizes L R (listsStage [] words)
 
   -- the order of causes: 1 to 10, then 13
   unfoldable pub traceTests : ℕ → List ℕ → ℕ → Tested

@@ -11,7 +11,6 @@ use packet::Counted;
 use packet::Place;
 use packet::Refusal;
 use packet::Tested;
-use policy::legality::PairAnswer;
 
 // The answer on a trace: which of the two policies have it, or the first cause that refuses.
 pub enum TraceChecked {
@@ -53,27 +52,16 @@ fn lent_stage(
 ) -> Counted
     ensures { λ r. ⌜ r ≡ counted (lentTests (now (sizes .entry)) (asLists (now («left_kind» .entry)) (now («left_first» .entry)) (now («left_second» .entry))) (asLists (now («right_kind» .entry)) (now («right_first» .entry)) (now («right_second» .entry))) work) (product (now (sizes .entry))) ⌝ }
 {
-    match packet::fields_stage(sizes) {
-        Tested::Refused(r) => Counted::Refused(r),
-        Tested::Passed => match packet::packet_count(sizes) {
-            Counted::Refused(r) => Counted::Refused(r),
-            Counted::Packets(n) => match policy::legality::pair_stage(
-                sizes,
-                left_kind,
-                left_first,
-                left_second,
-                right_kind,
-                right_first,
-                right_second,
-            ) {
-                PairAnswer::Refused(r) => Counted::Refused(r),
-                PairAnswer::Legal(_, _) => match rows::work_list(work) {
-                    Tested::Refused(r) => Counted::Refused(r),
-                    Tested::Passed => Counted::Packets(n),
-                },
-            },
-        },
-    }
+    rows::lent_tests(
+        sizes,
+        left_kind,
+        left_first,
+        left_second,
+        right_kind,
+        right_first,
+        right_second,
+        rows::work_list(work),
+    )
 }
 
 fn wide(x: u16) -> usize

@@ -1,80 +1,17 @@
--- `traces::lent_stage` meets its contract: each way out is one outcome of the tests. Assumes nothing.
+-- `traces::lent_stage` meets its contract. Assumes nothing.
 use borrow.Author.Needs.{needs}
-use mathlib.Core.Path.{sym, _∙_}
-use Rattle.packet.proofs.Sizes.{count-packets, count-refused}
-use Rattle.traces.proofs.Testing.{refused-counted, passed-counted, fields-refused, product-refused, policies-refused, lists-tested}
+use Rattle.traces.proofs.Testing.{tests-made}
 use Rattle.traces.proofs.lent_stage.Statement.{statement}
 use Rattle.traces.proofs.lent_stage.Tie as tie
-
-fields-stage-requires : tie.Need-fields-stage-requires
-fields-stage-requires c κs = search needs
-
-enum-known-r : tie.Need-enum-known-r
-enum-known-r c = search needs
-
-enum-told : tie.Need-enum-told
-enum-told c = search needs
-
-packet-count-requires : tie.Need-packet-count-requires
-packet-count-requires c κs = search needs
-
-enum-known-r-2 : tie.Need-enum-known-r-2
-enum-known-r-2 c = search needs
-
-enum-known-n : tie.Need-enum-known-n
-enum-known-n c = search needs
-
-pair-stage-requires : tie.Need-pair-stage-requires
-pair-stage-requires c κs = search needs
-
-enum-known-r-3 : tie.Need-enum-known-r-3
-enum-known-r-3 c = search needs
-
-enum-told-2 : tie.Need-enum-told-2
-enum-told-2 c = search needs
 
 work-list-requires : tie.Need-work-list-requires
 work-list-requires c κs = search needs
 
-enum-known-r-4 : tie.Need-enum-known-r-4
-enum-known-r-4 c = search needs
-
-enum-told-3 : tie.Need-enum-told-3
-enum-told-3 c = search needs
+lent-tests-requires : tie.Need-lent-tests-requires
+lent-tests-requires c κs = search needs
 
 returns : tie.Need-returns
-returns c = refused-counted _ _ _ (fields-refused _ _ _ _ _ (sym (c .before .before .before .fields-stage .ensures) ∙ c .before .r .given .1))
-
-returns-2 : tie.Need-returns-2
-returns-2 c = refused-counted _ _ _ (product-refused _ _ _ _ (sym (c .before .before .before .before .before .before .fields-stage .ensures) ∙ c .before .before .before .before .enum-told .given .1) _ (count-refused _ _ (sym (c .before .before .before .packet-count .ensures) ∙ c .before .r2 .given .1)))
-
-returns-3 : tie.Need-returns-3
-returns-3 c = refused-counted _ _ _ (policies-refused _ _ _ _ (sym (c .before .before .before .before .before .before .before .before .before .before .fields-stage .ensures) ∙ c .before .before .before .before .before .before .before .before .enum-told .given .1) (count-packets _ _ (sym (c .before .before .before .before .before .before .before .packet-count .ensures) ∙ c .before .before .before .before .before .n .given .1) .0) _ (sym (c .before .before .before .pair-stage .ensures) ∙ c .before .r3 .given .1))
-
-returns-4 : tie.Need-returns-4
-returns-4 c = refused-counted _ _ _ (lists-tested _ _ _ _ (sym (c .before .before .before .before .before .before .before .before .before .before .before .before .before .fields-stage .ensures) ∙ c .before .before .before .before .before .before .before .before .before .before .before .enum-told .given .1) (count-packets _ _ (sym (c .before .before .before .before .before .before .before .before .before .before .packet-count .ensures) ∙ c .before .before .before .before .before .before .before .before .n .given .1) .0) _ _ (sym (c .before .before .before .before .before .before .pair-stage .ensures) ∙ c .before .before .before .before .enum-told2 .given .1) ∙ sym (c .before .before .before .work-list .ensures) ∙ c .before .r4 .given .1)
-
-returns-5 : tie.Need-returns-5
-returns-5 c = let count = count-packets _ _ (sym (c .before .before .before .before .before .before .before .before .before .packet-count .ensures) ∙ c .before .before .before .before .before .before .before .n .given .1) in passed-counted _ _ _ (lists-tested _ _ _ _ (sym (c .before .before .before .before .before .before .before .before .before .before .before .before .fields-stage .ensures) ∙ c .before .before .before .before .before .before .before .before .before .before .enum-told .given .1) (count .0) _ _ (sym (c .before .before .before .before .before .pair-stage .ensures) ∙ c .before .before .before .enum-told2 .given .1) ∙ sym (c .before .before .work-list .ensures) ∙ c .enum-told3 .given .1) (count .1)
+returns c = tests-made _ _ _ _ (c .before .work-list .ensures) (c .lent-tests .ensures)
 
 pub lent-stage-spec : {M : Type 1} → statement M
-lent-stage-spec =
-    tie.close
-    (tie.spec
-    fields-stage-requires
-    enum-known-r
-    enum-told
-    packet-count-requires
-    enum-known-r-2
-    enum-known-n
-    pair-stage-requires
-    enum-known-r-3
-    enum-told-2
-    work-list-requires
-    enum-known-r-4
-    enum-told-3
-    returns
-    returns-2
-    returns-3
-    returns-4
-    returns-5)
+lent-stage-spec = tie.close (tie.spec work-list-requires lent-tests-requires returns)
