@@ -23,8 +23,9 @@
  *   11 rows full: rows lent                 12 trace list short: length needed 13 packet or value out of range
  *   14 no token, or bad word: byte          15 over 64 open parentheses: byte  16 no legal text goes on so: byte
  *   17 too many nodes: nodes needed
- * The lowest number that applies is the answer. Except for 11 and 12, a refusal of 1 to 17 leaves every list as it was;
- * after 11, 12 and a trace checker's 13 the work list is all 0.
+ * Causes are tested in the order of their numbers, each over the whole input before the next, 4 to 9 on the left policy and
+ * then on the right. A refusal leaves every list as it was, but for what 11 and 12 leave in the row lists and that the
+ * work list is all 0 whenever 10 has passed.
  *
  * Stack. A call needs up to 4 MiB of stack. Calls share no state: any number may run at once. */
 #ifndef NETKAT_H
@@ -83,8 +84,8 @@ void netkat_read(const uint8_t *text, size_t text_length,
  *   0, rows                        equal: the row lists hold so many rows, a table that netkat_evidence accepts
  *   1 or 2, length, entering       the left or the right policy alone has the trace of this length from the entering
  *                                  packet, which stands first in `trace`; no shorter trace tells the two apart
- * or refuses by 1 to 12. The row lists (packet, left, right, parent) then hold the rows listed so far, of 11 the first rows that
- * fit. Past refusal 10 the work list is all 0. */
+ * or refuses by 1 to 12. Once 10 has passed, the row lists (packet, left, right, parent) hold the rows listed so far, of 11 the
+ * first rows that fit, and the work list is all 0. */
 void netkat_search(const uint16_t *sizes, size_t sizes_length,
                    const uint8_t *left_kind, size_t left_kind_length,
                    const uint16_t *left_first, size_t left_first_length,
@@ -106,7 +107,7 @@ void netkat_search(const uint16_t *sizes, size_t sizes_length,
  *   5, 2, packet                   (b): the starting row (packet, 1, 1) is missing
  *   5, 3, row                      (c): the outputs of the row differ
  *   5, 4, row, packet              (d): the row's next row at the packet is missing
- * or refuses by 1 to 10. Past refusal 10 the work list is all 0. */
+ * or refuses by 1 to 10. Once 10 has passed, the work list is all 0. */
 void netkat_evidence(const uint16_t *sizes, size_t sizes_length,
                      const uint8_t *left_kind, size_t left_kind_length,
                      const uint16_t *left_first, size_t left_first_length,
@@ -121,7 +122,7 @@ void netkat_evidence(const uint16_t *sizes, size_t sizes_length,
                      uint64_t *answer);
 
 /* Which of two policies has a trace from the entering packet? Answers 1 left, 2 right, 3 both, 4 neither; or refuses by 1 to 10,
- * 13. A trace of length 0 is neither's. Past refusal 10 the work list is all 0. */
+ * 13. A trace of length 0 is neither's. Once 10 has passed, the work list is all 0. */
 void netkat_trace(const uint16_t *sizes, size_t sizes_length,
                   const uint8_t *left_kind, size_t left_kind_length,
                   const uint16_t *left_first, size_t left_first_length,
