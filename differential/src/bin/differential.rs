@@ -19,8 +19,6 @@ use netkat_reference::random::Random;
 use netkat_reference::search::{Lists, LEAST_WORK, MOST_ROWS};
 use netkat_reference::text;
 
-mod library;
-
 /// Disagreements that are printed whole.
 const MOST_SHOWN: usize = 20;
 
@@ -70,7 +68,7 @@ fn kind(answer: Numbers) -> String {
 impl Tally {
     fn compare(&mut self, origin: &str, before: &Case) {
         let mut here = before.clone();
-        let Some(answer) = library::run(&mut here) else {
+        let Some(answer) = differential::run(&mut here) else {
             *self.skipped.entry(before.name()).or_default() += 1;
             return;
         };
