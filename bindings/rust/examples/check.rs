@@ -1,0 +1,64 @@
+//! Two checks: one that ends in equal, whose table is then checked, and one that ends in a telling trace.
+
+use std::error::Error;
+
+use netkat::{Checker, Holders, Policy, Rows, Ruling, Side, Verdict};
+
+fn check(left_text: &str, right_text: &str) -> Result<(), Box<dyn Error>> {
+    let left = Policy::read(left_text.as_bytes())?;
+    let right = Policy::read(right_text.as_bytes())?;
+    let mut checker = Checker::new(&[2]);
+
+    println!("{left_text} against {right_text}");
+    match checker.search(&left, &right, 4096)? {
+        Verdict::Equal(rows) => {
+            println!("  equal, {} rows", rows.packet.len());
+            for ((packet, left), right) in rows.packet.iter().zip(&rows.left).zip(&rows.right) {
+                println!("  {packet} {left} {right}");
+            }
+            let empty = Rows {
+                packet: Vec::new(),
+                left: Vec::new(),
+                right: Vec::new(),
+            };
+            println!("  table {}", said(checker.evidence(&left, &right, &rows)?));
+            println!(
+                "  empty table {}",
+                said(checker.evidence(&left, &right, &empty)?)
+            );
+        }
+        Verdict::Different {
+            side,
+            entering,
+            trace,
+        } => {
+            let packets: Vec<String> = trace.iter().map(u16::to_string).collect();
+            let side = match side {
+                Side::Left => "left",
+                Side::Right => "right",
+            };
+            println!("  {side}, entering {entering}, trace {}", packets.join(" "));
+            match checker.trace(&left, &right, entering, &trace)? {
+                Holders::Only(Side::Left) => println!("  the trace is left's alone"),
+                Holders::Only(Side::Right) => println!("  the trace is right's alone"),
+                Holders::Both | Holders::Neither => println!("  the trace is not one policy's"),
+            }
+        }
+    }
+    Ok(())
+}
+
+fn said(ruling: Ruling) -> &'static str {
+    match ruling {
+        Ruling::Accepted => "accepted",
+        Ruling::OutOfRange(_) => "rejected by rule 1",
+        Ruling::NoStart(_) => "rejected by rule 2",
+        Ruling::OutputsDiffer(_) => "rejected by rule 3",
+        Ruling::NextMissing(_, _) => "rejected by rule 4",
+    }
+}
+
+fn main() -> Result<(), Box<dyn Error>> {
+    check("f0=0;dup", "dup;f0=0")?;
+    check("dup", "dup;dup")
+}

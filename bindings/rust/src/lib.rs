@@ -1,0 +1,313 @@
+//! NetKAT policy equivalence: a safe wrapper of the verified library.
+//!
+//! ```
+//! use netkat::{Checker, Policy, Verdict};
+//!
+//! let one = Policy::read(b"f0=0;dup")?;
+//! let other = Policy::read(b"dup;f0=0")?;
+//! let mut checker = Checker::new(&[2]);
+//! if let Verdict::Equal(rows) = checker.search(&one, &other, 4096)? {
+//!     assert_eq!(checker.evidence(&one, &other, &rows)?, netkat::Ruling::Accepted);
+//! }
+//! # Ok::<(), netkat::Refusal>(())
+//! ```
+//!
+//! [`Checker`] and [`Policy`] own their lists and give typed answers; [`lists`] lends slices of any lengths and gives the eight
+//! numbers of the C interface; [`raw`] is that interface itself. A call needs up to 4 MiB of stack: a thread that makes
+//! calls is started with at least [`STACK`].
+
+#![warn(missing_docs)]
+
+use std::error::Error;
+use std::fmt;
+
+pub mod lists;
+pub mod raw;
+
+use lists::{Columns, Lent, Nodes, Numbers};
+
+/// Most nodes of a policy.
+pub const MOST_NODES: usize = 512;
+/// Most rows of a table.
+pub const MOST_ROWS: usize = 65_535;
+/// Least length of a work list.
+pub const LEAST_WORK: usize = 16_384;
+/// Stack, in bytes, that a call may need.
+pub const STACK: usize = 4 << 20;
+
+/// One of the two policies.
+#[derive(Clone, Copy, Debug, PartialEq, Eq)]
+pub enum Side {
+    /// The first.
+    Left,
+    /// The second.
+    Right,
+}
+
+/// Why a call gives no result; `include/netkat.h` lists the numbers.
+#[derive(Clone, Copy, Debug, PartialEq, Eq)]
+pub struct Refusal {
+    /// The cause, 1 to 17.
+    pub number: u64,
+    /// The policy it concerns, if it names one.
+    pub side: Option<Side>,
+    /// Field, node, byte, row or length, as the cause says.
+    pub place: u64,
+}
+
+impl fmt::Display for Refusal {
+    fn fmt(&self, f: &mut fmt::Formatter) -> fmt::Result {
+        let side = match self.side {
+            None => "",
+            Some(Side::Left) => " on the left",
+            Some(Side::Right) => " on the right",
+        };
+        write!(f, "refused by {}{side}, place {}", self.number, self.place)
+    }
+}
+
+impl Error for Refusal {}
+
+/// The numbers of an answer that is no refusal.
+fn accepted(answer: Numbers) -> Result<Numbers, Refusal> {
+    let [9, number, side, place, ..] = answer else {
+        return Ok(answer);
+    };
+    let side = match side {
+        1 => Some(Side::Left),
+        2 => Some(Side::Right),
+        _ => None,
+    };
+    Err(Refusal {
+        number,
+        side,
+        place,
+    })
+}
+
+/// For numbers that the library is proved not to answer.
+fn not_answered(answer: Numbers) -> ! {
+    unreachable!("the library answers no {answer:?}")
+}
+
+/// A policy as node lists; they are tested by each call that takes them.
+#[derive(Clone, Debug, PartialEq, Eq)]
+pub struct Policy {
+    /// Kinds: 0 drop, 1 id, 2 f = v, 3 f ≠ v, 4 f ← v, 5 dup, 6 sum, 7 sequence, 8 star.
+    pub kind: Vec<u8>,
+    /// Field or first child.
+    pub first: Vec<u16>,
+    /// Value or second child.
+    pub second: Vec<u16>,
+}
+
+impl Policy {
+    /// Reads a text, as `f0=0;(dup+f1<-2)*`. Refused by 14 to 17.
+    pub fn read(text: &[u8]) -> Result<Policy, Refusal> {
+        let mut policy = Policy {
+            kind: vec![0; MOST_NODES],
+            first: vec![0; MOST_NODES],
+            second: vec![0; MOST_NODES],
+        };
+        let Policy {
+            kind,
+            first,
+            second,
+        } = &mut policy;
+        let nodes = accepted(lists::read(text, kind, first, second))?[1] as usize;
+        kind.truncate(nodes);
+        first.truncate(nodes);
+        second.truncate(nodes);
+        Ok(policy)
+    }
+
+    fn nodes(&self) -> Nodes<'_> {
+        Nodes {
+            kind: &self.kind,
+            first: &self.first,
+            second: &self.second,
+        }
+    }
+}
+
+/// A table of rows.
+#[derive(Clone, Debug, PartialEq, Eq)]
+pub struct Rows {
+    /// Packets.
+    pub packet: Vec<u16>,
+    /// Left states.
+    pub left: Vec<u32>,
+    /// Right states.
+    pub right: Vec<u32>,
+}
+
+/// What a search found.
+#[derive(Clone, Debug, PartialEq, Eq)]
+pub enum Verdict {
+    /// Same traces from every packet; the rows show it.
+    Equal(Rows),
+    /// Exactly one policy has the trace; no shorter one tells them apart.
+    Different {
+        /// The policy that has it.
+        side: Side,
+        /// The packet it starts from.
+        entering: u16,
+        /// The trace, oldest packet first.
+        trace: Vec<u16>,
+    },
+}
+
+/// What the evidence checker says of a table.
+#[derive(Clone, Copy, Debug, PartialEq, Eq)]
+pub enum Ruling {
+    /// The policies have the same traces from every packet.
+    Accepted,
+    /// Rule (a): this row has a packet or a state out of range.
+    OutOfRange(u16),
+    /// Rule (b): the starting row of this packet is missing.
+    NoStart(u16),
+    /// Rule (c): the outputs of this row differ.
+    OutputsDiffer(u16),
+    /// Rule (d): of this row, the next row at this packet is missing.
+    NextMissing(u16, u16),
+}
+
+/// Which policies have a trace.
+#[derive(Clone, Copy, Debug, PartialEq, Eq)]
+pub enum Holders {
+    /// One alone.
+    Only(Side),
+    /// Both.
+    Both,
+    /// None.
+    Neither,
+}
+
+/// Calls over fields of given sizes, with a work list that serves them all.
+#[derive(Clone, Debug)]
+pub struct Checker {
+    sizes: Vec<u16>,
+    work: Vec<u32>,
+}
+
+impl Checker {
+    /// Fields of these sizes, which each call tests.
+    pub fn new(sizes: &[u16]) -> Checker {
+        Checker {
+            sizes: sizes.to_vec(),
+            work: vec![0; LEAST_WORK],
+        }
+    }
+
+    /// The values of a packet's fields. Refused by 1 to 3, 13.
+    pub fn values(&self, number: u16) -> Result<Vec<u16>, Refusal> {
+        let mut values = vec![0; self.sizes.len()];
+        accepted(lists::values(&self.sizes, number, &mut values))?;
+        Ok(values)
+    }
+
+    /// The number of the packet with these values. Refused by 1 to 3, 13.
+    pub fn number(&self, values: &[u16]) -> Result<u16, Refusal> {
+        Ok(accepted(lists::number(&self.sizes, values))?[1] as u16)
+    }
+
+    /// The number of dups of a policy. Refused by 1 to 9.
+    pub fn dups(&self, policy: &Policy) -> Result<u8, Refusal> {
+        Ok(accepted(lists::policy(&self.sizes, policy.nodes()))?[1] as u8)
+    }
+
+    /// Have two policies the same traces from every packet? The search lists at most so many rows; if it needs more, it is
+    /// refused by 11. Refused by 1 to 11.
+    pub fn search(
+        &mut self,
+        left: &Policy,
+        right: &Policy,
+        most_rows: usize,
+    ) -> Result<Verdict, Refusal> {
+        let mut rows = Rows {
+            packet: vec![0; most_rows],
+            left: vec![0; most_rows],
+            right: vec![0; most_rows],
+        };
+        // a trace is no longer than there are rows, so 12 does not come
+        let (mut parent, mut trace) = (vec![0; most_rows], vec![0; most_rows]);
+        let lent = Lent {
+            packet: &mut rows.packet,
+            left: &mut rows.left,
+            right: &mut rows.right,
+            parent: &mut parent,
+            trace: &mut trace,
+            work: &mut self.work,
+        };
+        let answer = lists::search(&self.sizes, left.nodes(), right.nodes(), lent);
+        let different = |side, length, entering| {
+            trace.truncate(length as usize);
+            Verdict::Different {
+                side,
+                entering: entering as u16,
+                trace,
+            }
+        };
+        match accepted(answer)? {
+            [0, listed, ..] => {
+                rows.packet.truncate(listed as usize);
+                rows.left.truncate(listed as usize);
+                rows.right.truncate(listed as usize);
+                Ok(Verdict::Equal(rows))
+            }
+            [1, length, entering, ..] => Ok(different(Side::Left, length, entering)),
+            [2, length, entering, ..] => Ok(different(Side::Right, length, entering)),
+            other => not_answered(other),
+        }
+    }
+
+    /// Does a table, whoever made it, show that two policies are equal? Refused by 1 to 10.
+    pub fn evidence(
+        &mut self,
+        left: &Policy,
+        right: &Policy,
+        rows: &Rows,
+    ) -> Result<Ruling, Refusal> {
+        let columns = Columns {
+            packet: &rows.packet,
+            left: &rows.left,
+            right: &rows.right,
+        };
+        let work = &mut self.work;
+        let answer = lists::evidence(&self.sizes, left.nodes(), right.nodes(), columns, work);
+        match accepted(answer)? {
+            [0, ..] => Ok(Ruling::Accepted),
+            [5, 1, row, ..] => Ok(Ruling::OutOfRange(row as u16)),
+            [5, 2, packet, ..] => Ok(Ruling::NoStart(packet as u16)),
+            [5, 3, row, ..] => Ok(Ruling::OutputsDiffer(row as u16)),
+            [5, 4, row, packet, ..] => Ok(Ruling::NextMissing(row as u16, packet as u16)),
+            other => not_answered(other),
+        }
+    }
+
+    /// Which of two policies has a trace from the entering packet? Refused by 1 to 10, 13.
+    pub fn trace(
+        &mut self,
+        left: &Policy,
+        right: &Policy,
+        entering: u16,
+        trace: &[u16],
+    ) -> Result<Holders, Refusal> {
+        let work = &mut self.work;
+        let (left, right) = (left.nodes(), right.nodes());
+        match accepted(lists::trace(
+            &self.sizes,
+            left,
+            right,
+            entering,
+            trace,
+            work,
+        ))? {
+            [1, ..] => Ok(Holders::Only(Side::Left)),
+            [2, ..] => Ok(Holders::Only(Side::Right)),
+            [3, ..] => Ok(Holders::Both),
+            [4, ..] => Ok(Holders::Neither),
+            other => not_answered(other),
+        }
+    }
+}

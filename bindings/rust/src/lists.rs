@@ -1,0 +1,237 @@
+//! The C interface over slices: each call with its lists lent as they are, its answer as the eight numbers.
+//!
+//! The signatures keep what the C interface asks: slices point to their entries, and no slice that is lent for writing
+//! overlaps another. Every length and every content is allowed.
+
+use crate::raw;
+
+/// An answer's eight numbers, as `include/netkat.h` says.
+pub type Numbers = [u64; 8];
+
+/// The three lists of a policy, of any lengths and contents.
+#[derive(Clone, Copy, Debug)]
+pub struct Nodes<'a> {
+    /// Kinds.
+    pub kind: &'a [u8],
+    /// Field or first child.
+    pub first: &'a [u16],
+    /// Value or second child.
+    pub second: &'a [u16],
+}
+
+/// The lists lent to a search, of any lengths and contents.
+#[derive(Debug)]
+pub struct Lent<'a> {
+    /// Packets of the rows.
+    pub packet: &'a mut [u16],
+    /// Left states of the rows.
+    pub left: &'a mut [u32],
+    /// Right states of the rows.
+    pub right: &'a mut [u32],
+    /// Parents of the rows.
+    pub parent: &'a mut [u16],
+    /// For the telling trace.
+    pub trace: &'a mut [u16],
+    /// All 0 once refusal 10 has passed.
+    pub work: &'a mut [u32],
+}
+
+/// The columns of a table, of any lengths and contents.
+#[derive(Clone, Copy, Debug)]
+pub struct Columns<'a> {
+    /// Packets of the rows.
+    pub packet: &'a [u16],
+    /// Left states of the rows.
+    pub left: &'a [u32],
+    /// Right states of the rows.
+    pub right: &'a [u32],
+}
+
+/// A packet's number turned into values.
+pub fn values(sizes: &[u16], number: u16, values: &mut [u16]) -> Numbers {
+    let mut answer = [0; 8];
+    // SAFETY: the slices and the answer are valid for the call, and those written overlap no other.
+    unsafe {
+        raw::netkat_values(
+            sizes.as_ptr(),
+            sizes.len(),
+            number,
+            values.as_mut_ptr(),
+            values.len(),
+            answer.as_mut_ptr(),
+        );
+    }
+    answer
+}
+
+/// Values turned into a packet's number.
+pub fn number(sizes: &[u16], values: &[u16]) -> Numbers {
+    let mut answer = [0; 8];
+    // SAFETY: as in `values`.
+    unsafe {
+        raw::netkat_number(
+            sizes.as_ptr(),
+            sizes.len(),
+            values.as_ptr(),
+            values.len(),
+            answer.as_mut_ptr(),
+        );
+    }
+    answer
+}
+
+/// One policy tested.
+pub fn policy(sizes: &[u16], nodes: Nodes) -> Numbers {
+    let mut answer = [0; 8];
+    // SAFETY: as in `values`.
+    unsafe {
+        raw::netkat_policy(
+            sizes.as_ptr(),
+            sizes.len(),
+            nodes.kind.as_ptr(),
+            nodes.kind.len(),
+            nodes.first.as_ptr(),
+            nodes.first.len(),
+            nodes.second.as_ptr(),
+            nodes.second.len(),
+            answer.as_mut_ptr(),
+        );
+    }
+    answer
+}
+
+/// One text read.
+pub fn read(text: &[u8], kind: &mut [u8], first: &mut [u16], second: &mut [u16]) -> Numbers {
+    let mut answer = [0; 8];
+    // SAFETY: as in `values`.
+    unsafe {
+        raw::netkat_read(
+            text.as_ptr(),
+            text.len(),
+            kind.as_mut_ptr(),
+            kind.len(),
+            first.as_mut_ptr(),
+            first.len(),
+            second.as_mut_ptr(),
+            second.len(),
+            answer.as_mut_ptr(),
+        );
+    }
+    answer
+}
+
+/// Two policies searched.
+pub fn search(sizes: &[u16], left: Nodes, right: Nodes, lent: Lent) -> Numbers {
+    let mut answer = [0; 8];
+    // SAFETY: as in `values`.
+    unsafe {
+        raw::netkat_search(
+            sizes.as_ptr(),
+            sizes.len(),
+            left.kind.as_ptr(),
+            left.kind.len(),
+            left.first.as_ptr(),
+            left.first.len(),
+            left.second.as_ptr(),
+            left.second.len(),
+            right.kind.as_ptr(),
+            right.kind.len(),
+            right.first.as_ptr(),
+            right.first.len(),
+            right.second.as_ptr(),
+            right.second.len(),
+            lent.packet.as_mut_ptr(),
+            lent.packet.len(),
+            lent.left.as_mut_ptr(),
+            lent.left.len(),
+            lent.right.as_mut_ptr(),
+            lent.right.len(),
+            lent.parent.as_mut_ptr(),
+            lent.parent.len(),
+            lent.trace.as_mut_ptr(),
+            lent.trace.len(),
+            lent.work.as_mut_ptr(),
+            lent.work.len(),
+            answer.as_mut_ptr(),
+        );
+    }
+    answer
+}
+
+/// A table checked.
+pub fn evidence(
+    sizes: &[u16],
+    left: Nodes,
+    right: Nodes,
+    rows: Columns,
+    work: &mut [u32],
+) -> Numbers {
+    let mut answer = [0; 8];
+    // SAFETY: as in `values`.
+    unsafe {
+        raw::netkat_evidence(
+            sizes.as_ptr(),
+            sizes.len(),
+            left.kind.as_ptr(),
+            left.kind.len(),
+            left.first.as_ptr(),
+            left.first.len(),
+            left.second.as_ptr(),
+            left.second.len(),
+            right.kind.as_ptr(),
+            right.kind.len(),
+            right.first.as_ptr(),
+            right.first.len(),
+            right.second.as_ptr(),
+            right.second.len(),
+            rows.packet.as_ptr(),
+            rows.packet.len(),
+            rows.left.as_ptr(),
+            rows.left.len(),
+            rows.right.as_ptr(),
+            rows.right.len(),
+            work.as_mut_ptr(),
+            work.len(),
+            answer.as_mut_ptr(),
+        );
+    }
+    answer
+}
+
+/// A trace checked.
+pub fn trace(
+    sizes: &[u16],
+    left: Nodes,
+    right: Nodes,
+    entering: u16,
+    trace: &[u16],
+    work: &mut [u32],
+) -> Numbers {
+    let mut answer = [0; 8];
+    // SAFETY: as in `values`.
+    unsafe {
+        raw::netkat_trace(
+            sizes.as_ptr(),
+            sizes.len(),
+            left.kind.as_ptr(),
+            left.kind.len(),
+            left.first.as_ptr(),
+            left.first.len(),
+            left.second.as_ptr(),
+            left.second.len(),
+            right.kind.as_ptr(),
+            right.kind.len(),
+            right.first.as_ptr(),
+            right.first.len(),
+            right.second.as_ptr(),
+            right.second.len(),
+            entering,
+            trace.as_ptr(),
+            trace.len(),
+            work.as_mut_ptr(),
+            work.len(),
+            answer.as_mut_ptr(),
+        );
+    }
+    answer
+}

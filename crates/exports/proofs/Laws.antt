@@ -1,0 +1,32 @@
+-- From a call's promise and the numbers of what it answered to the promise of its export. Assumes nothing.
+use Prim.Native.Nat.{ℕ}
+use mathlib.Core.List.{List}
+use mathlib.Core.Path.{_≡_, ap, subst, _∙_}
+use Rattle.policy.specs.NodeLists.{NodeLists}
+use Rattle.text.specs.declared.Answer.{Answer}
+use Rattle.text.specs.Answer.{TextRead}
+use Rattle.search.specs.declared.Verdict.{Verdict}
+use Rattle.search.specs.Call.{Lent, Searched}
+use Rattle.evidence.specs.declared.Evidence.{Evidence}
+use Rattle.evidence.specs.Calls.{CheckedRows}
+use Rattle.traces.specs.declared.TraceChecked.{TraceChecked}
+use Rattle.traces.specs.Checking.{Checked}
+use Rattle.exports.specs.Numbers.{textNumbers, verdictNumbers, evidenceNumbers, traceNumbers}
+use Rattle.exports.specs.Promises.{ReadOut, SearchedOut, EvidenceOut, TraceOut}
+
+pub read-out : {text kind first second answer kind′ first′ second′ : List ℕ} {r : Answer} → TextRead text kind first second r kind′ first′ second′ → answer ≡ textNumbers r → ReadOut text kind first second answer kind′ first′ second′
+read-out {text} {kind} {first} {second} {answer} {kind′} {first′} {second′} {r} read n =
+    record { numbers = n ∙ ap textNumbers (read .answer); promised = subst (λ (v : Answer). TextRead text kind first second v kind′ first′ second′) (read .answer) read }
+
+module _ {sizes : List ℕ} {L R : NodeLists} where
+  pub searched-out : {x y : Lent} {answer : List ℕ} {r : Verdict} → Searched sizes L R x r y → answer ≡ verdictNumbers r → SearchedOut sizes L R x answer y
+  searched-out {x} {y} {answer} {r} done n =
+      record { numbers = n ∙ ap verdictNumbers (done .answers); promised = subst (λ (v : Verdict). Searched sizes L R x v y) (done .answers) done }
+
+  pub evidence-out : {packets lefts rights work answer work′ : List ℕ} {r : Evidence} → CheckedRows sizes L R packets lefts rights work r work′ → answer ≡ evidenceNumbers r → EvidenceOut sizes L R packets lefts rights work answer work′
+  evidence-out {packets} {lefts} {rights} {work} {answer} {work′} {r} done n =
+      record { numbers = n ∙ ap evidenceNumbers (done .answers); promised = subst (λ (v : Evidence). CheckedRows sizes L R packets lefts rights work v work′) (done .answers) done }
+
+  pub trace-out : {α : ℕ} {trace work answer work′ : List ℕ} {r : TraceChecked} → Checked sizes L R α trace work r work′ → answer ≡ traceNumbers r → TraceOut sizes L R α trace work answer work′
+  trace-out {α} {trace} {work} {answer} {work′} {r} done n =
+      record { numbers = n ∙ ap traceNumbers (done .answers); promised = subst (λ (v : TraceChecked). Checked sizes L R α trace work v work′) (done .answers) done }

@@ -1,0 +1,132 @@
+-- `vectors::pair`: the lists that it lends are within the lists read. Assumes nothing.
+use borrow.Author.Needs.{needs}
+use native.Mathlib.Omega.{arith}
+use mathlib.Core.Path.{sym}
+use lib.Seq.{length-take-le}
+use Rattle.vectors.proofs.pair.Statement.{statement}
+use Rattle.vectors.proofs.pair.Tie as tie
+
+slice-aggregate-fill16 : tie.Need-slice-aggregate-fill16
+slice-aggregate-fill16 c = search needs
+
+fill16-requires : tie.Need-fill16-requires
+fill16-requires c κs = search needs
+
+slice-aggregate-fill8 : tie.Need-slice-aggregate-fill8
+slice-aggregate-fill8 c = search needs
+
+fill8-requires : tie.Need-fill8-requires
+fill8-requires c κs = search needs
+
+slice-aggregate-fill16-2 : tie.Need-slice-aggregate-fill16-2
+slice-aggregate-fill16-2 c = search needs
+
+fill16-requires-2 : tie.Need-fill16-requires-2
+fill16-requires-2 c κs = search needs
+
+slice-aggregate-fill16-3 : tie.Need-slice-aggregate-fill16-3
+slice-aggregate-fill16-3 c = search needs
+
+fill16-requires-3 : tie.Need-fill16-requires-3
+fill16-requires-3 c κs = search needs
+
+slice-aggregate-fill8-2 : tie.Need-slice-aggregate-fill8-2
+slice-aggregate-fill8-2 c = search needs
+
+fill8-requires-2 : tie.Need-fill8-requires-2
+fill8-requires-2 c κs = search needs
+
+slice-aggregate-fill16-4 : tie.Need-slice-aggregate-fill16-4
+slice-aggregate-fill16-4 c = search needs
+
+fill16-requires-4 : tie.Need-fill16-requires-4
+fill16-requires-4 c κs = search needs
+
+slice-aggregate-fill16-5 : tie.Need-slice-aggregate-fill16-5
+slice-aggregate-fill16-5 c = search needs
+
+fill16-requires-5 : tie.Need-fill16-requires-5
+fill16-requires-5 c κs = search needs
+
+array-share-prefix-sizes : tie.Need-array-share-prefix-sizes
+array-share-prefix-sizes c = omega (arith, c .before .before .before .before .before .before .before .before .before .before .before .before .before .before .before .before .before .before .before .fill16 .ensures, c .before .before .before .before .before .before .before .before .before .before .before .before .before .before .before .before .before .before .before .fill16 .kept .1 .1 .0)
+
+slice-aggregate-of-pair : tie.Need-slice-aggregate-of-pair
+slice-aggregate-of-pair c = sym (length-take-le _ _ (omega (arith, c .before .before .before .before .before .before .before .before .before .before .before .before .before .before .before .before .before .before .before .before .fill16 .ensures, c .before .before .before .before .before .before .before .before .before .before .before .before .before .before .before .before .before .before .before .before .fill16 .kept .1 .1 .0)))
+
+array-share-prefix-left-kind : tie.Need-array-share-prefix-left-kind
+array-share-prefix-left-kind c = omega (arith, c .before .before .before .before .before .before .before .before .before .before .before .before .before .before .before .before .before .fill8 .ensures, c .before .before .before .before .before .before .before .before .before .before .before .before .before .before .before .before .before .fill8 .kept .1 .1 .0)
+
+slice-aggregate-of-pair-2 : tie.Need-slice-aggregate-of-pair-2
+slice-aggregate-of-pair-2 c = sym (length-take-le _ _ (omega (arith, c .before .before .before .before .before .before .before .before .before .before .before .before .before .before .before .before .before .before .fill8 .ensures, c .before .before .before .before .before .before .before .before .before .before .before .before .before .before .before .before .before .before .fill8 .kept .1 .1 .0)))
+
+array-share-prefix-left-first : tie.Need-array-share-prefix-left-first
+array-share-prefix-left-first c = omega (arith, c .before .before .before .before .before .before .before .before .before .before .before .before .before .before .before .fill162 .ensures, c .before .before .before .before .before .before .before .before .before .before .before .before .before .before .before .fill162 .kept .1 .1 .0)
+
+slice-aggregate-of-pair-3 : tie.Need-slice-aggregate-of-pair-3
+slice-aggregate-of-pair-3 c = sym (length-take-le _ _ (omega (arith, c .before .before .before .before .before .before .before .before .before .before .before .before .before .before .before .before .fill162 .ensures, c .before .before .before .before .before .before .before .before .before .before .before .before .before .before .before .before .fill162 .kept .1 .1 .0)))
+
+array-share-prefix-left-second : tie.Need-array-share-prefix-left-second
+array-share-prefix-left-second c = omega (arith, c .before .before .before .before .before .before .before .before .before .before .before .before .before .fill163 .ensures, c .before .before .before .before .before .before .before .before .before .before .before .before .before .fill163 .kept .1 .1 .0)
+
+slice-aggregate-of-pair-4 : tie.Need-slice-aggregate-of-pair-4
+slice-aggregate-of-pair-4 c = sym (length-take-le _ _ (omega (arith, c .before .before .before .before .before .before .before .before .before .before .before .before .before .before .fill163 .ensures, c .before .before .before .before .before .before .before .before .before .before .before .before .before .before .fill163 .kept .1 .1 .0)))
+
+array-share-prefix-right-kind : tie.Need-array-share-prefix-right-kind
+array-share-prefix-right-kind c = omega (arith, c .before .before .before .before .before .before .before .before .before .before .before .fill82 .ensures, c .before .before .before .before .before .before .before .before .before .before .before .fill82 .kept .1 .1 .0)
+
+slice-aggregate-of-pair-5 : tie.Need-slice-aggregate-of-pair-5
+slice-aggregate-of-pair-5 c = sym (length-take-le _ _ (omega (arith, c .before .before .before .before .before .before .before .before .before .before .before .before .fill82 .ensures, c .before .before .before .before .before .before .before .before .before .before .before .before .fill82 .kept .1 .1 .0)))
+
+array-share-prefix-right-first : tie.Need-array-share-prefix-right-first
+array-share-prefix-right-first c = omega (arith, c .before .before .before .before .before .before .before .before .before .fill164 .ensures, c .before .before .before .before .before .before .before .before .before .fill164 .kept .1 .1 .0)
+
+slice-aggregate-of-pair-6 : tie.Need-slice-aggregate-of-pair-6
+slice-aggregate-of-pair-6 c = sym (length-take-le _ _ (omega (arith, c .before .before .before .before .before .before .before .before .before .before .fill164 .ensures, c .before .before .before .before .before .before .before .before .before .before .fill164 .kept .1 .1 .0)))
+
+array-share-prefix-right-second : tie.Need-array-share-prefix-right-second
+array-share-prefix-right-second c = omega (arith, c .before .before .before .before .before .before .before .fill165 .ensures, c .before .before .before .before .before .before .before .fill165 .kept .1 .1 .0)
+
+slice-aggregate-of-pair-7 : tie.Need-slice-aggregate-of-pair-7
+slice-aggregate-of-pair-7 c = sym (length-take-le _ _ (omega (arith, c .before .before .before .before .before .before .before .before .fill165 .ensures, c .before .before .before .before .before .before .before .before .fill165 .kept .1 .1 .0)))
+
+of-pair-requires : tie.Need-of-pair-requires
+of-pair-requires c κs = search needs
+
+returns : tie.Need-returns
+returns c = search needs
+
+pub pair-spec : {M : Type 1} → statement M
+pair-spec =
+    tie.close
+    (tie.spec
+    slice-aggregate-fill16
+    fill16-requires
+    slice-aggregate-fill8
+    fill8-requires
+    slice-aggregate-fill16-2
+    fill16-requires-2
+    slice-aggregate-fill16-3
+    fill16-requires-3
+    slice-aggregate-fill8-2
+    fill8-requires-2
+    slice-aggregate-fill16-4
+    fill16-requires-4
+    slice-aggregate-fill16-5
+    fill16-requires-5
+    array-share-prefix-sizes
+    slice-aggregate-of-pair
+    array-share-prefix-left-kind
+    slice-aggregate-of-pair-2
+    array-share-prefix-left-first
+    slice-aggregate-of-pair-3
+    array-share-prefix-left-second
+    slice-aggregate-of-pair-4
+    array-share-prefix-right-kind
+    slice-aggregate-of-pair-5
+    array-share-prefix-right-first
+    slice-aggregate-of-pair-6
+    array-share-prefix-right-second
+    slice-aggregate-of-pair-7
+    of-pair-requires
+    returns)

@@ -1,0 +1,69 @@
+//! A case run by the verified library, through the C interface.
+
+use netkat::lists::{self, Columns, Lent, Nodes, Numbers};
+use netkat_reference::case::Case;
+use netkat_reference::policy::OwnedLists;
+use netkat_reference::search::Lists;
+
+fn nodes(policy: &OwnedLists) -> Nodes<'_> {
+    Nodes {
+        kind: &policy.kind,
+        first: &policy.first,
+        second: &policy.second,
+    }
+}
+
+fn lent(lists: &mut Lists) -> Lent<'_> {
+    Lent {
+        packet: &mut lists.packet,
+        left: &mut lists.left,
+        right: &mut lists.right,
+        parent: &mut lists.parent,
+        trace: &mut lists.trace,
+        work: &mut lists.work,
+    }
+}
+
+/// Runs the case on its own lists; none for calls that the C interface does not have.
+pub fn run(case: &mut Case) -> Option<Numbers> {
+    Some(match case {
+        Case::Values {
+            sizes,
+            number,
+            values,
+        } => lists::values(sizes, *number, values),
+        Case::Number { sizes, values } => lists::number(sizes, values),
+        Case::Policy { sizes, policy } => lists::policy(sizes, nodes(policy)),
+        Case::Read { text, nodes } => {
+            lists::read(text, &mut nodes.kind, &mut nodes.first, &mut nodes.second)
+        }
+        Case::Search {
+            sizes,
+            left,
+            right,
+            lists,
+        } => lists::search(sizes, nodes(left), nodes(right), lent(lists)),
+        Case::Evidence {
+            sizes,
+            left,
+            right,
+            lists,
+        } => {
+            let rows = Columns {
+                packet: &lists.packet,
+                left: &lists.left,
+                right: &lists.right,
+            };
+            lists::evidence(sizes, nodes(left), nodes(right), rows, &mut lists.work)
+        }
+        Case::Trace {
+            sizes,
+            left,
+            right,
+            entering,
+            trace,
+            work,
+        } => lists::trace(sizes, nodes(left), nodes(right), *entering, trace, work),
+        Case::Texts { .. } | Case::Program { .. } => return None,
+    })
+}

@@ -1,0 +1,78 @@
+/* Two checks: one that ends in equal, whose table is then checked, and one that ends in a telling trace. */
+#include <inttypes.h>
+#include <stdio.h>
+#include <stdlib.h>
+#include <string.h>
+
+#include "netkat.h"
+
+#define ROWS 4096
+
+typedef struct {
+    uint8_t kind[NETKAT_NODES];
+    uint16_t first[NETKAT_NODES];
+    uint16_t second[NETKAT_NODES];
+    size_t nodes;
+} policy;
+
+static uint16_t packet[ROWS], parent[ROWS], trace[ROWS];
+static uint32_t left[ROWS], right[ROWS], work[NETKAT_WORK];
+static uint64_t answer[NETKAT_NUMBERS];
+
+/* A policy's three lists, as arguments. */
+#define LISTS(p) (p).kind, (p).nodes, (p).first, (p).nodes, (p).second, (p).nodes
+
+static void stop_if_refused(void) {
+    if (answer[0] == NETKAT_REFUSED) {
+        printf("refused by %" PRIu64 ", side %" PRIu64 ", place %" PRIu64 "\n", answer[1], answer[2], answer[3]);
+        exit(1);
+    }
+}
+
+static policy read_policy(const char *text) {
+    policy p;
+    netkat_read((const uint8_t *)text, strlen(text), p.kind, NETKAT_NODES, p.first, NETKAT_NODES, p.second, NETKAT_NODES,
+                answer);
+    stop_if_refused();
+    p.nodes = answer[1];
+    return p;
+}
+
+static void check(const char *left_text, const char *right_text) {
+    const uint16_t sizes[] = {2};
+    policy one = read_policy(left_text), other = read_policy(right_text);
+
+    printf("%s against %s\n", left_text, right_text);
+    netkat_search(sizes, 1, LISTS(one), LISTS(other), packet, ROWS, left, ROWS, right, ROWS, parent, ROWS, trace, ROWS,
+                  work, NETKAT_WORK, answer);
+    stop_if_refused();
+    if (answer[0] == NETKAT_DONE) {
+        size_t rows = answer[1];
+        printf("  equal, %zu rows\n", rows);
+        for (size_t i = 0; i < rows; i++) {
+            printf("  %" PRIu16 " %" PRIu32 " %" PRIu32 "\n", packet[i], left[i], right[i]);
+        }
+        netkat_evidence(sizes, 1, LISTS(one), LISTS(other), packet, rows, left, rows, right, rows, work, NETKAT_WORK, answer);
+        stop_if_refused();
+        printf("  table %s\n", answer[0] == NETKAT_DONE ? "accepted" : "rejected");
+        netkat_evidence(sizes, 1, LISTS(one), LISTS(other), NULL, 0, NULL, 0, NULL, 0, work, NETKAT_WORK, answer);
+        stop_if_refused();
+        printf("  empty table %s by rule %" PRIu64 "\n", answer[0] == NETKAT_DONE ? "accepted" : "rejected", answer[1]);
+    } else {
+        size_t length = answer[1];
+        uint16_t entering = (uint16_t)answer[2];
+        printf("  %s, entering %" PRIu16 ", trace", answer[0] == NETKAT_LEFT ? "left" : "right", entering);
+        for (size_t i = 0; i < length; i++) {
+            printf(" %" PRIu16, trace[i]);
+        }
+        netkat_trace(sizes, 1, LISTS(one), LISTS(other), entering, trace, length, work, NETKAT_WORK, answer);
+        stop_if_refused();
+        printf("\n  the trace is %s alone\n", answer[0] == NETKAT_LEFT ? "left's" : answer[0] == NETKAT_RIGHT ? "right's" : "not one policy's");
+    }
+}
+
+int main(void) {
+    check("f0=0;dup", "dup;f0=0");
+    check("dup", "dup;dup");
+    return 0;
+}

@@ -1,0 +1,142 @@
+/* NetKAT policies: are two of them equal, and what shows it?
+ *
+ * Every function is proved to answer what its comment says, whatever the contents and lengths of the lists it is lent.
+ * Link libexports.a (`rt staticlib exports`), for x86-64.
+ *
+ * Lists. A list is a pointer and the number of its entries. The pointer points to so many entries and is aligned for
+ * them; where the number is 0 it is not used and may be null. A list behind a pointer to const is only read. A list
+ * that a function may write shares no entry with any other list of the call, and nobody else reads or writes it until the
+ * call returns. Entries that a comment does not name keep their contents.
+ *
+ * Policies. A policy is three lists of equal length, 1 to 512: kind, first, second, children before parents, the last node
+ * the policy. Kinds: 0 drop, 1 id, 2 test f = v, 3 test f != v, 4 change f <- v (first is f, second is v), 5 dup, 6 sum,
+ * 7 sequence (first and second are nodes), 8 star (first is a node); unused entries are 0. netkat_read makes the lists
+ * from a text.
+ *
+ * Answers. `answer` points to eight numbers, all of which are written; those not named below are 0. answer[0] is
+ *   0 done, equal or accepted   1 left   2 right   3 both   4 neither   5 rejected   9 refused
+ * and a refusal is 9, number, side (0 none, 1 left, 2 right), place:
+ *    1 fields not 1 to 8                     2 a size is 0: field               3 product over 1,024: field
+ *    4 policy lists unequal, empty, over 512 5 kind over 8: node                6 field, value, unused entry: node
+ *    7 child not below parent: parent node   8 not a child exactly once: node   9 more than 31 dups: the 32nd
+ *   10 row lists unequal or over 65,535, or work list under NETKAT_WORK
+ *   11 rows full: rows lent                 12 trace list short: length needed 13 packet or value out of range
+ *   14 no token, or bad word: byte          15 over 64 open parentheses: byte  16 no legal text goes on so: byte
+ *   17 too many nodes: nodes needed
+ * Causes are tested in the order of their numbers, each over the whole input before the next, 4 to 9 on the left policy and
+ * then on the right. A refusal leaves every list as it was, but for what 11 and 12 leave in the row lists and that the
+ * work list is all 0 whenever 10 has passed.
+ *
+ * Stack. A call needs up to 4 MiB of stack. Calls share no state: any number may run at once. */
+#ifndef NETKAT_H
+#define NETKAT_H
+
+#include <stddef.h>
+#include <stdint.h>
+
+#ifdef __cplusplus
+extern "C" {
+#endif
+
+#define NETKAT_NUMBERS 8   /* numbers of an answer */
+#define NETKAT_NODES 512   /* most nodes of a policy */
+#define NETKAT_ROWS 65535  /* most rows of a table */
+#define NETKAT_WORK 16384  /* least length of a work list */
+
+enum {
+    NETKAT_DONE = 0, /* equal, accepted */
+    NETKAT_LEFT = 1,
+    NETKAT_RIGHT = 2,
+    NETKAT_BOTH = 3,
+    NETKAT_NEITHER = 4,
+    NETKAT_REJECTED = 5,
+    NETKAT_REFUSED = 9
+};
+
+/* The values of a packet's fields from its number; `values` has as many entries as there are fields.
+ * Answers 0 with the values written, or refuses by 1 to 3, 13. */
+void netkat_values(const uint16_t *sizes, size_t sizes_length,
+                   uint16_t number,
+                   uint16_t *values, size_t values_length,
+                   uint64_t *answer);
+
+/* The number of the packet with these values. Answers 0, packet; or refuses by 1 to 3, 13. */
+void netkat_number(const uint16_t *sizes, size_t sizes_length,
+                   const uint16_t *values, size_t values_length,
+                   uint64_t *answer);
+
+/* Are the lists a policy over fields of these sizes? Answers 0, number of dups; or refuses by 1 to 9, side 0. */
+void netkat_policy(const uint16_t *sizes, size_t sizes_length,
+                   const uint8_t *kind, size_t kind_length,
+                   const uint16_t *first, size_t first_length,
+                   const uint16_t *second, size_t second_length,
+                   uint64_t *answer);
+
+/* Reads a policy's text, as "f0=0;(dup+f1<-2)*". Answers 0, number of nodes, which stand first in the three lists; or refuses
+ * by 14 to 17, side 0. The place that 17 names is the length that the lists need, at most NETKAT_NODES. */
+void netkat_read(const uint8_t *text, size_t text_length,
+                 uint8_t *kind, size_t kind_length,
+                 uint16_t *first, size_t first_length,
+                 uint16_t *second, size_t second_length,
+                 uint64_t *answer);
+
+/* Have two policies the same traces from every packet? Answers
+ *   0, rows                        equal: the row lists hold so many rows, a table that netkat_evidence accepts
+ *   1 or 2, length, entering       the left or the right policy alone has the trace of this length from the entering
+ *                                  packet, which stands first in `trace`; no shorter trace tells the two apart
+ * or refuses by 1 to 12. Once 10 has passed, the row lists (packet, left, right, parent) hold the rows listed so far, of 11 the
+ * first rows that fit, and the work list is all 0. */
+void netkat_search(const uint16_t *sizes, size_t sizes_length,
+                   const uint8_t *left_kind, size_t left_kind_length,
+                   const uint16_t *left_first, size_t left_first_length,
+                   const uint16_t *left_second, size_t left_second_length,
+                   const uint8_t *right_kind, size_t right_kind_length,
+                   const uint16_t *right_first, size_t right_first_length,
+                   const uint16_t *right_second, size_t right_second_length,
+                   uint16_t *packet, size_t packet_length,
+                   uint32_t *left, size_t left_length,
+                   uint32_t *right, size_t right_length,
+                   uint16_t *parent, size_t parent_length,
+                   uint16_t *trace, size_t trace_length,
+                   uint32_t *work, size_t work_length,
+                   uint64_t *answer);
+
+/* Does a table of rows, whoever made it, show that two policies are equal? Answers
+ *   0                              accepted: they have the same traces from every packet
+ *   5, 1, row                      rejected by rule (a): a packet or a state of the row is out of range
+ *   5, 2, packet                   (b): the starting row (packet, 1, 1) is missing
+ *   5, 3, row                      (c): the outputs of the row differ
+ *   5, 4, row, packet              (d): the row's next row at the packet is missing
+ * or refuses by 1 to 10. Once 10 has passed, the work list is all 0. */
+void netkat_evidence(const uint16_t *sizes, size_t sizes_length,
+                     const uint8_t *left_kind, size_t left_kind_length,
+                     const uint16_t *left_first, size_t left_first_length,
+                     const uint16_t *left_second, size_t left_second_length,
+                     const uint8_t *right_kind, size_t right_kind_length,
+                     const uint16_t *right_first, size_t right_first_length,
+                     const uint16_t *right_second, size_t right_second_length,
+                     const uint16_t *packet, size_t packet_length,
+                     const uint32_t *left, size_t left_length,
+                     const uint32_t *right, size_t right_length,
+                     uint32_t *work, size_t work_length,
+                     uint64_t *answer);
+
+/* Which of two policies has a trace from the entering packet? Answers 1 left, 2 right, 3 both, 4 neither; or refuses by 1 to 10,
+ * 13. A trace of length 0 is neither's. Once 10 has passed, the work list is all 0. */
+void netkat_trace(const uint16_t *sizes, size_t sizes_length,
+                  const uint8_t *left_kind, size_t left_kind_length,
+                  const uint16_t *left_first, size_t left_first_length,
+                  const uint16_t *left_second, size_t left_second_length,
+                  const uint8_t *right_kind, size_t right_kind_length,
+                  const uint16_t *right_first, size_t right_first_length,
+                  const uint16_t *right_second, size_t right_second_length,
+                  uint16_t entering,
+                  const uint16_t *trace, size_t trace_length,
+                  uint32_t *work, size_t work_length,
+                  uint64_t *answer);
+
+#ifdef __cplusplus
+}
+#endif
+
+#endif
