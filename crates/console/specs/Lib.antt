@@ -1,0 +1,4 @@
+pub mod Lines
+pub mod Input
+pub mod Output
+pub mod Inner

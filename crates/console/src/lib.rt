@@ -1,0 +1,4 @@
+// The program as a function of bytes (document 01, "The program").
+mod lines;
+mod output;
+mod sizes;
