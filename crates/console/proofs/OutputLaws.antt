@@ -290,3 +290,19 @@ trace-all {packets} {old} {new} {from} {at} {i} s h =
     subst (λ (l : List ℕ). Wrote old new from at l)
     (sym (append-nil (s .done)) ∙ sym (ap (λ (x : List ℕ). s .done ++ traceLines i x) (drop-of-length-le packets h)) ∙ s .all)
     (s .wrote)
+
+-- ---- the longest answer: 4,096 rows of at most 29 bytes and the first line fit into 131,072 bytes
+
+pub front-length : (xs : List ℕ) (n : ℕ) → n ≤ length xs → n ≡ length (take n xs)
+front-length xs n h = sym (length-take-le n xs h)
+
+pub rows-fit : (ps ls rs : List ℕ) (n at room : ℕ) → n ≤ 4096 → n ≤ length ps → n ≤ length ls → n ≤ length rs → at ≤ 49 → 131072 ≤ room
+    → (length (take n ls) ≡ length (take n ps)) × (length (take n rs) ≡ length (take n ps)) × (at + 29 * length (take n ps) + 64 ≤ room)
+rows-fit ps ls rs n at room h p l r a k =
+    let x : n ≡ length (take n ps) = front-length ps n p in
+    let y : n ≡ length (take n ls) = front-length ls n l in
+    let z : n ≡ length (take n rs) = front-length rs n r in
+    (sym y ∙ x, sym z ∙ x, omega arith)
+
+pub trace-fits : (ps : List ℕ) (n at room : ℕ) → n ≤ 4096 → n ≤ length ps → at ≤ 51 → 131072 ≤ room → (length (take n ps) < 65536) × (at + 29 * length (take n ps) + 64 ≤ room)
+trace-fits ps n at room h p a k = let x : n ≡ length (take n ps) = front-length ps n p in (omega arith, omega arith)

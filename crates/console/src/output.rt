@@ -44,6 +44,7 @@ fn number(out: &mut [u8], at: usize, n: u64) -> usize
 fn rest(out: &mut [u8], at: usize, b: u64, c: u64) -> usize
     requires { ⌜ at + 44 ≤ length (now out) ⌝ }
     ensures { λ r. ⌜ Wrote (now (out .entry)) (now (out .exit)) at r (lineRest b c) ⌝ }
+    ensures short { λ r. ⌜ r ≤ at + 44 ⌝ }
 {
     let b_at = byte(out, at, 44);
     let b_end = number(out, b_at, b);
@@ -66,6 +67,7 @@ fn number_line(out: &mut [u8], at: usize, a: u64, b: u64, c: u64) -> usize
 pub fn verdict(out: &mut [u8], word: &[u8], b: u64, c: u64) -> usize
     requires { ⌜ length (now word) + 44 ≤ length (now out) ⌝ }
     ensures { λ r. ⌜ Wrote (now (out .entry)) (now (out .exit)) 0 r (verdictLine (now (word .entry)) b c) ⌝ }
+    ensures short { λ r. ⌜ r ≤ length (now (word .entry)) + 44 ⌝ }
 {
     let end = bytes(out, 0, word);
     rest(out, end, b, c)

@@ -17,7 +17,7 @@ same-length c = search needs
 
 returns : tie.Need-returns
 unfolding verdictLine
-returns c = wrote-then (c .before .before .before .before .before .before .bytes .ensures) (omega (arith, c .before .before .before .before .before .before .before .before .before .before .pre, c .before .before .before .before .before .before .bytes .ensures .ends)) (c .before .before .rest .ensures)
+returns c = (wrote-then (c .before .before .before .before .before .before .bytes .ensures) (omega (arith, c .before .before .before .before .before .before .before .before .before .before .pre, c .before .before .before .before .before .before .bytes .ensures .ends)) (c .before .before .rest .ensures .0), omega (arith, c .before .before .rest .ensures .1, c .before .before .before .before .before .before .before .before .before .before .pre, c .before .before .before .before .before .before .bytes .ensures .ends))
 
 pub verdict-spec : {M : Type 1} → statement M
 verdict-spec = tie.close (tie.spec bytes-requires rest-requires same-length returns)
