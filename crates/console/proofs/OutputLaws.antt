@@ -12,7 +12,8 @@ use lib.Seq.{append-snoc, drop-cons, drop-drop, drop-at, take-at, take-all, leng
 use borrow.Author.Tests.{lt-ltb, le-ltb, eqb-true, eqb-false}
 use Rattle.io.specs.Digits.{digits, glyph, Fewest}
 use Rattle.console.specs.Output.{digitsUpTo, numeral, lineRest, numberLine, rowLines, lastFlag, traceLines}
-use Rattle.console.specs.Inner.{Wrote}
+use Rattle.search.specs.declared.Verdict.{Verdict}
+use Rattle.console.specs.Inner.{Wrote, verdictLines, Fits}
 
 -- ---- places
 
@@ -306,3 +307,11 @@ rows-fit ps ls rs n at room h p l r a k =
 
 pub trace-fits : (ps : List ℕ) (n at room : ℕ) → n ≤ 4096 → n ≤ length ps → at ≤ 51 → 131072 ≤ room → (length (take n ps) < 65536) × (at + 29 * length (take n ps) + 64 ≤ room)
 trace-fits ps n at room h p a k = let x : n ≡ length (take n ps) = front-length ps n p in (omega arith, omega arith)
+
+-- ---- what is known of a verdict holds of the case that it is
+
+pub fits-at : {v w : Verdict} (ps ls rs trace : List ℕ) → v ≡ w → Fits v ps ls rs trace → Fits w ps ls rs trace
+fits-at ps ls rs trace e f = subst (λ (v : Verdict). Fits v ps ls rs trace) e f
+
+pub shows-at : {v w : Verdict} {old new : List ℕ} {end : ℕ} (ps ls rs trace : List ℕ) → v ≡ w → Wrote old new 0 end (verdictLines w ps ls rs trace) → Wrote old new 0 end (verdictLines v ps ls rs trace)
+shows-at {old = old} {new = new} {end = end} ps ls rs trace e x = subst (λ (v : Verdict). Wrote old new 0 end (verdictLines v ps ls rs trace)) (sym e) x

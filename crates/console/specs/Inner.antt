@@ -6,8 +6,11 @@ use mathlib.Core.Path.{_≡_}
 use lib.Dec.{eqb}
 use lib.ListN.{length, take, drop}
 use Rattle.text.specs.Tokens.{decimal}
+use Rattle.search.specs.declared.Verdict.{Verdict}
+use Rattle.search.specs.declared.Verdict.the-variants.{Equal, Left, Right, Full, Refused}
 use Rattle.console.specs.Lines.{isCR, linesOf}
 use Rattle.console.specs.Input.{splitByCommas, isSize, allSizes, sizesOf, malformed, askedByLines}
+use Rattle.console.specs.Output.{wordEqual, wordLeft, wordRight, verdictLine, rowLines, traceLines, refusalLine}
 use Rattle.console.specs.declared.lines.Three.{Three}
 use Rattle.console.specs.declared.sizes.Sizes.{Sizes}
 use Rattle.console.specs.declared.sizes.Sizes.the-variants.{Read, Malformed}
@@ -75,3 +78,19 @@ pub record SizesRead (line : List ℕ) (r : Sizes) (sizes : List ℕ) : Type 0 w
 pub record Wrote (old new : List ℕ) (at end : ℕ) (xs : List ℕ) : Type 0 where
   pub ends : end ≡ at + length xs
   pub holds : new ≡ take at old ++ xs ++ drop end old
+
+-- the lines of a verdict, read off the lists that the search has left
+unfoldable pub verdictLines : Verdict → List ℕ → List ℕ → List ℕ → List ℕ → List ℕ
+verdictLines (Equal n) ps ls rs trace = verdictLine wordEqual n 0 ++ rowLines (take n ps) (take n ls) (take n rs)
+verdictLines (Left n α) ps ls rs trace = verdictLine wordLeft n α ++ traceLines 0 (take n trace)
+verdictLines (Right n α) ps ls rs trace = verdictLine wordRight n α ++ traceLines 0 (take n trace)
+verdictLines (Full r) ps ls rs trace = refusalLine r
+verdictLines (Refused r) ps ls rs trace = refusalLine r
+
+-- there are no more rows or packets than were lent
+unfoldable pub Fits : Verdict → List ℕ → List ℕ → List ℕ → List ℕ → Type 0
+Fits (Equal n) ps ls rs trace = (n ≤ 4096) × (n ≤ length ps) × (n ≤ length ls) × (n ≤ length rs)
+Fits (Left n α) ps ls rs trace = (n ≤ 4096) × (n ≤ length trace)
+Fits (Right n α) ps ls rs trace = (n ≤ 4096) × (n ≤ length trace)
+Fits (Full r) ps ls rs trace = Unit
+Fits (Refused r) ps ls rs trace = Unit

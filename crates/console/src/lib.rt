@@ -8,8 +8,9 @@ ghost use mathlib.Core.List.{_++_};
 ghost use Prim.Native.Nat.{_≤_};
 ghost use lib.ListN.{length, take};
 ghost use Rattle.console.specs.Output.{wordEqual, verdictLine, rowLines, traceLines, refusalLine};
-ghost use Rattle.console.specs.Inner.{Wrote};
+ghost use Rattle.console.specs.Inner.{Wrote, verdictLines, Fits};
 use packet::Refusal;
+use search::Verdict;
 
 // A refusal's line.
 fn refused(out: &mut [u8], r: Refusal) -> usize
@@ -35,4 +36,25 @@ fn telling(out: &mut [u8], word: &[u8], n: usize, entering: u16, trace: &[u16]) 
 {
     let at = output::verdict(out, word, n as u64, entering as u64);
     output::trace(out, at, &trace[..n])
+}
+
+// A verdict with its rows or its trace.
+fn show(
+    out: &mut [u8],
+    verdict: Verdict,
+    packets: &[u16],
+    lefts: &[u32],
+    rights: &[u32],
+    trace: &[u16],
+) -> usize
+    requires { ⌜ (131072 ≤ length (now out)) × Fits verdict (now packets) (now lefts) (now rights) (now trace) ⌝ }
+    ensures { λ e. ⌜ Wrote (now (out .entry)) (now (out .exit)) 0 e (verdictLines verdict (now (packets .entry)) (now (lefts .entry)) (now (rights .entry)) (now (trace .entry))) ⌝ }
+{
+    match verdict {
+        Verdict::Equal(n) => equal(out, n, packets, lefts, rights),
+        Verdict::Left(n, entering) => telling(out, b"left", n, entering, trace),
+        Verdict::Right(n, entering) => telling(out, b"right", n, entering, trace),
+        Verdict::Full(r) => refused(out, r),
+        Verdict::Refused(r) => refused(out, r),
+    }
 }
