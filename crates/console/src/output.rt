@@ -115,7 +115,7 @@ fn last_flag(place: usize, n: usize) -> u64
     0
 }
 
-// The packets of a trace. A packet's line has at most 25 bytes, place and packet being below 65,536.
+// The packets of a trace. Place and packet are below 65,536, so that a line has no more bytes than a row's.
 pub fn trace(out: &mut [u8], from: usize, packets: &[u16]) -> usize
     requires { ⌜ (length (now packets) < 65536) × (from + 29 * length (now packets) + 64 ≤ length (now out)) ⌝ }
     ensures { λ r. ⌜ Wrote (now (out .entry)) (now (out .exit)) from r (traceLines 0 (now (packets .entry))) ⌝ }
