@@ -1,0 +1,4 @@
+mod Examples
+pub mod LineLaws
+pub mod SizeLaws
+pub mod OutputLaws

@@ -1,0 +1,96 @@
+-- What the inner functions of the program promise.
+use Prim.Native.Nat.{ℕ, suc, _+_, _-_, _≤_, _<_}
+use mathlib.Core.Bool.{true, false, cond}
+use mathlib.Core.List.{List, [], _∷_, _++_}
+use mathlib.Core.Path.{_≡_}
+use lib.Dec.{eqb}
+use lib.ListN.{length, take, drop}
+use Rattle.text.specs.Tokens.{decimal}
+use Rattle.search.specs.declared.Verdict.{Verdict}
+use Rattle.search.specs.declared.Verdict.the-variants.{Equal, Left, Right, Full, Refused}
+use Rattle.console.specs.Lines.{isCR, linesOf}
+use Rattle.console.specs.Input.{splitByCommas, isSize, allSizes, sizesOf, malformed, askedByLines}
+use Rattle.console.specs.Output.{wordEqual, wordLeft, wordRight, verdictLine, rowLines, traceLines, refusalLine}
+use Rattle.console.specs.declared.lines.Three.{Three}
+use Rattle.console.specs.declared.sizes.Sizes.{Sizes}
+use Rattle.console.specs.declared.sizes.Sizes.the-variants.{Read, Malformed}
+
+-- the bytes from a place up to another
+abbrev pub part : List ℕ → ℕ → ℕ → List ℕ
+part xs from end = take (end - from) (drop from xs)
+
+-- the first line of the bytes, without its end
+unfoldable pub firstLine : List ℕ → List ℕ
+firstLine [] = []
+firstLine (b ∷ bs) =
+    elim (eqb b 10) [
+      | true ↦ []
+      | false ↦ elim (isCR b bs) [ true ↦ [] | false ↦ b ∷ firstLine bs ]
+    ]
+
+-- the bytes after the first line and its end
+unfoldable pub afterLine : List ℕ → List ℕ
+afterLine [] = []
+afterLine (b ∷ bs) = elim (eqb b 10) [ true ↦ bs | false ↦ afterLine bs ]
+
+-- the line that starts at a byte, and where the next one starts
+pub record LineFrom (input : List ℕ) (from end next : ℕ) : Type 0 where
+  pub low : from ≤ end
+  pub within : end ≤ length input
+  pub bounded : next ≤ length input
+  pub line : firstLine (drop from input) ≡ part input from end
+  pub rest : afterLine (drop from input) ≡ drop next input
+
+abbrev pub notThree : Three
+notThree = record { ok = false; «first_end» = 0; second = 0; «second_end» = 0; third = 0; «third_end» = 0 }
+
+-- the three lines of the input, or that it has not three
+pub record ThreeLines (input : List ℕ) (r : Three) : Type 0 where
+  pub read : r .ok ≡ true → linesOf input ≡ part input 0 (r .«first_end») ∷ part input (r .second) (r .«second_end») ∷ part input (r .third) (r .«third_end») ∷ []
+  pub first-within : r .«first_end» ≤ length input
+  pub second-low : r .second ≤ r .«second_end»
+  pub second-within : r .«second_end» ≤ length input
+  pub third-low : r .third ≤ r .«third_end»
+  pub third-within : r .«third_end» ≤ length input
+  pub not : r .ok ≡ false → askedByLines (linesOf input) ≡ malformed
+
+-- the part of a line up to the next comma or the end
+pub record PartFrom (line : List ℕ) (from end : ℕ) : Type 0 where
+  pub low : from ≤ end
+  pub within : end ≤ length line
+  pub comma : end < length line → splitByCommas (drop from line) ≡ part line from end ∷ splitByCommas (drop (suc end) line)
+  pub last : length line ≤ end → splitByCommas (drop from line) ≡ part line from end ∷ []
+
+-- the value of a size, or 65,536 where the word is none
+unfoldable pub sizeOf : List ℕ → ℕ
+sizeOf w = cond (isSize w) (decimal 0 w) 65536
+
+-- the sizes of a line as read into a list
+unfoldable pub readAs : List (List ℕ) → Sizes
+readAs words = cond (allSizes words) (Read (length words)) Malformed
+
+pub record SizesRead (line : List ℕ) (r : Sizes) (sizes : List ℕ) : Type 0 where
+  pub answer : r ≡ readAs (splitByCommas line)
+  pub few : allSizes (splitByCommas line) ≡ true → length (splitByCommas line) ≤ length sizes
+  pub values : allSizes (splitByCommas line) ≡ true → take (length (splitByCommas line)) sizes ≡ sizesOf (splitByCommas line)
+
+-- the bytes xs have been written from a place on, up to the place returned; all others are as they were
+pub record Wrote (old new : List ℕ) (at end : ℕ) (xs : List ℕ) : Type 0 where
+  pub ends : end ≡ at + length xs
+  pub holds : new ≡ take at old ++ xs ++ drop end old
+
+-- the lines of a verdict, read off the lists that the search has left
+unfoldable pub verdictLines : Verdict → List ℕ → List ℕ → List ℕ → List ℕ → List ℕ
+verdictLines (Equal n) ps ls rs trace = verdictLine wordEqual n 0 ++ rowLines (take n ps) (take n ls) (take n rs)
+verdictLines (Left n α) ps ls rs trace = verdictLine wordLeft n α ++ traceLines 0 (take n trace)
+verdictLines (Right n α) ps ls rs trace = verdictLine wordRight n α ++ traceLines 0 (take n trace)
+verdictLines (Full r) ps ls rs trace = refusalLine r
+verdictLines (Refused r) ps ls rs trace = refusalLine r
+
+-- there are no more rows or packets than were lent
+unfoldable pub Fits : Verdict → List ℕ → List ℕ → List ℕ → List ℕ → Type 0
+Fits (Equal n) ps ls rs trace = (n ≤ 4096) × (n ≤ length ps) × (n ≤ length ls) × (n ≤ length rs)
+Fits (Left n α) ps ls rs trace = (n ≤ 4096) × (n ≤ length trace)
+Fits (Right n α) ps ls rs trace = (n ≤ 4096) × (n ≤ length trace)
+Fits (Full r) ps ls rs trace = Unit
+Fits (Refused r) ps ls rs trace = Unit

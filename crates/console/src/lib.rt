@@ -1,0 +1,60 @@
+// The program as a function of bytes (document 01, "The program").
+mod lines;
+mod output;
+mod sizes;
+
+ghost use mathlib.Core.Path.{_≡_};
+ghost use mathlib.Core.List.{_++_};
+ghost use Prim.Native.Nat.{_≤_};
+ghost use lib.ListN.{length, take};
+ghost use Rattle.console.specs.Output.{wordEqual, verdictLine, rowLines, traceLines, refusalLine};
+ghost use Rattle.console.specs.Inner.{Wrote, verdictLines, Fits};
+use packet::Refusal;
+use search::Verdict;
+
+// A refusal's line.
+fn refused(out: &mut [u8], r: Refusal) -> usize
+    requires { ⌜ 131072 ≤ length (now out) ⌝ }
+    ensures { λ e. ⌜ Wrote (now (out .entry)) (now (out .exit)) 0 e (refusalLine r) ⌝ }
+{
+    output::verdict(out, b"refused", r.number as u64, r.place)
+}
+
+// The first n rows are all rows. They fit: 4,096 lines of at most 29 bytes and the first line.
+fn equal(out: &mut [u8], n: usize, packets: &[u16], lefts: &[u32], rights: &[u32]) -> usize
+    requires { ⌜ (131072 ≤ length (now out)) × (n ≤ 4096) × (n ≤ length (now packets)) × (n ≤ length (now lefts)) × (n ≤ length (now rights)) ⌝ }
+    ensures { λ e. ⌜ Wrote (now (out .entry)) (now (out .exit)) 0 e (verdictLine wordEqual n 0 ++ rowLines (take n (now (packets .entry))) (take n (now (lefts .entry))) (take n (now (rights .entry)))) ⌝ }
+{
+    let at = output::verdict(out, b"equal", n as u64, 0);
+    output::rows(out, at, &packets[..n], &lefts[..n], &rights[..n])
+}
+
+// The first n packets of the trace list tell the texts apart.
+fn telling(out: &mut [u8], word: &[u8], n: usize, entering: u16, trace: &[u16]) -> usize
+    requires { ⌜ (131072 ≤ length (now out)) × (length (now word) ≤ 7) × (n ≤ 4096) × (n ≤ length (now trace)) ⌝ }
+    ensures { λ e. ⌜ Wrote (now (out .entry)) (now (out .exit)) 0 e (verdictLine (now (word .entry)) n entering ++ traceLines 0 (take n (now (trace .entry)))) ⌝ }
+{
+    let at = output::verdict(out, word, n as u64, entering as u64);
+    output::trace(out, at, &trace[..n])
+}
+
+// A verdict with its rows or its trace.
+fn show(
+    out: &mut [u8],
+    verdict: Verdict,
+    packets: &[u16],
+    lefts: &[u32],
+    rights: &[u32],
+    trace: &[u16],
+) -> usize
+    requires { ⌜ (131072 ≤ length (now out)) × Fits verdict (now packets) (now lefts) (now rights) (now trace) ⌝ }
+    ensures { λ e. ⌜ Wrote (now (out .entry)) (now (out .exit)) 0 e (verdictLines verdict (now (packets .entry)) (now (lefts .entry)) (now (rights .entry)) (now (trace .entry))) ⌝ }
+{
+    match verdict {
+        Verdict::Equal(n) => equal(out, n, packets, lefts, rights),
+        Verdict::Left(n, entering) => telling(out, b"left", n, entering, trace),
+        Verdict::Right(n, entering) => telling(out, b"right", n, entering, trace),
+        Verdict::Full(r) => refused(out, r),
+        Verdict::Refused(r) => refused(out, r),
+    }
+}
