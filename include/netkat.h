@@ -103,6 +103,19 @@ void netkat_search(const uint16_t *sizes, size_t sizes_length,
                    uint32_t *work, size_t work_length,
                    uint64_t *answer);
 
+/* The same for two texts. The texts are read first, the left one before the right: after 1 to 3 refuses by 14 to 17, side 0, then by 4 to
+ * 12. */
+void netkat_search_texts(const uint16_t *sizes, size_t sizes_length,
+                         const uint8_t *left_text, size_t left_text_length,
+                         const uint8_t *right_text, size_t right_text_length,
+                         uint16_t *packet, size_t packet_length,
+                         uint32_t *left, size_t left_length,
+                         uint32_t *right, size_t right_length,
+                         uint16_t *parent, size_t parent_length,
+                         uint16_t *trace, size_t trace_length,
+                         uint32_t *work, size_t work_length,
+                         uint64_t *answer);
+
 /* Does a table of rows, whoever made it, show that two policies are equal? Answers
  *   0                              accepted: they have the same traces from every packet
  *   5, 1, row                      rejected by rule (a): a packet or a state of the row is out of range
