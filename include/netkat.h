@@ -20,11 +20,13 @@
  *    4 policy lists unequal, empty, over 512 5 kind over 8: node                6 field, value, unused entry: node
  *    7 child not below parent: parent node   8 not a child exactly once: node   9 more than 31 dups: the 32nd
  *   10 row lists unequal or over 65,535, or work list under NETKAT_WORK
- *   11 rows full: rows lent                 12 trace list short: length needed 13 packet or value out of range
+ *   11 rows full: rows lent                 12 trace list short: length needed
+ *   13 out of range: 0 for the entering packet or the number turned, i for the i-th packet of a trace, the field of a value;
+ *      of a value list with another length than there are fields, their number
  *   14 no token, or bad word: byte          15 over 64 open parentheses: byte  16 no legal text goes on so: byte
  *   17 too many nodes: nodes needed
- * Causes are tested in the order of their numbers, each over the whole input before the next, 4 to 9 on the left policy and
- * then on the right. A refusal leaves every list as it was, but for what 11 and 12 leave in the row lists and that the
+ * Causes are tested in the order of their numbers, each over the whole input before the next, each of 4 to 9 on the left
+ * policy and then on the right. A refusal leaves every list as it was, but for what 11 and 12 leave in the row lists and that the
  * work list is all 0 whenever 10 has passed.
  *
  * Stack. A call needs up to 4 MiB of stack. Calls share no state: any number may run at once. */
@@ -100,6 +102,19 @@ void netkat_search(const uint16_t *sizes, size_t sizes_length,
                    uint16_t *trace, size_t trace_length,
                    uint32_t *work, size_t work_length,
                    uint64_t *answer);
+
+/* The same for two texts. The texts are read first, the left one before the right: after 1 to 3 refuses by 14 to 17, side 0, then by 4 to
+ * 12. */
+void netkat_search_texts(const uint16_t *sizes, size_t sizes_length,
+                         const uint8_t *left_text, size_t left_text_length,
+                         const uint8_t *right_text, size_t right_text_length,
+                         uint16_t *packet, size_t packet_length,
+                         uint32_t *left, size_t left_length,
+                         uint32_t *right, size_t right_length,
+                         uint16_t *parent, size_t parent_length,
+                         uint16_t *trace, size_t trace_length,
+                         uint32_t *work, size_t work_length,
+                         uint64_t *answer);
 
 /* Does a table of rows, whoever made it, show that two policies are equal? Answers
  *   0                              accepted: they have the same traces from every packet

@@ -43,6 +43,12 @@ pub fn run(case: &mut Case) -> Option<Numbers> {
             right,
             lists,
         } => lists::search(sizes, nodes(left), nodes(right), lent(lists)),
+        Case::Texts {
+            sizes,
+            left,
+            right,
+            lists,
+        } => lists::search_texts(sizes, left, right, lent(lists)),
         Case::Evidence {
             sizes,
             left,
@@ -64,6 +70,6 @@ pub fn run(case: &mut Case) -> Option<Numbers> {
             trace,
             work,
         } => lists::trace(sizes, nodes(left), nodes(right), *entering, trace, work),
-        Case::Texts { .. } | Case::Program { .. } => return None,
+        Case::Program { .. } => return None,
     })
 }

@@ -224,6 +224,29 @@ impl Checker {
         right: &Policy,
         most_rows: usize,
     ) -> Result<Verdict, Refusal> {
+        let (left, right) = (left.nodes(), right.nodes());
+        self.searched(most_rows, |sizes, lent| {
+            lists::search(sizes, left, right, lent)
+        })
+    }
+
+    /// The same for two texts. Refused by 1 to 3, 14 to 17 on the left text, then on the right, 4 to 11.
+    pub fn search_texts(
+        &mut self,
+        left: &[u8],
+        right: &[u8],
+        most_rows: usize,
+    ) -> Result<Verdict, Refusal> {
+        self.searched(most_rows, |sizes, lent| {
+            lists::search_texts(sizes, left, right, lent)
+        })
+    }
+
+    fn searched(
+        &mut self,
+        most_rows: usize,
+        search: impl FnOnce(&[u16], Lent) -> Numbers,
+    ) -> Result<Verdict, Refusal> {
         let mut rows = Rows {
             packet: vec![0; most_rows],
             left: vec![0; most_rows],
@@ -239,7 +262,7 @@ impl Checker {
             trace: &mut trace,
             work: &mut self.work,
         };
-        let answer = lists::search(&self.sizes, left.nodes(), right.nodes(), lent);
+        let answer = search(&self.sizes, lent);
         let different = |side, length, entering| {
             trace.truncate(length as usize);
             Verdict::Different {

@@ -158,6 +158,36 @@ pub fn search(sizes: &[u16], left: Nodes, right: Nodes, lent: Lent) -> Numbers {
     answer
 }
 
+/// Two texts searched.
+pub fn search_texts(sizes: &[u16], left: &[u8], right: &[u8], lent: Lent) -> Numbers {
+    let mut answer = [0; 8];
+    // SAFETY: as in `values`.
+    unsafe {
+        raw::netkat_search_texts(
+            sizes.as_ptr(),
+            sizes.len(),
+            left.as_ptr(),
+            left.len(),
+            right.as_ptr(),
+            right.len(),
+            lent.packet.as_mut_ptr(),
+            lent.packet.len(),
+            lent.left.as_mut_ptr(),
+            lent.left.len(),
+            lent.right.as_mut_ptr(),
+            lent.right.len(),
+            lent.parent.as_mut_ptr(),
+            lent.parent.len(),
+            lent.trace.as_mut_ptr(),
+            lent.trace.len(),
+            lent.work.as_mut_ptr(),
+            lent.work.len(),
+            answer.as_mut_ptr(),
+        );
+    }
+    answer
+}
+
 /// A table checked.
 pub fn evidence(
     sizes: &[u16],

@@ -77,6 +77,28 @@ extern "C" {
         answer: *mut u64,
     );
 
+    pub fn netkat_search_texts(
+        sizes: *const u16,
+        sizes_length: usize,
+        left_text: *const u8,
+        left_text_length: usize,
+        right_text: *const u8,
+        right_text_length: usize,
+        packet: *mut u16,
+        packet_length: usize,
+        left: *mut u32,
+        left_length: usize,
+        right: *mut u32,
+        right_length: usize,
+        parent: *mut u16,
+        parent_length: usize,
+        trace: *mut u16,
+        trace_length: usize,
+        work: *mut u32,
+        work_length: usize,
+        answer: *mut u64,
+    );
+
     pub fn netkat_evidence(
         sizes: *const u16,
         sizes_length: usize,

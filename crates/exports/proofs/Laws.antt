@@ -11,12 +11,17 @@ use Rattle.evidence.specs.declared.Evidence.{Evidence}
 use Rattle.evidence.specs.Calls.{CheckedRows}
 use Rattle.traces.specs.declared.TraceChecked.{TraceChecked}
 use Rattle.traces.specs.Checking.{Checked}
+use Rattle.texts.specs.Call.{TextsSearched}
 use Rattle.exports.specs.Numbers.{textNumbers, verdictNumbers, evidenceNumbers, traceNumbers}
-use Rattle.exports.specs.Promises.{ReadOut, SearchedOut, EvidenceOut, TraceOut}
+use Rattle.exports.specs.Promises.{ReadOut, SearchedOut, TextsOut, EvidenceOut, TraceOut}
 
 pub read-out : {text kind first second answer kind′ first′ second′ : List ℕ} {r : Answer} → TextRead text kind first second r kind′ first′ second′ → answer ≡ textNumbers r → ReadOut text kind first second answer kind′ first′ second′
 read-out {text} {kind} {first} {second} {answer} {kind′} {first′} {second′} {r} read n =
     record { numbers = n ∙ ap textNumbers (read .answer); promised = subst (λ (v : Answer). TextRead text kind first second v kind′ first′ second′) (read .answer) read }
+
+pub texts-out : {sizes left right : List ℕ} {x y : Lent} {answer : List ℕ} {r : Verdict} → TextsSearched sizes left right x r y → answer ≡ verdictNumbers r → TextsOut sizes left right x answer y
+texts-out {sizes} {left} {right} {x} {y} {answer} {r} done n =
+    record { numbers = n ∙ ap verdictNumbers (done .answers); promised = subst (λ (v : Verdict). TextsSearched sizes left right x v y) (done .answers) done }
 
 module _ {sizes : List ℕ} {L R : NodeLists} where
   pub searched-out : {x y : Lent} {answer : List ℕ} {r : Verdict} → Searched sizes L R x r y → answer ≡ verdictNumbers r → SearchedOut sizes L R x answer y

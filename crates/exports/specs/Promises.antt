@@ -10,6 +10,7 @@ use Rattle.text.specs.Answer.{TextRead, answerTo, shortest}
 use Rattle.search.specs.Call.{Lent, Searched, searchVerdict}
 use Rattle.evidence.specs.Calls.{CheckedRows, evidenceCall}
 use Rattle.traces.specs.Checking.{Checked, traceCall}
+use Rattle.texts.specs.Call.{TextsSearched, textsVerdict}
 use Rattle.exports.specs.Numbers.{textNumbers, verdictNumbers, evidenceNumbers, traceNumbers}
 
 pub record ReadOut (text kind first second answer kind′ first′ second′ : List ℕ) : Type 0 where
@@ -19,6 +20,10 @@ pub record ReadOut (text kind first second answer kind′ first′ second′ : L
 pub record SearchedOut (sizes : List ℕ) (L R : NodeLists) (x : Lent) (answer : List ℕ) (y : Lent) : Type 0 where
   pub numbers : answer ≡ verdictNumbers (searchVerdict sizes L R x)
   pub promised : Searched sizes L R x (searchVerdict sizes L R x) y
+
+pub record TextsOut (sizes left right : List ℕ) (x : Lent) (answer : List ℕ) (y : Lent) : Type 0 where
+  pub numbers : answer ≡ verdictNumbers (textsVerdict sizes left right x)
+  pub promised : TextsSearched sizes left right x (textsVerdict sizes left right x) y
 
 pub record EvidenceOut (sizes : List ℕ) (L R : NodeLists) (packets lefts rights work answer work′ : List ℕ) : Type 0 where
   pub numbers : answer ≡ evidenceNumbers (evidenceCall sizes L R packets lefts rights (length work))

@@ -9,7 +9,7 @@ ghost use Rattle.policy.specs.Answers.{policyLegality};
 ghost use Rattle.turning.specs.Turning.{valuesTests, valuesAnswer, valuesLeft, numberTests, numberAnswer};
 ghost use Rattle.search.specs.Call.{lent};
 ghost use Rattle.exports.specs.Numbers.{valuesNumbers, numberNumbers, policyNumbers};
-ghost use Rattle.exports.specs.Promises.{ReadOut, SearchedOut, EvidenceOut, TraceOut};
+ghost use Rattle.exports.specs.Promises.{ReadOut, SearchedOut, TextsOut, EvidenceOut, TraceOut};
 
 // A packet's number turned into its values.
 #[no_mangle]
@@ -89,6 +89,35 @@ pub extern "C" fn netkat_search(
         right_kind,
         right_first,
         right_second,
+        packet,
+        left,
+        right,
+        parent,
+        trace,
+        work,
+    ));
+}
+
+// Two texts searched.
+#[no_mangle]
+pub extern "C" fn netkat_search_texts(
+    sizes: &[u16],
+    left_text: &[u8],
+    right_text: &[u8],
+    packet: &mut [u16],
+    left: &mut [u32],
+    right: &mut [u32],
+    parent: &mut [u16],
+    trace: &mut [u16],
+    work: &mut [u32],
+    answer: &mut [u64; 8],
+)
+    ensures { λ _. ⌜ TextsOut (now (sizes .entry)) (now («left_text» .entry)) (now («right_text» .entry)) (lent (now (packet .entry)) (now (left .entry)) (now (right .entry)) (now (parent .entry)) (now (trace .entry)) (now (work .entry))) (now (answer .exit)) (lent (now (packet .exit)) (now (left .exit)) (now (right .exit)) (now (parent .exit)) (now (trace .exit)) (now (work .exit))) ⌝ }
+{
+    *answer = numbers::of_verdict(texts::search(
+        sizes,
+        left_text,
+        right_text,
         packet,
         left,
         right,

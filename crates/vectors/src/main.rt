@@ -1,7 +1,7 @@
 // Runs the calls of its input through the C interface, and writes of each the eight numbers of the answer, then a sum over each
 // list that the call may write, as it stands after the call. What it must write is worked out by the second implementation.
 //
-// A call is its number (0 values, 1 number, 2 policy, 3 read, 4 search, 5 evidence, 6 trace), then its inputs in the order of
+// A call is its number (0 values, 1 number, 2 policy, 3 read, 4 search, 5 evidence, 6 trace, 7 search on texts), then its inputs in the order of
 // include/netkat.h. A list is its length, how many of its numbers are given, and these; the last of them stands for the
 // rest. A number of 32 bits is given as its upper and its lower half.
 use harness::Scanned;
@@ -344,6 +344,91 @@ fn search(
     w.at
 }
 
+fn texts_shown(
+    sizes: &[u16],
+    left_text: &[u8],
+    right_text: &[u8],
+    packet: &mut [u16],
+    left: &mut [u32],
+    right: &mut [u32],
+    parent: &mut [u16],
+    trace: &mut [u16],
+    work: &mut [u32],
+) {
+    let mut answer = [7u64; 8];
+    exports::netkat_search_texts(
+        sizes,
+        left_text,
+        right_text,
+        packet,
+        left,
+        right,
+        parent,
+        trace,
+        work,
+        &mut answer,
+    );
+    show(&answer);
+    sum16(packet);
+    sum32(left);
+    sum32(right);
+    sum16(parent);
+    sum16(trace);
+    sum32(work);
+}
+
+fn texts_lent(
+    input: &[u8],
+    from: usize,
+    sizes: &[u16],
+    left_text: &[u8],
+    right_text: &[u8],
+) -> usize {
+    let mut packet = [0u16; 66000];
+    let p = fill16(input, from, &mut packet);
+    let mut left = [0u32; 66000];
+    let l = fill32(input, p.at, &mut left);
+    let mut right = [0u32; 66000];
+    let r = fill32(input, l.at, &mut right);
+    let mut parent = [0u16; 66000];
+    let q = fill16(input, r.at, &mut parent);
+    let mut trace = [0u16; 66000];
+    let t = fill16(input, q.at, &mut trace);
+    let mut work = [0u32; 20000];
+    let w = fill32(input, t.at, &mut work);
+    let pn = p.count;
+    let ln = l.count;
+    let rn = r.count;
+    let qn = q.count;
+    let tn = t.count;
+    let wn = w.count;
+    texts_shown(
+        sizes,
+        left_text,
+        right_text,
+        &mut packet[..pn],
+        &mut left[..ln],
+        &mut right[..rn],
+        &mut parent[..qn],
+        &mut trace[..tn],
+        &mut work[..wn],
+    );
+    w.at
+}
+
+fn texts(input: &[u8], from: usize) -> usize {
+    let mut sizes = [0u16; 32];
+    let z = fill16(input, from, &mut sizes);
+    let mut left = [0u8; 8192];
+    let l = fill8(input, z.at, &mut left);
+    let mut right = [0u8; 8192];
+    let r = fill8(input, l.at, &mut right);
+    let zn = z.count;
+    let ln = l.count;
+    let rn = r.count;
+    texts_lent(input, r.at, &sizes[..zn], &left[..ln], &right[..rn])
+}
+
 fn evidence_shown(
     sizes: &[u16],
     left_kind: &[u8],
@@ -579,6 +664,9 @@ fn one_call(input: &[u8], from: usize) -> usize {
     }
     if call.value == 3 {
         return read(input, call.at);
+    }
+    if call.value == 7 {
+        return texts(input, call.at);
     }
     pair(call.value, input, call.at)
 }

@@ -80,6 +80,13 @@ impl Numbers {
         self.wide(&lists.right, MOST_ROWS)
     }
 
+    fn lent(&mut self, lists: &Lists) -> Option<()> {
+        self.rows(lists)?;
+        self.short(&lists.parent, MOST_ROWS)?;
+        self.short(&lists.trace, MOST_ROWS)?;
+        self.wide(&lists.work, MOST_WORK)
+    }
+
     fn pair(
         &mut self,
         call: u32,
@@ -127,10 +134,7 @@ impl Numbers {
                 lists,
             } => {
                 self.pair(4, sizes, left, right)?;
-                self.rows(lists)?;
-                self.short(&lists.parent, MOST_ROWS)?;
-                self.short(&lists.trace, MOST_ROWS)?;
-                self.wide(&lists.work, MOST_WORK)
+                self.lent(lists)
             }
             Case::Evidence {
                 sizes,
@@ -155,7 +159,19 @@ impl Numbers {
                 self.short(trace, MOST_ROWS)?;
                 self.wide(work, MOST_WORK)
             }
-            Case::Texts { .. } | Case::Program { .. } => None,
+            Case::Texts {
+                sizes,
+                left,
+                right,
+                lists,
+            } => {
+                self.number(7);
+                self.short(sizes, MOST_SIZES)?;
+                self.bytes(left, MOST_TEXT)?;
+                self.bytes(right, MOST_TEXT)?;
+                self.lent(lists)
+            }
+            Case::Program { .. } => None,
         }
     }
 }
@@ -170,7 +186,7 @@ fn sums(case: &Case) -> Vec<u64> {
     match case {
         Case::Values { values, .. } => vec![sum(values)],
         Case::Read { nodes, .. } => vec![sum(&nodes.kind), sum(&nodes.first), sum(&nodes.second)],
-        Case::Search { lists, .. } => vec![
+        Case::Search { lists, .. } | Case::Texts { lists, .. } => vec![
             sum(&lists.packet),
             sum(&lists.left),
             sum(&lists.right),
