@@ -2,3 +2,4 @@ mod Examples
 pub mod LineLaws
 pub mod SizeLaws
 pub mod OutputLaws
+pub mod Printing

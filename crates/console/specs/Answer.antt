@@ -1,6 +1,6 @@
 -- The program's output as a function of its input, and what it says of the two texts (document 01, "The program").
 use Prim.Native.Nat.{ℕ}
-use mathlib.Core.List.{List, []}
+use mathlib.Core.List.{List}
 use mathlib.Core.Path.{_≡_}
 use lib.ListN.{length, replicate, take}
 use Rattle.packet.specs.Refusals.{refusal}
@@ -13,6 +13,7 @@ use Rattle.text.specs.Tokens.{fieldNames}
 use Rattle.text.specs.Answer.{textTree}
 use Rattle.texts.specs.Call.{textPolicies, textsTests, textsAnswer, textsRows}
 use Rattle.console.specs.Input.{Asked, malformed, compare, asked}
+use Rattle.console.specs.Inner.{Wrote}
 use Rattle.console.specs.Output.{wordEqual, wordOfSide, refusalLine, tellingLines, outputAfter}
 
 -- it lends 4,096 rows and as long a trace
@@ -27,6 +28,18 @@ outputOf (compare sizes left right) =
 
 unfoldable pub programOutput : List ℕ → List ℕ
 programOutput input = outputOf (asked input)
+
+-- the search on two texts has been printed at the front of the output, and what its first word says of them
+pub record TellingPrinted (sizes left right : List ℕ) (s : Side) : Type 0 where
+  pub entering : ℕ
+  pub trace : List ℕ
+  pub printed : outputOf (compare sizes left right) ≡ tellingLines s entering trace
+  pub tells : Distinguishes sizes (textPolicies left right) s entering trace
+
+pub record Printed (sizes left right old : List ℕ) (n : ℕ) (new : List ℕ) : Type 0 where
+  pub wrote : Wrote old new 0 n (outputOf (compare sizes left right))
+  pub equal-same : take (length wordEqual) (outputOf (compare sizes left right)) ≡ wordEqual → SameTracesBelow sizes (textTree fieldNames left) (textTree fieldNames right)
+  pub different-tells : (s : Side) → take (length (wordOfSide s)) (outputOf (compare sizes left right)) ≡ wordOfSide s → TellingPrinted sizes left right s
 
 -- the input asks about two texts, and they have the same traces from every packet
 pub record SaysSame (input : List ℕ) : Type 0 where

@@ -1,5 +1,5 @@
 pub mod Lines
 pub mod Input
 pub mod Output
-pub mod Answer
 pub mod Inner
+pub mod Answer

@@ -9,6 +9,8 @@ ghost use Prim.Native.Nat.{_≤_};
 ghost use lib.ListN.{length, take};
 ghost use Rattle.console.specs.Output.{wordEqual, verdictLine, rowLines, traceLines, refusalLine};
 ghost use Rattle.console.specs.Inner.{Wrote, verdictLines, Fits};
+ghost use Rattle.console.specs.Answer.{Printed};
+ghost use Rattle.packet.specs.Refusals.{refusal};
 use packet::Refusal;
 use search::Verdict;
 
@@ -57,4 +59,44 @@ fn show(
         Verdict::Full(r) => refused(out, r),
         Verdict::Refused(r) => refused(out, r),
     }
+}
+
+// Cause 18.
+fn malformed(out: &mut [u8]) -> usize
+    requires { ⌜ 131072 ≤ length (now out) ⌝ }
+    ensures { λ e. ⌜ Wrote (now (out .entry)) (now (out .exit)) 0 e (refusalLine (refusal 18 0 0)) ⌝ }
+{
+    refused(
+        out,
+        Refusal {
+            number: 18,
+            side: 0,
+            place: 0,
+        },
+    )
+}
+
+// The search on two texts with 4,096 rows and as long a trace, printed.
+fn searched(sizes: &[u16], left: &[u8], right: &[u8], out: &mut [u8]) -> usize
+    requires { ⌜ 131072 ≤ length (now out) ⌝ }
+    ensures { λ e. ⌜ Printed (now (sizes .entry)) (now (left .entry)) (now (right .entry)) (now (out .entry)) e (now (out .exit)) ⌝ }
+{
+    let mut packets = [0u16; 4096];
+    let mut lefts = [0u32; 4096];
+    let mut rights = [0u32; 4096];
+    let mut parents = [0u16; 4096];
+    let mut trace = [0u16; 4096];
+    let mut work = [0u32; 16384];
+    let verdict = texts::search(
+        sizes,
+        left,
+        right,
+        &mut packets,
+        &mut lefts,
+        &mut rights,
+        &mut parents,
+        &mut trace,
+        &mut work,
+    );
+    show(out, verdict, &packets, &lefts, &rights, &trace)
 }

@@ -1,0 +1,316 @@
+-- What a search on two texts leaves is what the program prints. Assumes nothing.
+use Prim.Native.Nat.{ℕ, _≤_, _<_}
+use mathlib.Core.Bool.{Bool, true, false, cond}
+use mathlib.Core.List.{List, [], _∷_, _++_}
+use mathlib.Core.Path.{_≡_, refl, sym, ap, ap₂, _∙_, subst}
+use native.Mathlib.Omega.{arith}
+use lib.ListN.{length, getD, take, drop, length-map, length-take, length-replicate}
+use lib.Seq.{take-append-seam}
+use borrow.Author.Tests.{lt-ltb, le-ltb}
+use Rattle.packet.specs.declared.Refusal.{Refusal}
+use Rattle.packet.specs.declared.Tested.{Tested}
+use Rattle.packet.specs.declared.Tested.the-variants.{Passed, Refused as Stopped}
+use Rattle.packet.specs.Refusals.{refusal}
+use Rattle.packet.proofs.Stages.{firstOf-passed}
+use Rattle.policy.specs.Answers.{sided}
+use Rattle.policy.specs.Each.{Each}
+use Rattle.policy.specs.Legality.{Legal}
+use Rattle.policy.proofs.LegalityLaws.{stage-passes}
+use Rattle.system.specs.RowOrder.{held}
+use Rattle.pair.specs.Sides.{Side, left, right, Pair, Labelled, policies}
+use Rattle.pair.specs.Pair.{pairSystem}
+use Rattle.pair.specs.Search.{SearchAnswer, Columns, equal, different, rowsFull, traceShort, columnsOf, heldColumns, Distinguishes}
+use Rattle.pair.proofs.Lawful.{legal-pair}
+use Rattle.pair.proofs.Verdicts as verdicts
+use Rattle.pair.proofs.Verdicts.{equal-same, searched, is-telling}
+use Rattle.rows.specs.Written.{written}
+use Rattle.rows.proofs.Written.{length-written}
+use Rattle.search.specs.declared.Verdict.{Verdict}
+use Rattle.search.specs.declared.Verdict.the-variants.{Equal}
+use Rattle.search.specs.Call.{Lent, tellingVerdict, filled, verdictOf, verdictAfter, lentAfter, traceAfter}
+use Rattle.texts.specs.Call.{textNodes, textPolicies, textsTests, textsAnswer, textsRows, textsVerdict, textsLeaves, TextsSearched}
+use Rattle.console.specs.declared.lines.Three.{Three}
+use Rattle.console.specs.declared.sizes.Sizes.{Sizes}
+use Rattle.console.specs.declared.sizes.Sizes.the-variants.{Read, Malformed}
+use Rattle.console.specs.Lines.{linesOf}
+use Rattle.console.specs.Input.{splitByCommas, allSizes, sizesOf, malformed, compare, askedOf, askedByLines, asked}
+use Rattle.console.specs.Inner.{part, ThreeLines, readAs, SizesRead, Wrote, verdictLines, Fits}
+use Rattle.console.specs.Answer.{programLent, outputOf, programOutput, TellingPrinted, Printed, Answered}
+use Rattle.console.specs.Output.{wordEqual, wordLeft, wordRight, wordRefused, refusalLine, verdictLine, rowLines, traceLines, tellingLines, wordOfSide, answerLines, outputAfter}
+
+take-few : {A : Type 0} (n : ℕ) (l : List A) → length (take n l) ≤ n
+take-few n l = omega (arith, length-take n l)
+
+-- the first entries written
+take-written : (xs old : List ℕ) → take (length xs) (written xs old) ≡ xs
+unfolding written
+take-written xs old = take-append-seam xs (drop (length xs) old)
+
+module _ (sizes left-text right-text : List ℕ) (x : Lent) where
+  legal : textsTests sizes left-text right-text x ≡ Passed → Legal sizes (textNodes left-text) × Legal sizes (textNodes right-text)
+  unfolding textsTests Each sided
+  legal e =
+      let a = firstOf-passed _ _ e in
+      let b = firstOf-passed _ _ (a .1) in
+      let c = firstOf-passed _ _ (b .1) in
+      let d = firstOf-passed _ _ (c .1) in
+      let f = firstOf-passed _ _ (d .1) in
+      let g = stage-passes sizes (sided 1 (textNodes left-text) ∷ sided 2 (textNodes right-text) ∷ []) .0 (f .0) in
+      (g .0, g .1 .0)
+
+  -- an equal answer counts the rows held
+  rows-held : textsTests sizes left-text right-text x ≡ Passed → (n : ℕ) → textsAnswer sizes left-text right-text x ≡ equal n
+      → length (held (pairSystem sizes (policies (textNodes left-text) (textNodes right-text))) (length (x .packets))) ≡ n
+  rows-held e n a =
+      let l = legal e in
+      equal-same sizes (policies (textNodes left-text) (textNodes right-text)) (legal-pair sizes (textNodes left-text) (textNodes right-text) (l .0) (l .1)) (length (x .packets)) (length (x .trace)) n a .0
+
+  -- a telling trace fits the list lent
+  trace-fits : (s : Side) (α : ℕ) (t : List ℕ) → textsAnswer sizes left-text right-text x ≡ different s α t → length t ≤ length (x .trace)
+  trace-fits s α t a = go (subst (verdicts.Searched sizes ps (length (x .packets)) (length (x .trace))) a (searched sizes ps (length (x .packets)) (length (x .trace))))
+    where
+      ps : Pair Labelled
+      ps = policies (textNodes left-text) (textNodes right-text)
+
+      go : verdicts.Searched sizes ps (length (x .packets)) (length (x .trace)) (different s α t) → length t ≤ length (x .trace)
+      go (is-telling i b h q) = h
+
+  module _ (passed : textsTests sizes left-text right-text x ≡ Passed) where
+    -- what is printed of the lists that the search leaves is what the answer says
+    lines-passed : (a : SearchAnswer) → textsAnswer sizes left-text right-text x ≡ a
+        → verdictLines (verdictOf a) (filled (textsRows sizes left-text right-text x) a x .packets) (filled (textsRows sizes left-text right-text x) a x .lefts) (filled (textsRows sizes left-text right-text x) a x .rights) (filled (textsRows sizes left-text right-text x) a x .trace)
+        ≡ answerLines (textsRows sizes left-text right-text x) a
+    unfolding verdictLines verdictOf filled answerLines traceAfter tellingLines wordOfSide heldColumns columnsOf
+    lines-passed (equal n) e =
+        let rows = textsRows sizes left-text right-text x in
+        let many = rows-held passed n e in
+        let es = held (pairSystem sizes (policies (textNodes left-text) (textNodes right-text))) (length (x .packets)) in
+        let packets : take n (written (rows .packets) (x .packets)) ≡ rows .packets = ap (λ k. take k (written (rows .packets) (x .packets))) (sym (length-map es (λ e. e .row .packet) ∙ many)) ∙ take-written (rows .packets) (x .packets) in
+        let lefts : take n (written (rows .lefts) (x .lefts)) ≡ rows .lefts = ap (λ k. take k (written (rows .lefts) (x .lefts))) (sym (length-map es (λ e. e .row .state .left) ∙ many)) ∙ take-written (rows .lefts) (x .lefts) in
+        let rights : take n (written (rows .rights) (x .rights)) ≡ rows .rights = ap (λ k. take k (written (rows .rights) (x .rights))) (sym (length-map es (λ e. e .row .state .right) ∙ many)) ∙ take-written (rows .rights) (x .rights) in
+        ap (λ ls. verdictLine wordEqual n 0 ++ ls)
+        (ap (λ ps. rowLines ps (take n (written (rows .lefts) (x .lefts))) (take n (written (rows .rights) (x .rights)))) packets ∙ ap₂ (rowLines (rows .packets)) lefts rights)
+    lines-passed (different left α t) e = ap (λ w. verdictLine (wordOfSide left) (length t) α ++ traceLines 0 w) (take-written t (x .trace))
+    lines-passed (different right α t) e = ap (λ w. verdictLine (wordOfSide right) (length t) α ++ traceLines 0 w) (take-written t (x .trace))
+    lines-passed (rowsFull n) e = refl
+    lines-passed (traceShort n) e = refl
+
+    module _ (rows-lent : length (x .packets) ≡ 4096) (lefts-lent : length (x .lefts) ≡ 4096) (rights-lent : length (x .rights) ≡ 4096) (trace-lent : length (x .trace) ≡ 4096) where
+      fits-passed : (a : SearchAnswer) → textsAnswer sizes left-text right-text x ≡ a
+          → Fits (verdictOf a) (filled (textsRows sizes left-text right-text x) a x .packets) (filled (textsRows sizes left-text right-text x) a x .lefts) (filled (textsRows sizes left-text right-text x) a x .rights) (filled (textsRows sizes left-text right-text x) a x .trace)
+      unfolding Fits verdictOf filled traceAfter heldColumns columnsOf held
+      fits-passed (equal n) e =
+          let rows = textsRows sizes left-text right-text x in
+          let many = rows-held passed n e in
+          let es = held (pairSystem sizes (policies (textNodes left-text) (textNodes right-text))) (length (x .packets)) in
+          let few : length es ≤ 4096 = subst (λ k. length es ≤ k) rows-lent (take-few (length (x .packets)) _) in
+          let p = length-map es (λ e. e .row .packet) in
+          let l = length-map es (λ e. e .row .state .left) in
+          let r = length-map es (λ e. e .row .state .right) in (
+            omega (arith, many, few),
+            omega (arith, many, few, length-written (rows .packets) (x .packets) (omega (arith, p, few, rows-lent)), rows-lent),
+            omega (arith, many, few, length-written (rows .lefts) (x .lefts) (omega (arith, l, few, lefts-lent)), lefts-lent),
+            omega (arith, many, few, length-written (rows .rights) (x .rights) (omega (arith, r, few, rights-lent)), rights-lent),
+          )
+      fits-passed (different left α t) e = let h = trace-fits left α t e in (omega (arith, h, trace-lent), omega (arith, h, length-written t (x .trace) h))
+      fits-passed (different right α t) e = let h = trace-fits right α t e in (omega (arith, h, trace-lent), omega (arith, h, length-written t (x .trace) h))
+      fits-passed (rowsFull n) e = tt
+      fits-passed (traceShort n) e = tt
+
+  module _ {v : Verdict} {y : Lent} (D : TextsSearched sizes left-text right-text x v y) where
+    -- the lines printed of what the search leaves are the program's output
+    pub lines-are : verdictLines v (y .packets) (y .lefts) (y .rights) (y .trace) ≡ outputAfter (textsTests sizes left-text right-text x) (textsRows sizes left-text right-text x) (textsAnswer sizes left-text right-text x)
+    unfolding textsVerdict textsLeaves verdictAfter lentAfter outputAfter verdictLines
+    lines-are = go (textsTests sizes left-text right-text x) refl
+      where
+        rows : Columns
+        rows = textsRows sizes left-text right-text x
+
+        a : SearchAnswer
+        a = textsAnswer sizes left-text right-text x
+
+        shown : Verdict → Lent → List ℕ
+        shown w z = verdictLines w (z .packets) (z .lefts) (z .rights) (z .trace)
+
+        go : (t : Tested) → textsTests sizes left-text right-text x ≡ t → shown v y ≡ outputAfter t rows a
+        go Passed e =
+            ap₂ shown (D .answers ∙ ap (λ (t : Tested). verdictAfter t a) e) (D .leaves ∙ ap (λ (t : Tested). lentAfter t rows a x) e) ∙ lines-passed e a refl
+        go (Stopped r) e = ap₂ shown (D .answers ∙ ap (λ (t : Tested). verdictAfter t a) e) (D .leaves ∙ ap (λ (t : Tested). lentAfter t rows a x) e)
+
+    pub lines-fit : length (x .packets) ≡ 4096 → length (x .lefts) ≡ 4096 → length (x .rights) ≡ 4096 → length (x .trace) ≡ 4096 → Fits v (y .packets) (y .lefts) (y .rights) (y .trace)
+    unfolding textsVerdict textsLeaves verdictAfter lentAfter Fits
+    lines-fit p l r t = go (textsTests sizes left-text right-text x) refl
+      where
+        rows : Columns
+        rows = textsRows sizes left-text right-text x
+
+        a : SearchAnswer
+        a = textsAnswer sizes left-text right-text x
+
+        FitsIn : Verdict → Lent → Type 0
+        FitsIn w z = Fits w (z .packets) (z .lefts) (z .rights) (z .trace)
+
+        moved : {w : Verdict} {z : Lent} → v ≡ w → y ≡ z → FitsIn w z → FitsIn v y
+        moved {w} {z} e f h = subst (λ u. FitsIn u y) (sym e) (subst (FitsIn w) (sym f) h)
+
+        go : (u : Tested) → textsTests sizes left-text right-text x ≡ u → FitsIn v y
+        go Passed e = moved (D .answers ∙ ap (λ (u : Tested). verdictAfter u a) e) (D .leaves ∙ ap (λ (u : Tested). lentAfter u rows a x) e) (fits-passed e p l r t a refl)
+        go (Stopped q) e = moved (D .answers ∙ ap (λ (u : Tested). verdictAfter u a) e) (D .leaves ∙ ap (λ (u : Tested). lentAfter u rows a x) e) tt
+
+-- ---- what the first word says
+
+-- a byte list does not start with another word
+other-word : (xs ys : List ℕ) (i : ℕ) → (getD xs i 0 ≡ getD ys i 0 → ⊥) → xs ≡ ys → ⊥
+other-word xs ys i differ e = differ (ap (λ (l : List ℕ). getD l i 0) e)
+
+refusal-not-equal : (r : Refusal) → take (length wordEqual) (refusalLine r) ≡ wordEqual → ⊥
+unfolding refusalLine verdictLine wordRefused wordEqual
+refusal-not-equal r = other-word _ _ 0 (λ e. omega (arith, e))
+
+refusal-not-side : (s : Side) (r : Refusal) → take (length (wordOfSide s)) (refusalLine r) ≡ wordOfSide s → ⊥
+unfolding refusalLine verdictLine wordRefused wordOfSide wordLeft wordRight
+refusal-not-side left r = other-word _ _ 0 (λ e. omega (arith, e))
+refusal-not-side right r = other-word _ _ 1 (λ e. omega (arith, e))
+
+starts-equal : (t : Tested) (rows : Columns) (a : SearchAnswer) → take (length wordEqual) (outputAfter t rows a) ≡ wordEqual → (n : ℕ) × (verdictAfter t a ≡ Equal n)
+unfolding outputAfter answerLines verdictAfter verdictOf tellingLines verdictLine wordOfSide wordLeft wordRight wordEqual
+starts-equal Passed rows (equal n) e = (n, refl)
+starts-equal Passed rows (different left α w) e = absurd (other-word _ _ 0 (λ q. omega (arith, q)) e)
+starts-equal Passed rows (different right α w) e = absurd (other-word _ _ 0 (λ q. omega (arith, q)) e)
+starts-equal Passed rows (rowsFull n) e = absurd (refusal-not-equal _ e)
+starts-equal Passed rows (traceShort n) e = absurd (refusal-not-equal _ e)
+starts-equal (Stopped r) rows a e = absurd (refusal-not-equal r e)
+
+-- the trace of an output that starts with a side's word
+record Tells (t : Tested) (a : SearchAnswer) (s : Side) : Type 0 where
+  entering : ℕ
+  trace : List ℕ
+  passed : t ≡ Passed
+  answer : a ≡ different s entering trace
+
+starts-side : (s : Side) (t : Tested) (rows : Columns) (a : SearchAnswer) → take (length (wordOfSide s)) (outputAfter t rows a) ≡ wordOfSide s → Tells t a s
+unfolding outputAfter answerLines tellingLines verdictLine wordOfSide wordLeft wordRight wordEqual
+starts-side left Passed rows (equal n) e = absurd (other-word _ _ 0 (λ q. omega (arith, q)) e)
+starts-side right Passed rows (equal n) e = absurd (other-word _ _ 0 (λ q. omega (arith, q)) e)
+starts-side left Passed rows (different left α w) e = record { entering = α; trace = w; passed = refl; answer = refl }
+starts-side right Passed rows (different right α w) e = record { entering = α; trace = w; passed = refl; answer = refl }
+starts-side left Passed rows (different right α w) e = absurd (other-word _ _ 0 (λ q. omega (arith, q)) e)
+starts-side right Passed rows (different left α w) e = absurd (other-word _ _ 0 (λ q. omega (arith, q)) e)
+starts-side s Passed rows (rowsFull n) e = absurd (refusal-not-side s _ e)
+starts-side s Passed rows (traceShort n) e = absurd (refusal-not-side s _ e)
+starts-side s (Stopped r) rows a e = absurd (refusal-not-side s r e)
+
+-- ---- the search on two texts, printed
+
+program-lengths : (length (programLent .packets) ≡ 4096) × (length (programLent .lefts) ≡ 4096) × (length (programLent .rights) ≡ 4096) × (length (programLent .trace) ≡ 4096)
+unfolding programLent
+program-lengths = (length-replicate {A = ℕ} 4096 0, length-replicate {A = ℕ} 4096 0, length-replicate {A = ℕ} 4096 0, length-replicate {A = ℕ} 4096 0)
+
+module _ {sizes left-text right-text : List ℕ} {v : Verdict} {y : Lent} (D : TextsSearched sizes left-text right-text programLent v y) where
+  pub shows : Fits v (y .packets) (y .lefts) (y .rights) (y .trace)
+  shows = let l = program-lengths in lines-fit sizes left-text right-text programLent D (l .0) (l .1) (l .2) (l .3)
+
+  -- the trace list's first packets are the trace
+  trace-left : (s : Side) (h : Tells (textsTests sizes left-text right-text programLent) (textsAnswer sizes left-text right-text programLent) s) → take (length (h .trace)) (y .trace) ≡ h .trace
+  unfolding textsLeaves lentAfter filled traceAfter
+  trace-left s h =
+      ap (λ (z : Lent). take (length (h .trace)) (z .trace)) (D .leaves ∙ ap (λ (t : Tested). lentAfter t (textsRows sizes left-text right-text programLent) (textsAnswer sizes left-text right-text programLent) programLent) (h .passed))
+      ∙ ap (λ a. take (length (h .trace)) (traceAfter a (programLent .trace))) (h .answer)
+      ∙ take-written (h .trace) (programLent .trace)
+
+  telling-is : (s : Side) (h : Tells (textsTests sizes left-text right-text programLent) (textsAnswer sizes left-text right-text programLent) s) → v ≡ tellingVerdict s (length (h .trace)) (h .entering)
+  unfolding textsVerdict verdictAfter verdictOf
+  telling-is s h = D .answers ∙ ap₂ verdictAfter (h .passed) (h .answer)
+
+  pub printed : {old new : List ℕ} {e : ℕ} → Wrote old new 0 e (verdictLines v (y .packets) (y .lefts) (y .rights) (y .trace)) → Printed sizes left-text right-text old e new
+  unfolding outputOf outputAfter answerLines textsVerdict
+  printed {old} {new} {e} W =
+      record {
+        wrote = subst (Wrote old new 0 e) (lines-are sizes left-text right-text programLent D) W;
+        equal-same = λ q. let h = starts-equal _ _ _ q in D .equal-same (h .0) (D .answers ∙ h .1);
+        different-tells = λ s q. tells s (starts-side s _ _ _ q);
+      }
+    where
+      tells : (s : Side) → Tells (textsTests sizes left-text right-text programLent) (textsAnswer sizes left-text right-text programLent) s → TellingPrinted sizes left-text right-text s
+      tells s h =
+          record {
+            entering = h .entering;
+            trace = h .trace;
+            printed = ap₂ (λ t a. outputAfter t (textsRows sizes left-text right-text programLent) a) (h .passed) (h .answer);
+            tells = subst (Distinguishes sizes (textPolicies left-text right-text) s (h .entering)) (trace-left s h) (D .different-tells s (length (h .trace)) (h .entering) (telling-is s h) .tells);
+          }
+
+-- ---- the whole program
+
+wrote-front : {old new xs : List ℕ} {e : ℕ} → Wrote old new 0 e xs → (e ≡ length xs) × (new ≡ written xs old)
+unfolding written
+wrote-front {old} {new} {xs} {e} W =
+    let n : e ≡ length xs = W .ends ∙ omega arith in
+    (n, W .holds ∙ ap (λ k. xs ++ drop k old) n)
+
+module _ {input : List ℕ} where
+  pub answers-malformed : asked input ≡ malformed → {old new : List ℕ} {e : ℕ} → Wrote old new 0 e (refusalLine (refusal 18 0 0)) → Answered input old e new
+  unfolding programOutput outputOf
+  answers-malformed a {old} {new} {e} W =
+      let is : programOutput input ≡ refusalLine (refusal 18 0 0) = ap outputOf a in
+      let w = wrote-front W in
+      record {
+        count = w .0 ∙ ap length (sym is);
+        output = w .1 ∙ ap (λ xs. written xs old) (sym is);
+        equal-same = λ q. absurd (refusal-not-equal _ (ap (take (length wordEqual)) (sym is) ∙ q));
+        different-tells = λ s q. absurd (refusal-not-side s _ (ap (take (length (wordOfSide s))) (sym is) ∙ q));
+      }
+
+  pub answers-searched : {sizes left-text right-text : List ℕ} → asked input ≡ compare sizes left-text right-text → {old new : List ℕ} {e : ℕ} → Printed sizes left-text right-text old e new → Answered input old e new
+  unfolding programOutput
+  answers-searched {sizes} {left-text} {right-text} a {old} {new} {e} P =
+      let is : programOutput input ≡ outputOf (compare sizes left-text right-text) = ap outputOf a in
+      let w = wrote-front (P .wrote) in
+      record {
+        count = w .0 ∙ ap length (sym is);
+        output = w .1 ∙ ap (λ xs. written xs old) (sym is);
+        equal-same = λ q. record { sizes = sizes; left = left-text; right = right-text; asks = a; same = P .equal-same (ap (take (length wordEqual)) (sym is) ∙ q) };
+        different-tells = λ s q.
+            let t = P .different-tells s (ap (take (length (wordOfSide s))) (sym is) ∙ q) in
+            record { sizes = sizes; left = left-text; right = right-text; asks = a; entering = t .entering; trace = t .trace; printed = is ∙ t .printed; tells = t .tells };
+      }
+
+-- ---- what the input asks
+
+pub asks-too-long : (input : List ℕ) → 32768 < length input → asked input ≡ malformed
+unfolding asked
+asks-too-long input h = rw (lt-ltb 32768 (length input) h, asked)
+
+asks-lines : (input : List ℕ) → length input ≤ 32768 → asked input ≡ askedByLines (linesOf input)
+unfolding asked
+asks-lines input h = rw (le-ltb 32768 (length input) h, asked)
+
+pub asks-not-three : {input : List ℕ} {three : Three} → ThreeLines input three → three .ok ≡ false → length input ≤ 32768 → asked input ≡ malformed
+asks-not-three {input} T e h = asks-lines input h ∙ T .not e
+
+module _ {input : List ℕ} {three : Three} (T : ThreeLines input three) (ok : three .ok ≡ true) (short : length input ≤ 32768) {r : Sizes} {sizes : List ℕ} (S : SizesRead (part input 0 (three .«first_end»)) r sizes) where
+  words : List (List ℕ)
+  words = splitByCommas (part input 0 (three .«first_end»))
+
+  asks-words : asked input ≡ askedOf words (part input (three .second) (three .«second_end»)) (part input (three .third) (three .«third_end»))
+  unfolding askedByLines words
+  asks-words = asks-lines input short ∙ ap askedByLines (T .read ok)
+
+  sizes-bad : (b : Bool) → r ≡ cond b (Read (length words)) Malformed → r ≡ Malformed → b ≡ false
+  sizes-bad true e f = let z : _≡_ {A = ℕ} 0 1 = cc in absurd (omega (arith, z))
+  sizes-bad false e f = refl
+
+  sizes-good : (b : Bool) (n : ℕ) → r ≡ cond b (Read (length words)) Malformed → r ≡ Read n → (b ≡ true) × (n ≡ length words)
+  sizes-good true n e f = let z : n ≡ length words = cc in (refl, z)
+  sizes-good false n e f = let z : _≡_ {A = ℕ} 0 1 = cc in absurd (omega (arith, z))
+
+  pub asks-no-sizes : r ≡ Malformed → asked input ≡ malformed
+  unfolding askedOf readAs words
+  asks-no-sizes f = asks-words ∙ rw (sizes-bad (allSizes words) (S .answer) f, askedOf)
+
+  pub asks-search : (n : ℕ) → r ≡ Read n → asked input ≡ compare (take n sizes) (part input (three .second) (three .«second_end»)) (part input (three .third) (three .«third_end»))
+  unfolding askedOf readAs words
+  asks-search n f =
+      let g = sizes-good (allSizes words) n (S .answer) f in
+      let is : askedOf words (part input (three .second) (three .«second_end»)) (part input (three .third) (three .«third_end»)) ≡ compare (sizesOf words) (part input (three .second) (three .«second_end»)) (part input (three .third) (three .«third_end»)) = rw (g .0, askedOf) in
+      asks-words ∙ is ∙ ap (λ ss. compare ss (part input (three .second) (three .«second_end»)) (part input (three .third) (three .«third_end»))) (sym (S .values (g .0)) ∙ ap (λ k. take k sizes) (sym (g .1)))
