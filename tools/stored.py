@@ -9,7 +9,7 @@ def store(crate, given, expected, check):
         text = "".join(line + "\n" for line in lines)
         path = folder / name
         if not check:
-            path.write_text(text)
-        elif not path.exists() or path.read_text() != text:
+            path.write_bytes(text.encode())
+        elif not path.exists() or path.read_bytes() != text.encode():
             sys.exit("%s/%s is not what the script works out" % (crate, name))
     print("%s: %d cases" % (crate, len(given)))

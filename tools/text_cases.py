@@ -150,11 +150,20 @@ def expected(text, lengths):
     return answer + "".join(lists)
 
 
-def given(parts, lengths):
-    numbers = list(lengths) + [len(parts)]
+def numbers_of(parts):
+    """The number of parts, and for each how often it stands there, its length and its bytes."""
+    numbers = [len(parts)]
     for times, part in parts:
         numbers += [times, len(part)] + list(part)
-    return " ".join(map(str, numbers))
+    return numbers
+
+
+def joined(parts):
+    return b"".join(part * times for times, part in parts)
+
+
+def given(parts, lengths):
+    return " ".join(map(str, list(lengths) + numbers_of(parts)))
 
 
 def parts_of(*parts):
@@ -282,8 +291,9 @@ LONG = [
 def main():
     cases = list(all_cases())
     lines = [given(parts, lengths) for parts, lengths in cases]
-    answers = [expected(b"".join(part * times for times, part in parts), lengths) for parts, lengths in cases]
+    answers = [expected(joined(parts), lengths) for parts, lengths in cases]
     store("text_cases", lines, answers, "--check" in sys.argv[1:])
 
 
-main()
+if __name__ == "__main__":
+    main()

@@ -1,10 +1,10 @@
 -- What a search on two texts leaves is what the program prints. Assumes nothing.
-use Prim.Native.Nat.{ℕ, _≤_, _<_}
+use Prim.Native.Nat.{ℕ, _-_, _≤_, _<_}
 use mathlib.Core.Bool.{Bool, true, false, cond}
 use mathlib.Core.List.{List, [], _∷_, _++_}
 use mathlib.Core.Path.{_≡_, refl, sym, ap, ap₂, _∙_, subst}
 use native.Mathlib.Omega.{arith}
-use lib.ListN.{length, getD, take, drop, length-map, length-take, length-replicate}
+use lib.ListN.{length, getD, take, drop, length-append, length-drop, length-map, length-take, length-replicate}
 use lib.Seq.{take-append-seam}
 use borrow.Author.Tests.{lt-ltb, le-ltb}
 use Rattle.packet.specs.declared.Refusal.{Refusal}
@@ -275,6 +275,13 @@ module _ {input : List ℕ} where
             record { sizes = sizes; left = left-text; right = right-text; asks = a; entering = t .entering; trace = t .trace; printed = is ∙ t .printed; tells = t .tells };
       }
 
+-- an answer fits where it was written
+pub answer-fits : {input old new : List ℕ} {n : ℕ} → Answered input old n new → length new ≡ length old → n ≤ length old
+unfolding written
+answer-fits {input} {old} {new} {n} A kept =
+    let xs = programOutput input in
+    omega (arith, A .count, kept, ap length (A .output), length-append xs (drop (length xs) old), length-drop (length xs) old)
+
 -- ---- what the input asks
 
 pub asks-too-long : (input : List ℕ) → 32768 < length input → asked input ≡ malformed
@@ -288,13 +295,17 @@ asks-lines input h = rw (le-ltb 32768 (length input) h, asked)
 pub asks-not-three : {input : List ℕ} {three : Three} → ThreeLines input three → three .ok ≡ false → length input ≤ 32768 → asked input ≡ malformed
 asks-not-three {input} T e h = asks-lines input h ∙ T .not e
 
-module _ {input : List ℕ} {three : Three} (T : ThreeLines input three) (ok : three .ok ≡ true) (short : length input ≤ 32768) {r : Sizes} {sizes : List ℕ} (S : SizesRead (part input 0 (three .«first_end»)) r sizes) where
+module _ {input : List ℕ} {three : Three} (T : ThreeLines input three) (ok : three .ok ≡ true) (short : length input ≤ 32768) {r : Sizes} {sizes : List ℕ} (S : SizesRead (take (three .«first_end») input) r sizes) where
   words : List (List ℕ)
-  words = splitByCommas (part input 0 (three .«first_end»))
+  words = splitByCommas (take (three .«first_end») input)
 
   asks-words : asked input ≡ askedOf words (part input (three .second) (three .«second_end»)) (part input (three .third) (three .«third_end»))
   unfolding askedByLines words
-  asks-words = asks-lines input short ∙ ap askedByLines (T .read ok)
+  asks-words =
+      let front : three .«first_end» - 0 ≡ three .«first_end» = omega arith in
+      asks-lines input short
+      ∙ ap askedByLines (T .read ok)
+      ∙ ap (λ n. askedOf (splitByCommas (take n input)) (part input (three .second) (three .«second_end»)) (part input (three .third) (three .«third_end»))) front
 
   sizes-bad : (b : Bool) → r ≡ cond b (Read (length words)) Malformed → r ≡ Malformed → b ≡ false
   sizes-bad true e f = let z : _≡_ {A = ℕ} 0 1 = cc in absurd (omega (arith, z))
@@ -314,3 +325,7 @@ module _ {input : List ℕ} {three : Three} (T : ThreeLines input three) (ok : t
       let g = sizes-good (allSizes words) n (S .answer) f in
       let is : askedOf words (part input (three .second) (three .«second_end»)) (part input (three .third) (three .«third_end»)) ≡ compare (sizesOf words) (part input (three .second) (three .«second_end»)) (part input (three .third) (three .«third_end»)) = rw (g .0, askedOf) in
       asks-words ∙ is ∙ ap (λ ss. compare ss (part input (three .second) (three .«second_end»)) (part input (three .third) (three .«third_end»))) (sym (S .values (g .0)) ∙ ap (λ k. take k sizes) (sym (g .1)))
+
+  pub sizes-held : (n : ℕ) → r ≡ Read n → n ≤ length sizes
+  unfolding readAs words
+  sizes-held n f = let g = sizes-good (allSizes words) n (S .answer) f in omega (arith, S .few (g .0), g .1)

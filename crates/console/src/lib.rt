@@ -4,15 +4,18 @@ mod output;
 mod sizes;
 
 ghost use mathlib.Core.Path.{_≡_};
+ghost use mathlib.Core.Bool.{true};
 ghost use mathlib.Core.List.{_++_};
 ghost use Prim.Native.Nat.{_≤_};
 ghost use lib.ListN.{length, take};
 ghost use Rattle.console.specs.Output.{wordEqual, verdictLine, rowLines, traceLines, refusalLine};
-ghost use Rattle.console.specs.Inner.{Wrote, verdictLines, Fits};
-ghost use Rattle.console.specs.Answer.{Printed};
+ghost use Rattle.console.specs.Inner.{Wrote, verdictLines, Fits, ThreeLines};
+ghost use Rattle.console.specs.Answer.{Printed, Answered};
 ghost use Rattle.packet.specs.Refusals.{refusal};
+use lines::Three;
 use packet::Refusal;
 use search::Verdict;
+use sizes::Sizes;
 
 // A refusal's line.
 fn refused(out: &mut [u8], r: Refusal) -> usize
@@ -99,4 +102,41 @@ fn searched(sizes: &[u16], left: &[u8], right: &[u8], out: &mut [u8]) -> usize
         &mut work,
     );
     show(out, verdict, &packets, &lefts, &rights, &trace)
+}
+
+// The three lines of the input, read and answered. A line of sizes has at most 16,384 of them and their commas.
+fn asked(input: &[u8], three: Three, out: &mut [u8]) -> usize
+    requires { ⌜ ThreeLines (now input) three × (three .ok ≡ true) × (length (now input) ≤ 32768) × (131072 ≤ length (now out)) ⌝ }
+    ensures { λ e. ⌜ Answered (now (input .entry)) (now (out .entry)) e (now (out .exit)) ⌝ }
+{
+    let first_end = three.first_end;
+    let second = three.second;
+    let second_end = three.second_end;
+    let third = three.third;
+    let third_end = three.third_end;
+    let mut list = [0u16; 16385];
+    let Sizes::Read(n) = sizes::read(&input[..first_end], &mut list) else {
+        return malformed(out);
+    };
+    searched(
+        &list[..n],
+        &input[second..second_end],
+        &input[third..third_end],
+        out,
+    )
+}
+
+// The program: the input's bytes are answered at the front of the output; returns how many bytes were written.
+pub fn answer(input: &[u8], output: &mut [u8; 131072]) -> usize
+    ensures answers { λ e. ⌜ Answered (now (input .entry)) (now (output .entry)) e (now (output .exit)) ⌝ }
+    ensures fits { λ e. ⌜ (e ≤ 131072) × (131072 ≡ length (now (output .exit))) ⌝ }
+{
+    if 32768 < input.len() {
+        return malformed(output);
+    }
+    let three = lines::three_lines(input);
+    if three.ok {
+        return asked(input, three, output);
+    }
+    malformed(output)
 }

@@ -159,6 +159,77 @@ pub fn scan_long_bytes(input: &[u8], from: usize) -> LongBytes
     }
 }
 
+// How long a text is so far, and the place of the input behind what was read.
+pub struct Built {
+    pub len: usize,
+    pub at: usize,
+}
+
+pub fn size(x: u32) -> usize
+    ensures { λ r. ⌜ r ≡ x ⌝ }
+{
+    x as usize
+}
+
+pub fn least(a: usize, b: usize) -> usize
+    ensures { λ r. ⌜ (r ≤ a) × (r ≤ b) ⌝ }
+{
+    if a < b {
+        return a;
+    }
+    b
+}
+
+fn put(text: &mut [u8], len: usize, b: u8) -> usize {
+    if len < text.len() {
+        text[len] = b;
+        return len + 1;
+    }
+    len
+}
+
+// A part's bytes, once.
+fn once(input: &[u8], from: usize, count: usize, text: &mut [u8], start: usize) -> Built {
+    let mut len = start;
+    let mut at = from;
+    for _ in 0..count {
+        let s = scan(input, at);
+        at = s.at;
+        len = put(text, len, (s.value % 256) as u8);
+    }
+    Built { len, at }
+}
+
+fn part(input: &[u8], from: usize, text: &mut [u8], start: usize) -> Built {
+    let times = scan(input, from);
+    let count = scan(input, times.at);
+    let body = count.at;
+    let bytes = size(count.value);
+    let turns = size(times.value);
+    let mut len = start;
+    let mut at = body;
+    for _ in 0..turns {
+        let b = once(input, body, bytes, text, len);
+        len = b.len;
+        at = b.at;
+    }
+    Built { len, at }
+}
+
+// A text of the input: the number of its parts, and for each part how often it stands there, its length and its bytes.
+pub fn build(input: &[u8], from: usize, text: &mut [u8]) -> Built {
+    let parts = scan(input, from);
+    let count = size(parts.value);
+    let mut len = 0;
+    let mut at = parts.at;
+    for _ in 0..count {
+        let b = part(input, at, text, len);
+        len = b.len;
+        at = b.at;
+    }
+    Built { len, at }
+}
+
 pub fn wide(x: u16) -> u64
     ensures { λ r. ⌜ r ≡ x ⌝ }
 {

@@ -2,78 +2,6 @@
 // of parts of the text, and for each part how often it stands there, its length and its bytes. Every entry of the lists is 7
 // before the call; the answer is written with all three lists.
 use text::Answer;
-ghost use mathlib.Core.Path.{_≡_};
-ghost use Prim.Native.Nat.{_≤_};
-
-// How long a text is so far, and the place of the input behind what was read.
-struct Built {
-    len: usize,
-    at: usize,
-}
-
-fn size(x: u32) -> usize
-    ensures { λ r. ⌜ r ≡ x ⌝ }
-{
-    x as usize
-}
-
-fn least(a: usize, b: usize) -> usize
-    ensures { λ r. ⌜ (r ≤ a) × (r ≤ b) ⌝ }
-{
-    if a < b {
-        return a;
-    }
-    b
-}
-
-fn put(text: &mut [u8], len: usize, b: u8) -> usize {
-    if len < text.len() {
-        text[len] = b;
-        return len + 1;
-    }
-    len
-}
-
-// A part's bytes, once.
-fn once(input: &[u8], from: usize, count: usize, text: &mut [u8], start: usize) -> Built {
-    let mut len = start;
-    let mut at = from;
-    for _ in 0..count {
-        let s = harness::scan(input, at);
-        at = s.at;
-        len = put(text, len, (s.value % 256) as u8);
-    }
-    Built { len, at }
-}
-
-fn part(input: &[u8], from: usize, text: &mut [u8], start: usize) -> Built {
-    let times = harness::scan(input, from);
-    let count = harness::scan(input, times.at);
-    let body = count.at;
-    let bytes = size(count.value);
-    let turns = size(times.value);
-    let mut len = start;
-    let mut at = body;
-    for _ in 0..turns {
-        let b = once(input, body, bytes, text, len);
-        len = b.len;
-        at = b.at;
-    }
-    Built { len, at }
-}
-
-fn build(input: &[u8], from: usize, text: &mut [u8]) -> Built {
-    let parts = harness::scan(input, from);
-    let count = size(parts.value);
-    let mut len = 0;
-    let mut at = parts.at;
-    for _ in 0..count {
-        let b = part(input, at, text, len);
-        len = b.len;
-        at = b.at;
-    }
-    Built { len, at }
-}
 
 fn wide8(x: u8) -> u64 {
     x as u64
@@ -111,14 +39,14 @@ fn one_case(input: &[u8], from: usize, text: &mut [u8]) -> usize {
     let kinds = harness::scan(input, from);
     let firsts = harness::scan(input, kinds.at);
     let seconds = harness::scan(input, firsts.at);
-    let b = build(input, seconds.at, text);
+    let b = harness::build(input, seconds.at, text);
     let mut kind = [7u8; 600];
     let mut first = [7u16; 600];
     let mut second = [7u16; 600];
-    let len = least(b.len, text.len());
-    let k = least(size(kinds.value), 600);
-    let f = least(size(firsts.value), 600);
-    let s = least(size(seconds.value), 600);
+    let len = harness::least(b.len, text.len());
+    let k = harness::least(harness::size(kinds.value), 600);
+    let f = harness::least(harness::size(firsts.value), 600);
+    let s = harness::least(harness::size(seconds.value), 600);
     answer(
         &text[..len],
         &mut kind[..k],

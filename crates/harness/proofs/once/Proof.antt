@@ -1,12 +1,12 @@
--- `text_cases::once` ends, and keeps the text's length.
+-- `harness::once` ends, and keeps the text's length.
 -- Assumes nothing.
 use borrow.Author.Needs.{needs}
 use Prim.Native.Nat.{_-_, _≤_}
 use mathlib.Core.Path.{_≡_, refl, _∙_}
 use native.Mathlib.Omega.{arith}
 use lib.ListN.{length}
-use Rattle.text_cases.proofs.once.Statement.{statement}
-use Rattle.text_cases.proofs.once.Tie as tie
+use Rattle.harness.proofs.once.Statement.{statement}
+use Rattle.harness.proofs.once.Tie as tie
 
 abbrev Inv-loop : tie.InvT-loop
 Inv-loop input from count text₀ start len₀ at₀ counter₀ text len at counter = (counter ≤ count) × (length text ≡ length text₀)

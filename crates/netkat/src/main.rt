@@ -1,0 +1,76 @@
+// The program (document 01, "The program"): reads standard input to its end and writes the answer.
+use libc::STDIN_FILENO;
+use libc::STDOUT_FILENO;
+ghost use Prim.Native.Nat.{_≤_};
+ghost use lib.ListN.{length};
+
+// How much of the input is kept, and whether there may be more.
+struct Kept {
+    len: usize,
+    more: bool,
+}
+
+// Keeps what there is room for.
+fn keep(input: &mut [u8], len: usize, chunk: &[u8]) -> usize
+    requires { ⌜ len ≤ length (now input) ⌝ }
+    ensures { λ r. ⌜ r ≤ length (now (input .exit)) ⌝ }
+{
+    let mut at = len;
+    let mut i = 0;
+    while i < chunk.len() {
+        if input.len() <= at {
+            return at;
+        }
+        input[at] = chunk[i];
+        at += 1;
+        i += 1;
+    }
+    at
+}
+
+// One read. After a read that fails nothing is kept: half an input must not get a verdict, and an empty one is malformed.
+fn read_some(input: &mut [u8], len: usize) -> Kept
+    requires { ⌜ len ≤ length (now input) ⌝ }
+    ensures { λ r. ⌜ r .len ≤ length (now (input .exit)) ⌝ }
+{
+    let mut chunk = io::buffer();
+    let got = libc::read(STDIN_FILENO, &mut chunk);
+    if got < 0 {
+        return Kept {
+            len: 0,
+            more: false,
+        };
+    }
+    let n = io::count(got, &chunk);
+    Kept {
+        len: keep(input, len, &chunk[..n]),
+        more: 0 < n,
+    }
+}
+
+// Reads to the end of the input and keeps the first bytes. A proved loop has to end, and nothing says that an input
+// does: the turns are more than any run uses up.
+fn read_all(input: &mut [u8]) -> usize
+    ensures { λ r. ⌜ r ≤ length (now (input .exit)) ⌝ }
+{
+    let mut len = 0;
+    let mut turns = u64::MAX;
+    while 0 < turns {
+        let kept = read_some(input, len);
+        len = kept.len;
+        if !kept.more {
+            return len;
+        }
+        turns -= 1;
+    }
+    0
+}
+
+fn main() {
+    // one byte more than an input may have: that it is too long is all that counts then
+    let mut input = [0u8; 32769];
+    let n = read_all(&mut input);
+    let mut output = [0u8; 131072];
+    let written = console::answer(&input[..n], &mut output);
+    io::write_all(STDOUT_FILENO, &output[..written]);
+}
