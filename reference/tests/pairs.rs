@@ -283,3 +283,23 @@ fn heavy_pairs_are_equal() {
         assert_eq!(ruling, Ruling::Accepted, "{}", pair.name);
     }
 }
+
+#[test]
+fn leaks_are_different() {
+    for pair in heavy::leaks() {
+        let outcome = search(&pair.sizes, &pair.left, &pair.right);
+        assert!(
+            matches!(outcome.answer, Ok(Verdict::Different { .. })),
+            "{} {:?}",
+            pair.name,
+            outcome.answer
+        );
+    }
+}
+
+#[test]
+fn full_table_is_full() {
+    let pair = heavy::full_table();
+    let outcome = search(&pair.sizes, &pair.left, &pair.right);
+    assert_eq!(outcome.answer, Ok(Verdict::Equal { rows: 65_535 }));
+}

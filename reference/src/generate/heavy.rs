@@ -1,10 +1,12 @@
 //! Pairs that cost a search much, for benchmarks.
 
+use super::network::{ring, tree};
+
 /// A pair of texts with its sizes.
 #[derive(Clone, Debug)]
 pub struct Pair {
     /// What it puts weight on.
-    pub name: &'static str,
+    pub name: String,
     /// Sizes of the fields.
     pub sizes: Vec<u16>,
     /// Left text.
@@ -15,62 +17,152 @@ pub struct Pair {
 
 /// All of them. Each is equal, with at most 65,535 rows.
 pub fn pairs() -> Vec<Pair> {
-    vec![
-        nested_stars(),
+    let mut pairs = combinatorial();
+    pairs.extend(networks());
+    pairs.extend([
+        nested_stars(511, "id"),
+        nested_stars(500, "dup"),
         counter(),
-        forwarding(),
+        one_way(),
+        full_table(),
         cycles(),
         many_dups(),
-        many_states(),
-        many_rows(),
+        many_states(14),
+        many_rows(5),
+    ]);
+    pairs
+}
+
+/// Inc, flip and nondet of document 000, section 7.2: over bits, of which there are at most eight, and over the larger
+/// digits that make 1,024 packets.
+pub fn combinatorial() -> Vec<Pair> {
+    vec![
+        inc(8, 2),
+        inc(5, 4),
+        flip(8, 2),
+        flip(5, 4),
+        nondet(8, 2),
+        nondet(5, 4),
+        nondet(2, 32),
     ]
 }
 
-/// 511 stars on one another.
-fn nested_stars() -> Pair {
+/// Rings and trees with shortest-path forwarding, as many switches as 512 nodes can forward, and their slices.
+pub fn networks() -> Vec<Pair> {
+    vec![
+        ring(14).reachability(0, 7),
+        ring(14).rule_orders(),
+        ring(9).slices(),
+        tree(3).reachability(7, 14),
+        tree(3).rule_orders(),
+        tree(3).slices(),
+    ]
+}
+
+/// Slices of which one hands packets to the other: two pairs that are different.
+pub fn leaks() -> Vec<Pair> {
+    vec![ring(9).leak(), tree(3).leak()]
+}
+
+/// So many stars on one another.
+pub fn nested_stars(stars: usize, body: &str) -> Pair {
+    let once = if body == "id" { "" } else { "*" };
     Pair {
-        name: "nested stars",
+        name: format!("{stars} stars on {body}"),
         sizes: vec![1024],
-        left: format!("id{}", "*".repeat(511)),
+        left: format!("{body}{}", "*".repeat(stars)),
+        right: format!("{body}{once}"),
+    }
+}
+
+/// Texts joined by an operator.
+pub(super) fn joined(operator: &str, texts: impl IntoIterator<Item = String>) -> String {
+    texts.into_iter().collect::<Vec<_>>().join(operator)
+}
+
+/// Every field to or at one value.
+fn all(fields: usize, act: &str, value: u16) -> String {
+    joined(
+        ";",
+        (0..fields).map(|field| format!("f{field}{act}{value}")),
+    )
+}
+
+/// Adds one to digits of a base, the last field the lowest; nothing follows the highest number.
+fn increment(digits: usize, base: u16) -> String {
+    let carries = (0..digits).rev().map(|digit| {
+        let top = base - 1;
+        let cleared: String = (digit + 1..digits)
+            .map(|low| format!("f{low}={top};f{low}<-0;"))
+            .collect();
+        let up = (0..top).map(|value| format!("f{digit}={value};f{digit}<-{}", value + 1));
+        format!("{cleared}({})", joined("+", up))
+    });
+    joined("+", carries)
+}
+
+/// Repeated incrementing turns the lowest number into the highest.
+fn inc(digits: usize, base: u16) -> Pair {
+    let (lowest, highest) = (all(digits, "=", 0), all(digits, "=", base - 1));
+    Pair {
+        name: format!("inc, {digits} digits to base {base}"),
+        sizes: vec![base; digits],
+        left: format!("{lowest};({})*;{highest}", increment(digits, base)),
+        right: format!("{lowest};{}", all(digits, "<-", base - 1)),
+    }
+}
+
+/// Turning every digit on by one, as often as the base says, returns the packet.
+fn flip(digits: usize, base: u16) -> Pair {
+    let turn = |digit: usize| {
+        let on = |value| format!("f{digit}={value};f{digit}<-{}", (value + 1) % base);
+        format!("({})", joined("+", (0..base).map(on)))
+    };
+    let turned = joined(";", (0..digits).map(turn));
+    Pair {
+        name: format!("flip, {digits} digits to base {base}"),
+        sizes: vec![base; digits],
+        left: joined(";", vec![turned; base.into()]),
         right: "id".to_string(),
     }
 }
 
-/// Adds one to eight bits, field 7 the lowest.
-fn increment() -> String {
-    let carries = (0..8).rev().map(|bit| {
-        let cleared: String = (bit + 1..8)
-            .map(|low| format!("f{low}=1;f{low}<-0;"))
-            .collect();
-        format!("{cleared}f{bit}=0;f{bit}<-1")
-    });
-    carries.collect::<Vec<_>>().join("+")
+/// Any value in each field.
+fn any(fields: usize, size: u16) -> String {
+    let field = |field: usize| joined("+", (0..size).map(|value| format!("f{field}<-{value}")));
+    joined(";", (0..fields).map(|at| format!("({})", field(at))))
+}
+
+/// Setting the fields to any values twice is the same as once.
+fn nondet(fields: usize, size: u16) -> Pair {
+    let once = any(fields, size);
+    Pair {
+        name: format!("nondet, {fields} fields of {size}"),
+        sizes: vec![size; fields],
+        left: format!("{once};{once}"),
+        right: once,
+    }
 }
 
 /// A counter that is recorded at each count, and the same unrolled once.
 fn counter() -> Pair {
-    let round = format!("({});dup", increment());
+    let round = format!("({});dup", increment(8, 2));
     Pair {
-        name: "counter",
+        name: "counter".to_string(),
         sizes: vec![2; 8],
         left: format!("({round})*"),
         right: format!("id+({round});({round})*"),
     }
 }
 
-/// A ring of 32 switches with 32 destinations: on towards the destination, recorded at each switch.
-fn forwarding() -> Pair {
-    let hops = |order: &mut dyn Iterator<Item = u16>| {
-        order
-            .map(|switch| format!("f0={switch};f1!={switch};f0<-{}", (switch + 1) % 32))
-            .collect::<Vec<_>>()
-            .join("+")
-    };
+/// A ring of 32 switches that forwards one way, recorded at each switch, and its rules in another order.
+fn one_way() -> Pair {
+    let hop = |switch| format!("f0={switch};f1!={switch};f0<-{}", (switch + 1) % 32);
     Pair {
-        name: "forwarding",
+        name: "one-way ring of 32".to_string(),
         sizes: vec![32, 32],
-        left: format!("(({});dup)*", hops(&mut (0..32))),
-        right: format!("(({});dup)*", hops(&mut (0..32).rev())),
+        left: format!("(({});dup)*", joined("+", (0..32).map(hop))),
+        right: format!("(({});dup)*", joined("+", (0..32).rev().map(hop))),
     }
 }
 
@@ -81,36 +173,33 @@ fn rounds(dups: usize) -> String {
     format!("({round})*;{rest}")
 }
 
-/// `dup*` in rounds of 7 and of 9: 63 pairs of states, and nearly as many rows as there may be.
-fn cycles() -> Pair {
+/// `dup*` in rounds of two numbers of dups. If they have no common divisor, their product and 1 are the pairs of states
+/// at each packet, and each row has one next row.
+fn in_rounds(name: &str, packets: u16, left: usize, right: usize) -> Pair {
     Pair {
-        name: "cycles",
-        sizes: vec![3, 11, 31],
-        left: rounds(7),
-        right: rounds(9),
+        name: name.to_string(),
+        sizes: vec![packets],
+        left: rounds(left),
+        right: rounds(right),
     }
 }
 
-/// Any packet out of 1,024.
-fn any() -> String {
-    let field = |f: usize| {
-        (0..4)
-            .map(|v| format!("f{f}<-{v}"))
-            .collect::<Vec<_>>()
-            .join("+")
-    };
-    (0..5)
-        .map(|f| format!("({})", field(f)))
-        .collect::<Vec<_>>()
-        .join(";")
+/// 85 pairs of states at 771 packets: 65,535 rows, as many as there may be.
+pub fn full_table() -> Pair {
+    in_rounds("full table", 771, 7, 12)
+}
+
+/// 241 pairs of states at 271 packets: as many rows as fit with fewer packets, so that few rows are starting rows.
+pub fn cycles() -> Pair {
+    in_rounds("cycles", 271, 15, 16)
 }
 
 /// From any packet to any packet with 31 dups.
-fn many_dups() -> Pair {
+pub fn many_dups() -> Pair {
     let dups = ["dup"; 31].join("+");
-    let policy = format!("({};({dups}))*", any());
+    let policy = format!("({};({dups}))*", any(5, 4));
     Pair {
-        name: "many dups",
+        name: "many dups".to_string(),
         sizes: vec![4; 5],
         left: policy.clone(),
         right: policy,
@@ -123,22 +212,22 @@ fn window(any: &str, mark: &str, places: usize) -> String {
     format!("({any};dup)*;{any};{mark};dup{step}")
 }
 
-/// Few packets, tens of thousands of states.
-fn many_states() -> Pair {
-    let policy = window("(f0<-0+f0<-1)", "f0=1", 14);
+/// Two packets, and a state for each set of so many places and two more.
+pub fn many_states(places: usize) -> Pair {
+    let policy = window("(f0<-0+f0<-1)", "f0=1", places);
     Pair {
-        name: "many states",
+        name: "many states".to_string(),
         sizes: vec![2],
         left: policy.clone(),
         right: policy,
     }
 }
 
-/// 1,024 packets, tens of thousands of rows, each with 1,024 next rows.
-fn many_rows() -> Pair {
-    let policy = window(&format!("({})", any()), "f0=0", 5);
+/// 1,024 packets, and rows for each set of so many places, each row with 1,024 next rows.
+pub fn many_rows(places: usize) -> Pair {
+    let policy = window(&format!("({})", any(5, 4)), "f0=0", places);
     Pair {
-        name: "many rows",
+        name: "many rows".to_string(),
         sizes: vec![4; 5],
         left: policy.clone(),
         right: policy,

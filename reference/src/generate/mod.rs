@@ -1,13 +1,14 @@
 //! Random inputs from a seed: legal ones, damaged ones, hostile ones.
 //!
 //! [`case`] makes one call with everything it is handed. The parts are public too: [`tree`] for policies as trees and
-//! their node lists and texts, [`damage`] for illegal inputs, [`cases`] for whole calls. [`fixed`] has cases that are always worth running, [`heavy`]
-//! pairs that cost a search much.
+//! their node lists and texts, [`damage`] for illegal inputs, [`cases`] for whole calls. [`fixed`] has cases that are
+//! always worth running, [`heavy`] pairs that cost a search much, [`network`] those of them that forward packets.
 
 pub mod cases;
 pub mod damage;
 pub mod fixed;
 pub mod heavy;
+pub mod network;
 pub mod tree;
 
 pub use cases::{case, Extent};

@@ -1,0 +1,108 @@
+//! Times the verified library, through the C interface, against the second implementation, called directly, in one run;
+//! that both give the same answers and leave the same in every list is tested first.
+//!
+//! `benchmarks` prints a table. `--write FOLDER --date DATE` also writes BENCHMARKS.md and benchmarks.svg there. `--quick`
+//! runs each benchmark once, hostile tables shorter, and times nothing.
+
+mod clock;
+mod measure;
+mod plot;
+mod report;
+mod tables;
+mod workload;
+
+use std::env;
+use std::fs;
+use std::path::PathBuf;
+use std::process::ExitCode;
+use std::thread;
+
+use measure::Measured;
+use report::Circumstances;
+use workload::Extent;
+
+#[derive(Default)]
+struct Options {
+    quick: bool,
+    folder: Option<PathBuf>,
+    date: Option<String>,
+}
+
+fn options() -> Option<Options> {
+    let mut options = Options::default();
+    let mut given = env::args().skip(1);
+    while let Some(name) = given.next() {
+        match name.as_str() {
+            "--quick" => options.quick = true,
+            "--write" => options.folder = Some(given.next()?.into()),
+            "--date" => options.date = Some(given.next()?),
+            _ => return None,
+        }
+    }
+    (options.folder.is_some() == options.date.is_some()).then_some(options)
+}
+
+/// Compares the answers of all benchmarks, and times them unless quick.
+fn run(quick: bool) -> Vec<Measured> {
+    let extent = if quick { Extent::Quick } else { Extent::Full };
+    let mut measured = Vec::new();
+    for benchmark in workload::benchmarks(extent) {
+        let compared = measure::compared(benchmark);
+        if quick {
+            println!("{}: {}", compared.benchmark.title(), compared.answer);
+        } else {
+            let timed = compared.timed();
+            eprintln!("{}", report::progress(&timed));
+            measured.push(timed);
+        }
+    }
+    measured
+}
+
+/// Load average over the last minute, where the system says it.
+fn load() -> String {
+    let averages = fs::read_to_string("/proc/loadavg").unwrap_or_default();
+    averages
+        .split_whitespace()
+        .next()
+        .unwrap_or("unknown")
+        .to_string()
+}
+
+fn main() -> ExitCode {
+    let Some(options) = options() else {
+        eprintln!("usage: benchmarks [--quick] [--write FOLDER --date DATE]");
+        return ExitCode::FAILURE;
+    };
+    let load = load();
+    // no more stack than the C interface asks for
+    let worker = thread::Builder::new()
+        .stack_size(netkat::STACK)
+        .spawn(move || run(options.quick));
+    let Ok(Ok(measured)) = worker.map(thread::JoinHandle::join) else {
+        eprintln!("benchmarks: broken off");
+        return ExitCode::FAILURE;
+    };
+    if options.quick {
+        return ExitCode::SUCCESS;
+    }
+    print!("{}", report::table(&measured));
+    let (Some(folder), Some(date)) = (options.folder, options.date) else {
+        return ExitCode::SUCCESS;
+    };
+    let cores = thread::available_parallelism().map_or(1, usize::from);
+    let files = [
+        (
+            "BENCHMARKS.md",
+            report::document(&measured, &Circumstances { date, load, cores }),
+        ),
+        ("benchmarks.svg", plot::svg(&measured)),
+    ];
+    for (name, contents) in files {
+        if let Err(error) = fs::write(folder.join(name), contents) {
+            eprintln!("benchmarks: {name} not written: {error}");
+            return ExitCode::FAILURE;
+        }
+    }
+    ExitCode::SUCCESS
+}

@@ -1,0 +1,291 @@
+//! The table and the document around it.
+
+use std::fmt::Write;
+
+use crate::measure::{Measured, ROUNDS};
+use crate::workload::Group;
+
+/// A positive number to three significant digits, but no fewer than all before the point.
+pub fn digits(number: f64) -> String {
+    let whole = number.log10().floor();
+    let places = (2.0 - whole).clamp(0.0, 6.0) as usize;
+    format!("{number:.places$}")
+}
+
+/// A number with a comma before each three digits.
+pub fn thousands(number: usize) -> String {
+    let digits = number.to_string().into_bytes();
+    let groups: Vec<_> = digits
+        .rchunks(3)
+        .rev()
+        .map(String::from_utf8_lossy)
+        .collect();
+    groups.join(",")
+}
+
+/// One line while it runs.
+pub fn progress(measured: &Measured) -> String {
+    format!(
+        "{}: {} ms, {} ms, ratio {}",
+        measured.compared.benchmark.title(),
+        digits(measured.library * 1e3),
+        digits(measured.second * 1e3),
+        digits(measured.ratio())
+    )
+}
+
+const HEADS: [&str; 9] = [
+    "Group",
+    "Benchmark",
+    "Answer",
+    "Rows",
+    "Library, ms",
+    "Second, ms",
+    "Ratio",
+    "of the rounds",
+    "µs a row, library / second",
+];
+
+fn cells(measured: &Measured) -> [String; 9] {
+    let compared = &measured.compared;
+    let per_row = measured
+        .per_row()
+        .map(|(library, second)| format!("{} / {}", digits(library), digits(second)));
+    [
+        compared.benchmark.group.name().to_string(),
+        compared.benchmark.name.clone(),
+        compared.answer.clone(),
+        compared.rows.map(thousands).unwrap_or_default(),
+        digits(measured.library * 1e3),
+        digits(measured.second * 1e3),
+        digits(measured.ratio()),
+        format!(
+            "{}–{}",
+            digits(measured.spread.0),
+            digits(measured.spread.1)
+        ),
+        per_row.unwrap_or_default(),
+    ]
+}
+
+/// The Markdown table, padded so that it reads in a terminal too.
+pub fn table(measured: &[Measured]) -> String {
+    let rows: Vec<[String; 9]> = measured.iter().map(cells).collect();
+    let width = |column: usize| {
+        let cells = rows.iter().map(|row| row[column].chars().count());
+        cells
+            .chain([HEADS[column].chars().count()])
+            .max()
+            .unwrap_or(0)
+    };
+    let widths: Vec<usize> = (0..HEADS.len()).map(width).collect();
+    let mut table = String::new();
+    let mut line = |cells: &[String]| {
+        for (column, (cell, width)) in cells.iter().zip(&widths).enumerate() {
+            // words to the left, numbers to the right
+            let _ = match column {
+                0..=2 => write!(table, "| {cell:<width$} "),
+                _ => write!(table, "| {cell:>width$} "),
+            };
+        }
+        table.push_str("|\n");
+    };
+    line(&HEADS.map(String::from));
+    let rules: Vec<String> = widths
+        .iter()
+        .enumerate()
+        .map(|(column, &width)| match column {
+            0..=2 => "-".repeat(width),
+            _ => format!("{}:", "-".repeat(width - 1)),
+        })
+        .collect();
+    line(&rules);
+    for row in &rows {
+        line(row);
+    }
+    table
+}
+
+/// Geometric mean of ratios.
+fn mean(ratios: &[f64]) -> f64 {
+    (ratios.iter().map(|ratio| ratio.ln()).sum::<f64>() / ratios.len() as f64).exp()
+}
+
+/// Where the library is slower and by how much, from the numbers.
+fn comparison(measured: &[Measured]) -> String {
+    let ratios: Vec<f64> = measured.iter().map(Measured::ratio).collect();
+    let slower = ratios.iter().filter(|&&ratio| ratio > 1.0).count();
+    let mut text = format!(
+        "The library is slower than the second implementation on {slower} of {} benchmarks; the geometric mean of the \
+         ratios is {}.\nBy group:\n\n",
+        ratios.len(),
+        digits(mean(&ratios))
+    );
+    let mut names: Vec<&str> = Vec::new();
+    for one in measured {
+        let name = one.compared.benchmark.group.name();
+        if !names.contains(&name) {
+            names.push(name);
+        }
+    }
+    for name in names {
+        let group = || {
+            measured
+                .iter()
+                .filter(move |one| one.compared.benchmark.group.name() == name)
+        };
+        let ratios: Vec<f64> = group().map(Measured::ratio).collect();
+        let by_ratio = |a: &&Measured, b: &&Measured| a.ratio().total_cmp(&b.ratio());
+        let (Some(best), Some(worst)) = (group().min_by(by_ratio), group().max_by(by_ratio)) else {
+            continue;
+        };
+        let _ = if ratios.len() == 1 {
+            writeln!(text, "- {name}: {}", digits(best.ratio()))
+        } else {
+            writeln!(
+                text,
+                "- {name}: mean {}, from {} ({}) to {} ({})",
+                digits(mean(&ratios)),
+                digits(best.ratio()),
+                best.compared.benchmark.name,
+                digits(worst.ratio()),
+                worst.compared.benchmark.name
+            )
+        };
+    }
+    text
+}
+
+/// How the time per row moves from the fewest rows to the most, for each pair that is searched with several row lists.
+fn flatness(measured: &[Measured]) -> String {
+    let mut text = String::new();
+    for (name, line) in families(measured) {
+        let (Some(first), Some(last)) = (line.first(), line.last()) else {
+            continue;
+        };
+        let _ = writeln!(
+            text,
+            "- {name}: library {} µs a row handled with {} rows, {} with {}; second implementation {} and {}",
+            digits(first.library),
+            thousands(first.rows),
+            digits(last.library),
+            thousands(last.rows),
+            digits(first.second),
+            digits(last.second)
+        );
+    }
+    text
+}
+
+/// A point of the plot of time per row.
+pub struct PerRow {
+    pub rows: usize,
+    pub library: f64,
+    pub second: f64,
+}
+
+/// Time per row against rows, by pair.
+pub fn families(measured: &[Measured]) -> Vec<(&'static str, Vec<PerRow>)> {
+    let mut families: Vec<(&'static str, Vec<PerRow>)> = Vec::new();
+    for one in measured {
+        let Group::Rows(name) = one.compared.benchmark.group else {
+            continue;
+        };
+        let (Some((library, second)), Some(rows)) = (one.per_row(), one.compared.rows) else {
+            continue;
+        };
+        if families.last().map(|family| family.0) != Some(name) {
+            families.push((name, Vec::new()));
+        }
+        if let Some((_, line)) = families.last_mut() {
+            line.push(PerRow {
+                rows,
+                library,
+                second,
+            });
+        }
+    }
+    families
+}
+
+/// When and where it was run.
+pub struct Circumstances {
+    pub date: String,
+    /// Processes that ran or waited before the first benchmark, on average over a minute.
+    pub load: String,
+    pub cores: usize,
+}
+
+/// BENCHMARKS.md.
+pub fn document(measured: &[Measured], circumstances: &Circumstances) -> String {
+    let Circumstances { date, load, cores } = circumstances;
+    format!(
+        "\
+# Benchmarks
+
+Run on {date} by `tools/benchmarks`, which writes this file and the plot anew; {cores} cores, load average {load} before
+the run. Where that is far from 0 other work ran beside it, and the numbers are rough.
+
+The verified library, called through the C interface, against the second implementation (`reference/`), called directly:
+in one run and by turns, up to {ROUNDS} rounds, fewer where one takes seconds. Times are processor times, the best of the
+rounds; the ratio is that of the best times, and beside it stand the lowest and the highest ratio of a round. A ratio over 1
+says that the library is slower. Before anything is timed, both must give the same answer and leave the same in every list.
+
+![Ratios, and time per row](benchmarks.svg)
+
+{table}
+## Where the library is slower
+
+{comparison}
+{WHY}
+## Time per row
+
+{flatness}
+{ROWS}
+## What is run
+
+{WHAT}",
+        table = table(measured),
+        comparison = comparison(measured),
+        flatness = flatness(measured),
+    )
+}
+
+const WHY: &str = "\
+What is known of the causes, from how the two are built; no profile was taken, so the shares are not known:
+
+- The second implementation compiles a policy to a graph once and remembers what each remainder does at each packet; a
+  state's step is then a union of remembered ones. The library works each step out anew from the nodes, and keeps nothing
+  but the rows and their index. This should tell most where many rows share few remainders and packets, as in the groups
+  rows and evidence, and least where each step is new to both, as in nondet.
+- In a table the second implementation handles repeats of a row once, the library each of them.
+- The second implementation's index is seeded at random. The library's is fixed, so a stranger can choose rows that share a
+  bucket. Each packet has buckets of its own, which bounds the harm: to look up all next rows of one row walks each row of
+  the table at most once.
+- The second implementation's reader makes a list of tokens. The library's keeps none: it goes over a legal text four
+  times (tokens, parentheses, counting nodes, writing them), and where several levels of the grammar ask for the next
+  token, each skips the blanks before it again.
+";
+
+const ROWS: &str = "\
+One pair is searched with row lists of several lengths, and the time is divided by the rows handled before the lists are full
+or the search is done. What grows with the rows would show as a rising line in the plot.
+";
+
+const WHAT: &str = "\
+- combinatorial: inc, flip and nondet of document 000, section 7.2. There are at most eight fields and 1,024 packets; so
+  besides eight bits they run over larger digits. Flip to base 4 turns each digit on by one, four times.
+- networks: shortest-path forwarding by destination on a ring and on a binary tree, as large as 512 nodes allow: one
+  switch reachable from another; all paths recorded, with the rules in two orders; two slices side by side, isolated, and
+  with a leak from one to the other.
+- heavy pairs: 500 nested stars; 31 dups and 1,024 packets, each next to each; a window over recorded packets.
+- rows: cycles (271 packets, 241 pairs of states, one next row a row) and many states (two packets, two next rows a
+  row), with 1,000 to 65,535 rows lent. Where the lists are too short the answer is refusal 11.
+- evidence: a table of 65,535 rows in row order, reversed, shuffled, and with its last row missing; then tables of 65,535
+  rows as a stranger may send them: nearly all rows at one packet of 1,024; the same chosen to share a bucket of the index;
+  one such row repeated; one row with 1,024 next rows repeated.
+- text: one call of the reader on 1,048,576 bytes. A legal text has at most 512 nodes, so the legal one is mostly
+  parentheses and blanks; the others are refused at their end.
+- console: forty checks of texts one after the other, with 4,096 rows lent: document 01's pairs, the networks, and random
+  pairs.
+";

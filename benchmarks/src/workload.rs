@@ -1,0 +1,258 @@
+//! What is timed.
+
+use netkat_reference::case::Case;
+use netkat_reference::generate::heavy::{self, Pair};
+use netkat_reference::generate::tree;
+use netkat_reference::policy::{OwnedLists, MOST_NODES};
+use netkat_reference::random::Random;
+use netkat_reference::search::{Lists, LEAST_WORK, MOST_ROWS};
+use netkat_reference::text;
+
+use crate::report::thousands;
+use crate::tables;
+
+/// How much is run.
+#[derive(Clone, Copy, Debug, PartialEq, Eq)]
+pub enum Extent {
+    /// Row lists of the greatest length.
+    Full,
+    /// Shorter ones where they cost seconds.
+    Quick,
+}
+
+impl Extent {
+    /// Rows of a hostile table.
+    pub fn hostile_rows(self) -> usize {
+        match self {
+            Extent::Full => MOST_ROWS,
+            Extent::Quick => 3_000,
+        }
+    }
+
+    /// Rows lent to the searches that show the time per row.
+    fn rows_lent(self) -> &'static [usize] {
+        match self {
+            Extent::Full => &[1_000, 2_000, 4_000, 8_000, 16_000, 32_000, MOST_ROWS],
+            Extent::Quick => &[1_000, 8_000],
+        }
+    }
+
+    /// Places of `many_rows`: each doubles the rows.
+    fn places(self) -> usize {
+        match self {
+            Extent::Full => 5,
+            Extent::Quick => 1,
+        }
+    }
+}
+
+/// A benchmark's part of the report.
+#[derive(Clone, Copy, Debug, PartialEq, Eq)]
+pub enum Group {
+    /// Document 000, section 7.2.
+    Combinatorial,
+    /// Networks and their slices.
+    Networks,
+    /// Nested stars, and the other pairs that cost much.
+    Heavy,
+    /// Searches of the same pair with more and more rows lent, by the pair's name.
+    Rows(&'static str),
+    /// Evidence tables.
+    Evidence,
+    /// Long texts.
+    Text,
+    /// Checks one after the other.
+    Console,
+}
+
+impl Group {
+    /// Its name in the report.
+    pub fn name(self) -> &'static str {
+        match self {
+            Group::Combinatorial => "combinatorial",
+            Group::Networks => "networks",
+            Group::Heavy => "heavy pairs",
+            Group::Rows(_) => "rows",
+            Group::Evidence => "evidence",
+            Group::Text => "text",
+            Group::Console => "console",
+        }
+    }
+}
+
+/// Calls that are timed together.
+#[derive(Clone, Debug)]
+pub struct Benchmark {
+    pub group: Group,
+    pub name: String,
+    pub cases: Vec<Case>,
+}
+
+impl Benchmark {
+    /// Of one call.
+    pub fn new(group: Group, name: &str, case: Case) -> Benchmark {
+        Benchmark {
+            group,
+            name: name.to_string(),
+            cases: vec![case],
+        }
+    }
+
+    /// Group and name.
+    pub fn title(&self) -> String {
+        format!("{}: {}", self.group.name(), self.name)
+    }
+}
+
+/// All of them, in the order of the report.
+pub fn benchmarks(extent: Extent) -> Vec<Benchmark> {
+    let searches = |group, pairs: Vec<Pair>| {
+        pairs
+            .into_iter()
+            .map(move |pair| Benchmark::new(group, &pair.name, search(&pair, MOST_ROWS)))
+    };
+    let mut all = Vec::new();
+    all.extend(searches(Group::Combinatorial, heavy::combinatorial()));
+    all.extend(searches(Group::Networks, heavy::networks()));
+    all.extend(searches(Group::Networks, heavy::leaks()));
+    all.extend(searches(Group::Heavy, heavy_pairs(extent)));
+    all.extend(rows(extent));
+    all.extend(tables::benchmarks(extent));
+    all.extend(texts());
+    all.push(console());
+    all
+}
+
+fn heavy_pairs(extent: Extent) -> Vec<Pair> {
+    vec![
+        heavy::nested_stars(500, "id"),
+        heavy::nested_stars(500, "dup"),
+        heavy::many_dups(),
+        heavy::many_rows(extent.places()),
+    ]
+}
+
+/// The nodes of a text that is legal.
+pub fn nodes(text: &str) -> OwnedLists {
+    text::nodes(text.as_bytes(), MOST_NODES).expect("a legal text")
+}
+
+/// The search of a pair with so many rows lent.
+pub fn search(pair: &Pair, rows: usize) -> Case {
+    Case::Search {
+        sizes: pair.sizes.clone(),
+        left: nodes(&pair.left),
+        right: nodes(&pair.right),
+        lists: Lists::new(rows, rows, LEAST_WORK),
+    }
+}
+
+/// The same pair with more and more rows lent: does the time per row stay flat?
+fn rows(extent: Extent) -> Vec<Benchmark> {
+    let family = |name, pair: Pair| {
+        extent.rows_lent().iter().map(move |&rows| {
+            let title = format!("{name}, {} rows lent", thousands(rows));
+            Benchmark::new(Group::Rows(name), &title, search(&pair, rows))
+        })
+    };
+    let mut all = Vec::new();
+    all.extend(family("cycles", heavy::cycles()));
+    all.extend(family("many states", heavy::many_states(15)));
+    all
+}
+
+/// Bytes of a long text.
+const MEGABYTE: usize = 1 << 20;
+
+/// 256 times `id` in a sum, each in 64 parentheses, with blanks between up to a megabyte: legal texts are no longer
+/// without blanks, for a text has at most 512 nodes.
+fn legal_text() -> Vec<u8> {
+    let item = format!("{}id{}", "(".repeat(64), ")".repeat(64));
+    let mut text = vec![item; 256].join("+");
+    let gap = " ".repeat((MEGABYTE - text.len()) / 255);
+    text = text.replace('+', &format!("{gap}+"));
+    text.push_str(&" ".repeat(MEGABYTE - text.len()));
+    text.into_bytes()
+}
+
+/// A megabyte of `id+`, with these last bytes.
+fn long_sum(end: &str) -> Vec<u8> {
+    let mut text = "id+".repeat((MEGABYTE - end.len()) / 3);
+    text.push_str(end);
+    text.into_bytes()
+}
+
+fn texts() -> Vec<Benchmark> {
+    let read = |name: &str, text| {
+        let nodes = OwnedLists {
+            kind: vec![0; MOST_NODES],
+            first: vec![0; MOST_NODES],
+            second: vec![0; MOST_NODES],
+        };
+        Benchmark::new(Group::Text, name, Case::Read { text, nodes })
+    };
+    vec![
+        read("a megabyte, 511 nodes and blanks", legal_text()),
+        read("a megabyte of nodes", long_sum("id")),
+        read("a megabyte, cut off at its end", long_sum("id+")),
+        read("a megabyte, no token at its end", long_sum("?")),
+    ]
+}
+
+/// Document 01's pairs with their sizes.
+const PAIRS: [(u16, &str, &str); 10] = [
+    (2, "drop", "id"),
+    (2, "f0=0;dup", "dup;f0=0"),
+    (2, "f0=0+f0=1", "id"),
+    (3, "f0=0+f0=1", "id"),
+    (1, "dup*", "id+dup;dup*"),
+    (1, "dup", "dup;dup"),
+    (2, "f0<-1;f0=1", "f0<-1"),
+    (2, "f0<-0+f0<-1", "id"),
+    (1, "dup;drop", "drop"),
+    (1, "dup*", "(dup;dup)*"),
+];
+
+/// Rows that a console lends.
+const CONSOLE_ROWS: usize = 4_096;
+/// Checks of one sitting.
+const CHECKS: usize = 40;
+
+/// Checks of texts one after the other, small ones, networks and random ones mixed.
+fn console() -> Benchmark {
+    let check = |sizes: &[u16], left: &[u8], right: &[u8]| Case::Texts {
+        sizes: sizes.to_vec(),
+        left: left.to_vec(),
+        right: right.to_vec(),
+        lists: Lists::new(CONSOLE_ROWS, CONSOLE_ROWS, LEAST_WORK),
+    };
+    let mut cases: Vec<Case> = PAIRS
+        .iter()
+        .map(|(size, left, right)| check(&[*size], left.as_bytes(), right.as_bytes()))
+        .collect();
+    for pair in heavy::networks().iter().chain(&heavy::leaks()) {
+        cases.push(check(
+            &pair.sizes,
+            pair.left.as_bytes(),
+            pair.right.as_bytes(),
+        ));
+    }
+    let mut random = Random::new(40);
+    while cases.len() < CHECKS {
+        let sizes = random.pick(&[&[2u16, 3][..], &[4, 4, 4], &[16, 16], &[8, 8, 8]]);
+        let policy = tree::tree(&mut random, sizes, 24, 6);
+        let other = match cases.len() % 2 {
+            0 => tree::same(&mut random, sizes, &policy),
+            _ => tree::changed(&mut random, sizes, &policy),
+        };
+        let left = tree::text(&mut random, &policy);
+        let right = tree::text(&mut random, &other);
+        cases.push(check(sizes, &left, &right));
+    }
+    random.shuffle(&mut cases);
+    Benchmark {
+        group: Group::Console,
+        name: "forty checks".to_string(),
+        cases,
+    }
+}
