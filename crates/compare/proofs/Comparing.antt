@@ -1,7 +1,7 @@
 -- The comparison of two outputs is the row's lowest telling packet and its side.
 -- Assumes nothing.
 use Prim.Native.Nat.{ℕ, zero, suc, pred, _-_, _*_, _≤_, _<_}
-use mathlib.Core.Bool.{Bool, true, false, cond, xor}
+use mathlib.Core.Bool.{Bool, false, cond, xor}
 use mathlib.Core.List.{List}
 use mathlib.Core.Option.{Option, none, some}
 use mathlib.Core.Path.{_≡_, refl, sym, ap, ap₂, _∙_, subst}
@@ -28,10 +28,10 @@ use Rattle.pair.specs.Sides.{Side, left, right, Pair, at, Labelled, policies}
 use Rattle.pair.specs.Pair.{outputAt, nextAt, inOneOutput, pairSystem}
 use Rattle.pair.specs.Search.{sideOf}
 use Rattle.evaluator.specs.Evaluation.{treeOf}
-use Rattle.evaluator.specs.Steps.{StepReady, Stepped}
+use Rattle.evaluator.specs.Steps.{Prepared, StepReady, Stepped}
 use Rattle.evaluator.proofs.Acts.{found-at, found-none}
 use Rattle.compare.specs.declared.Compared.{Compared}
-use Rattle.compare.specs.declared.Compared.the-variants.{Same, Left, Right}
+use Rattle.compare.specs.declared.Compared.the-variants.{Same}
 use Rattle.compare.specs.Comparison.{differsAt, comparedOf, comparedSets, rowOf, answerAt, CompareReady, ComparedRow}
 
 -- ---- two sets compared
@@ -85,7 +85,7 @@ compared-same f g h o p e = ap (comparedOf f) e ∙ go p
 
 -- ---- the row
 
-module _ (sizes : List ℕ) (L R : NodeLists) (count β : ℕ) (nextL nextR work : List ℕ) (rd : CompareReady sizes L R count β nextL nextR work) where
+module _ (sizes : List ℕ) (L R : NodeLists) (masksL placesL masksR placesR : List ℕ) (count β : ℕ) (nextL nextR work : List ℕ) (rd : CompareReady sizes L R masksL placesL masksR placesR count β nextL nextR work) where
   pub some-nodes : (0 < nodeCount L) × (0 < nodeCount R)
   some-nodes = (rd .left-legal .some, rd .right-legal .some)
 
@@ -95,10 +95,12 @@ module _ (sizes : List ℕ) (L R : NodeLists) (count β : ℕ) (nextL nextR work
   pub few : (k : ℕ) → k ≡ wordsFor count → k ≤ 32
   few k ek = subst (λ (x : ℕ). x ≤ 32) (sym ek) (words-within count count-small)
 
-  step-ready : (M : NodeLists) → Legal sizes M → (next : List ℕ) → product sizes ≤ length next → (now : List ℕ) → now ≡ work → StepReady sizes M count (nodeCount M - 1) β next now
-  step-ready M legal next room now e = record {
+  step-ready : (M : NodeLists) → Legal sizes M → (masks places : List ℕ) → Prepared M masks places → (next : List ℕ) → product sizes ≤ length next → (now : List ℕ) → now ≡ work
+      → StepReady sizes M masks places count (nodeCount M - 1) β next now
+  step-ready M legal masks places prepared next room now e = record {
     legal = rd .legal;
     well = legal .wellFormed;
+    prepared = prepared;
     packets = rd .packets;
     node = let h = legal .some in omega arith;
     packet = rd .packet;
@@ -107,12 +109,12 @@ module _ (sizes : List ℕ) (L R : NodeLists) (count β : ℕ) (nextL nextR work
     zero = λ i h. ap (λ (w : List ℕ). getD w i 0) e ∙ rd .zero i h;
   }
 
-  pub left-ready : StepReady sizes L count (nodeCount L - 1) β nextL work
-  left-ready = step-ready L (rd .left-legal) nextL (rd .left-room) work refl
+  pub left-ready : StepReady sizes L masksL placesL count (nodeCount L - 1) β nextL work
+  left-ready = step-ready L (rd .left-legal) masksL placesL (rd .prepared .left-prepared) nextL (rd .left-room) work refl
 
   module _ (l : ℕ) (outL nextL′ work₁ : List ℕ) (sl : Stepped sizes L (nodeCount L - 1) l β nextL work outL nextL′ work₁) where
-    pub right-ready : StepReady sizes R count (nodeCount R - 1) β nextR work₁
-    right-ready = step-ready R (rd .right-legal) nextR (rd .right-room) work₁ (sl .kept)
+    pub right-ready : StepReady sizes R masksR placesR count (nodeCount R - 1) β nextR work₁
+    right-ready = step-ready R (rd .right-legal) masksR placesR (rd .prepared .right-prepared) nextR (rd .right-room) work₁ (sl .kept)
 
     module _ (r : ℕ) (outR nextR′ work₂ : List ℕ) (sr : Stepped sizes R (nodeCount R - 1) r β nextR work₁ outR nextR′ work₂) (wide : length outL ≡ 32) (k : ℕ) (ek : k ≡ wordsFor count) where
       abbrev ps : Pair Labelled

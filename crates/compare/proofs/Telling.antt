@@ -1,7 +1,7 @@
 -- What an answer says of its row: for a run of the row order, and for rule (c).
 -- Assumes nothing.
 use Prim.Native.Nat.{ℕ, _^_, _<_}
-use mathlib.Core.Bool.{Bool, true, false}
+use mathlib.Core.Bool.{false}
 use mathlib.Core.List.{List}
 use mathlib.Core.Logic.{_↔_}
 use mathlib.Core.Option.{Option, none, some}
@@ -24,8 +24,7 @@ use Rattle.system.proofs.Runs.{turn-telling, turn-row}
 use Rattle.pair.specs.Sides.{Side, left, right, at, policies}
 use Rattle.pair.specs.Pair.{outputAt, inOneOutput, pairSystem}
 use Rattle.pair.specs.Search.{sideOf}
-use Rattle.compare.specs.declared.Compared.{Compared}
-use Rattle.compare.specs.declared.Compared.the-variants.{Same, Left, Right}
+use Rattle.compare.specs.declared.Compared.the-variants.{Same}
 use Rattle.compare.specs.Comparison.{differsAt, comparedOf, answerAt}
 
 differs-same : (s t : Side) (γ δ : ℕ) → differsAt t δ ≡ differsAt s γ → (δ ≡ γ) × (t ≡ s)

@@ -14,6 +14,7 @@ use Rattle.system.specs.RowOrder.{lowestTelling}
 use Rattle.pair.specs.Sides.{Side, left, right, policies}
 use Rattle.pair.specs.Pair.{nextAt, pairSystem}
 use Rattle.pair.specs.Search.{sideOf}
+use Rattle.evaluator.specs.Steps.{Prepared}
 use Rattle.compare.specs.declared.Compared.{Compared}
 use Rattle.compare.specs.declared.Compared.the-variants.{Same, Left, Right}
 
@@ -31,6 +32,11 @@ comparedOf side (some γ) = differsAt (side γ) γ
 unfoldable pub comparedSets : ℕ → List ℕ → List ℕ → Compared
 comparedSets k a b = comparedOf (λ γ. cond (member a γ) left right) (lowestIn k 0 (exclusiveOrOf k a b))
 
+-- what depends on the two policies alone
+pub record BothPrepared (L R : NodeLists) (masksL placesL masksR placesR : List ℕ) : Type 0 where
+  pub left-prepared : Prepared L masksL placesL
+  pub right-prepared : Prepared R masksR placesR
+
 module _ (sizes : List ℕ) (L R : NodeLists) where
   -- the row of packet β and the two states
   abbrev pub rowOf : ℕ → ℕ → ℕ → Row (pairSystem sizes (policies L R))
@@ -41,10 +47,11 @@ module _ (sizes : List ℕ) (L R : NodeLists) where
   answerAt row = comparedOf (sideOf sizes (policies L R) row) (lowestTelling (pairSystem sizes (policies L R)) row)
 
   -- what the comparison asks: causes 1 to 9 don't hold, a packet below N = count, room for next, and the first words of the work list 0
-  pub record CompareReady (count β : ℕ) (nextL nextR work : List ℕ) : Type 0 where
+  pub record CompareReady (masksL placesL masksR placesR : List ℕ) (count β : ℕ) (nextL nextR work : List ℕ) : Type 0 where
     pub legal : LegalSizes sizes
     pub left-legal : Legal sizes L
     pub right-legal : Legal sizes R
+    pub prepared : BothPrepared L R masksL placesL masksR placesR
     pub packets : count ≡ product sizes
     pub packet : β < product sizes
     pub left-room : product sizes ≤ length nextL

@@ -19,26 +19,32 @@ fn told(left: PacketSet, right: PacketSet, words: usize) -> Compared
     requires { ⌜ words ≤ 32 ⌝ }
     ensures { λ r. ⌜ r ≡ comparedSets words left right ⌝ }
 {
-    let apart = packet_set::exclusive_or(left, right, words);
-    let Lowest::At(packet) = packet_set::lowest_member(apart, words) else {
+    let mut apart = left;
+    packet_set::exclusive_or(&mut apart, &right, words);
+    let Lowest::At(packet) = packet_set::lowest_member(&apart, words) else {
         return Compared::Same;
     };
-    if packet_set::contains(left, packet) {
+    if packet_set::contains(&left, packet) {
         return Compared::Left(packet);
     }
     Compared::Right(packet)
 }
 
-// Inner. The outputs of one row's two states compared; next at each packet goes to the two lent lists.
+// Inner. The outputs of one row's two states compared; next at each packet goes to the two lent lists. Masks and places are what
+// `evaluator::prepare` gives.
 pub fn compare(
     sizes: &[u16],
     count: u16,
     left_kind: &[u8],
     left_first: &[u16],
     left_second: &[u16],
+    left_masks: &[u32],
+    left_places: &[u16],
     right_kind: &[u8],
     right_first: &[u16],
     right_second: &[u16],
+    right_masks: &[u32],
+    right_places: &[u16],
     packet: u16,
     left_state: Mask,
     right_state: Mask,
@@ -46,13 +52,15 @@ pub fn compare(
     next_right: &mut [u32],
     work: &mut [u32],
 ) -> Compared
-    requires { ⌜ CompareReady (now sizes) (asLists (now «left_kind») (now «left_first») (now «left_second»)) (asLists (now «right_kind») (now «right_first») (now «right_second»)) count packet (now «next_left») (now «next_right») (now work) ⌝ }
+    requires { ⌜ CompareReady (now sizes) (asLists (now «left_kind») (now «left_first») (now «left_second»)) (asLists (now «right_kind») (now «right_first») (now «right_second»)) (now «left_masks») (now «left_places») (now «right_masks») (now «right_places») count packet (now «next_left») (now «next_right») (now work) ⌝ }
     ensures { λ r. ⌜ ComparedRow (now (sizes .entry)) (asLists (now («left_kind» .entry)) (now («left_first» .entry)) (now («left_second» .entry))) (asLists (now («right_kind» .entry)) (now («right_first» .entry)) (now («right_second» .entry))) (rowOf (now (sizes .entry)) (asLists (now («left_kind» .entry)) (now («left_first» .entry)) (now («left_second» .entry))) (asLists (now («right_kind» .entry)) (now («right_first» .entry)) (now («right_second» .entry))) packet «left_state» «right_state») (now («next_left» .entry)) (now («next_right» .entry)) (now (work .entry)) r (now («next_left» .exit)) (now («next_right» .exit)) (now (work .exit)) ⌝ }
 {
     let left = evaluator::step(
         left_kind,
         left_first,
         left_second,
+        left_masks,
+        left_places,
         left_kind.len() - 1,
         sizes,
         count,
@@ -65,6 +73,8 @@ pub fn compare(
         right_kind,
         right_first,
         right_second,
+        right_masks,
+        right_places,
         right_kind.len() - 1,
         sizes,
         count,

@@ -33,13 +33,6 @@ module _ {old new : List ℕ} {at end : ℕ} {xs : List ℕ} (w : Wrote old new 
       let e : end ≡ at + length xs = w .ends in
       length-append (take at old) xs ∙ ap (λ (n : ℕ). n + length xs) (length-take-le at old (omega arith)) ∙ sym e
 
-  pub wrote-length : length new ≡ length old
-  wrote-length =
-      ap length (w .holds)
-      ∙ length-append (take at old ++ xs) (drop end old)
-      ∙ ap₂ (λ (m n : ℕ). m + n) head (length-drop end old)
-      ∙ omega arith
-
   before : take end new ≡ take at old ++ xs
   before = ap (take end) (w .holds) ∙ take-at (take at old ++ xs) (drop end old) end head
 

@@ -29,13 +29,14 @@ outputOf (compare sizes left right) =
 unfoldable pub programOutput : List ℕ → List ℕ
 programOutput input = outputOf (asked input)
 
--- the search on two texts has been printed at the front of the output, and what its first word says of them
+-- a telling trace has been printed
 pub record TellingPrinted (sizes left right : List ℕ) (s : Side) : Type 0 where
   pub entering : ℕ
   pub trace : List ℕ
   pub printed : outputOf (compare sizes left right) ≡ tellingLines s entering trace
   pub tells : Distinguishes sizes (textPolicies left right) s entering trace
 
+-- the search on two texts has been printed at the front of the output, and what its first word says of them
 pub record Printed (sizes left right old : List ℕ) (n : ℕ) (new : List ℕ) : Type 0 where
   pub wrote : Wrote old new 0 n (outputOf (compare sizes left right))
   pub equal-same : take (length wordEqual) (outputOf (compare sizes left right)) ≡ wordEqual → SameTracesBelow sizes (textTree fieldNames left) (textTree fieldNames right)

@@ -1,6 +1,6 @@
 -- The lines that the program writes (document 01, "The program"): three fields, split by commas, ended by CRLF as in RFC 4180.
 use Prim.Native.Nat.{ℕ, zero, suc, _+_, _/_, _%_}
-use mathlib.Core.Bool.{true, false, cond}
+use mathlib.Core.Bool.{true, false}
 use mathlib.Core.List.{List, [], _∷_, _++_}
 use lib.Dec.{ltb}
 use lib.ListN.{length}

@@ -1,6 +1,6 @@
 // The program as a function of bytes (document 01, "The program").
 mod lines;
-mod output;
+pub mod output;
 mod sizes;
 
 ghost use mathlib.Core.Path.{_≡_};
@@ -104,7 +104,7 @@ fn searched(sizes: &[u16], left: &[u8], right: &[u8], out: &mut [u8]) -> usize
     show(out, verdict, &packets, &lefts, &rights, &trace)
 }
 
-// The three lines of the input, read and answered. A line of sizes has at most 16,384 of them and their commas.
+// The three lines of the input, read and answered. A line of sizes has at most 16,385 of them and their commas.
 fn asked(input: &[u8], three: Three, out: &mut [u8]) -> usize
     requires { ⌜ ThreeLines (now input) three × (three .ok ≡ true) × (length (now input) ≤ 32768) × (131072 ≤ length (now out)) ⌝ }
     ensures { λ e. ⌜ Answered (now (input .entry)) (now (out .entry)) e (now (out .exit)) ⌝ }

@@ -17,7 +17,8 @@ fn byte(out: &mut [u8], at: usize, b: u8) -> usize
     at + 1
 }
 
-fn bytes(out: &mut [u8], at: usize, xs: &[u8]) -> usize
+// Inner: writes the bytes from a place on.
+pub fn bytes(out: &mut [u8], at: usize, xs: &[u8]) -> usize
     requires { ⌜ at + length (now xs) ≤ length (now out) ⌝ }
     ensures { λ r. ⌜ Wrote (now (out .entry)) (now (out .exit)) at r (now (xs .entry)) ⌝ }
 {

@@ -1,36 +1,35 @@
 -- An action on a packet by its field's stride, and on a set by walking its members.
-use Prim.Native.Nat.{ℕ, zero, suc, _+_, _-_, _*_, _/_, _%_, _≤_, _<_}
+use Prim.Native.Nat.{ℕ, zero, _+_, _-_, _*_, _/_, _%_, _≤_, _<_}
 use mathlib.Core.Bool.{Bool, true, false, _&&_, _||_, not, true≢false}
-use mathlib.Core.List.{List, [], _∷_}
+use mathlib.Core.List.{List}
 use mathlib.Core.Logic.{_⊎_, inl, inr, _↔_}
 use mathlib.Core.Option.{Option, none, some}
 use mathlib.Core.Path.{_≡_, refl, sym, ap, ap₂, _∙_, subst}
-use native.Mathlib.Nat.{le-trans, mod-le, div-mul-le-self, mul-le-mul-right, zero-div, zero-mod, mod-lt}
+use native.Mathlib.Nat.{le-trans, mod-le, div-mul-le-self, mul-le-mul-right, zero-div, zero-mod}
 use native.Mathlib.Decide.{decLt, ℕ-discrete}
 use native.Mathlib.Omega.{arith}
 use borrow.Author.Tests.{eq-eqb, ne-eqb}
 use lib.Dec.{T, eqb, eqb→eq, leb, nleb→lt, not-T}
 use lib.ListN.{length, getD}
 use Rattle.packet.specs.Packets.{valueAt, changed, stride}
-use Rattle.packet.specs.Sizes.{product, LegalSizes}
+use Rattle.packet.specs.Sizes.{product}
 use Rattle.packet.proofs.Legal.{product-positive}
 use Rattle.packet.proofs.Packets.{value-by-stride, changed-by-stride, changed-below, stride-positive}
 use Rattle.policy.specs.declared.FieldAction.{FieldAction}
 use Rattle.policy.specs.declared.FieldAction.the-variants.{Equals, Differs, Set}
 use Rattle.policy.specs.Legality.{badField, fieldOf, valueOf}
-use Rattle.policy.specs.Meaning.{numbered}
 use Rattle.packet_set.specs.Bits.{bit}
-use Rattle.packet_set.specs.Members.{member, emptySet, withPacket, wordsFor, lowestIn, lowestAnswer}
+use Rattle.packet_set.specs.Members.{member, emptySet, withPacket, lowestIn, lowestAnswer}
 use Rattle.packet_set.specs.declared.Lowest.{Lowest}
 use Rattle.packet_set.specs.declared.Lowest.the-variants.{At, Nothing}
-use Rattle.packet_set.proofs.Words.{member-empty, member-with, words-hold, words-within}
+use Rattle.packet_set.proofs.Words.{member-empty, member-with, length-with, words-hold, words-within}
 use Rattle.packet_set.proofs.Walk.{LowestIn, FoundIn, lowest-in-is}
 use Rattle.automaton.specs.State.{takes, image, anyBelow}
-use Rattle.automaton.proofs.Tests.{T-true, true-T, T-false, eqb-true, both, either}
+use Rattle.automaton.proofs.Tests.{true-T, eqb-true, both, either}
 use Rattle.automaton.proofs.Sets.{setOf-iff, anyBelow-iff}
 use Rattle.evaluator.specs.Evaluation.{Members, Within, packetsOf, Below}
 use Rattle.evaluator.specs.Actions.{atIf, unlessAt, landing, withLanding, Image, Acting}
-use Rattle.evaluator.proofs.Passing.{packets-in, packets-fit}
+use Rattle.evaluator.proofs.Passing.{packets-in}
 
 -- ---- one packet
 
@@ -71,6 +70,11 @@ module _ (s : List ℕ) (at : Lowest) where
   pub lands-nowhere : at ≡ Nothing → s ≡ withLanding s at
   unfolding withLanding
   lands-nowhere e = sym (ap (withLanding s) e)
+
+length-landing : (s : List ℕ) (at : Lowest) → length (withLanding s at) ≡ length s
+unfolding withLanding
+length-landing s (At γ) = length-with s γ
+length-landing s Nothing = refl
 
 pub in-field : (sizes : List ℕ) (f v : ℕ) → badField sizes f v ≡ false → (f < length sizes) × (v < getD sizes f 0)
 unfolding badField
@@ -207,9 +211,9 @@ module _ (sizes : List ℕ) (a : FieldAction) (k : ℕ) (s : List ℕ) where
   }
 
   pub walk-turn : (out : List ℕ) (from : ℕ) → Walked sizes a k s out from → (α : ℕ) → LowestIn k from s α → (at : Lowest)
-      → at ≡ landing (stride sizes (fieldOf a)) (getD sizes (fieldOf a) 0) a α → (out′ : List ℕ) → length out′ ≡ 32 → out′ ≡ withLanding out at → Walked sizes a k s out′ (α + 1)
+      → at ≡ landing (stride sizes (fieldOf a)) (getD sizes (fieldOf a) 0) a α → (out′ : List ℕ) → out′ ≡ withLanding out at → Walked sizes a k s out′ (α + 1)
   unfolding Below withLanding
-  walk-turn out from wk α f at ea out′ len eo = go at ea eo
+  walk-turn out from wk α f at ea out′ eo = go at ea eo
     where
       g : Acting sizes a k (member s)
       g = wk .acting
@@ -236,7 +240,7 @@ module _ (sizes : List ℕ) (a : FieldAction) (k : ℕ) (s : List ℕ) where
       go (At δ) ea eo = record {
         acting = g;
         at = omega (arith, f .below);
-        long = len;
+        long = ap length eo ∙ length-landing out (At δ) ∙ wk .long;
         sound = λ γ t. new γ (either (member out γ) (eqb γ δ) .0 (subst T (mem γ) t));
         done = λ β γ b m h. earlier β γ b m h
             (λ e r. subst T (sym (mem γ)) (either (member out γ) (eqb γ δ) .1 (inr (eqb-true γ δ (sym (at-same (ea ∙ takes-landing sizes a k (member s) g α γ l .0 r)))))))
@@ -267,7 +271,7 @@ module _ (sizes : List ℕ) (a : FieldAction) (k : ℕ) (s : List ℕ) where
       go Nothing ea eo = record {
         acting = g;
         at = omega (arith, f .below);
-        long = len;
+        long = ap length eo ∙ length-landing out Nothing ∙ wk .long;
         sound = λ γ t. wk .sound γ (subst T (mem γ) t);
         done = λ β γ b m h. earlier β γ b m h
             (λ e r. absurd (none (ea ∙ takes-landing sizes a k (member s) g α γ l .0 r))) (λ r. subst T (sym (mem γ)) r);
@@ -330,9 +334,9 @@ module _ (sizes : List ℕ) (a : FieldAction) (k : ℕ) (s : List ℕ) (t z : �
         pub walking-small : (γ : ℕ) → at ≡ At γ → γ < 1024
         walking-small γ q = landing-small sizes a k (member s) g α (true-T (found .inside)) γ (sym lands ∙ q)
 
-        pub walking-turn : (out′ : List ℕ) → length out′ ≡ 32 → out′ ≡ withLanding out at → Walking sizes a k s t z out′ (α + 1)
-        walking-turn out′ len eo = record {
-          walked = walk-turn sizes a k s out from (wk .walked) α found at lands out′ len eo;
+        pub walking-turn : (out′ : List ℕ) → out′ ≡ withLanding out at → Walking sizes a k s t z out′ (α + 1)
+        walking-turn out′ eo = record {
+          walked = walk-turn sizes a k s out from (wk .walked) α found at lands out′ eo;
           strideIs = wk .strideIs;
           sizeIs = wk .sizeIs;
         }

@@ -1,9 +1,8 @@
 -- A step's answer is the output and the next marks of the state.
 use Prim.Native.Nat.{ℕ, zero, suc, _+_, _*_, _/_, _%_, _^_, _≤_, _<_}
-use mathlib.Core.Bool.{Bool, true, false, _&&_, _||_}
+use mathlib.Core.Bool.{true, false, _&&_}
 use mathlib.Core.List.{List}
-use mathlib.Core.Logic.{_⊎_, inl, inr, _↔_}
-use mathlib.Core.Path.{_≡_, refl, sym, ap, _∙_, subst}
+use mathlib.Core.Path.{_≡_, sym, ap, _∙_, subst}
 use native.Mathlib.Decide.{decLt}
 use native.Mathlib.Nat.{lt-of-lt-of-le}
 use native.Mathlib.Omega.{arith}
@@ -11,12 +10,12 @@ use lib.Dec.{T, eqb, eqb→eq}
 use lib.ListN.{length, getD}
 use lib.Pow.{pow-mono}
 use lib.Seq.{ext-getD}
-use Rattle.packet.specs.Sizes.{product, LegalSizes}
+use Rattle.packet.specs.Sizes.{product}
 use Rattle.policy.specs.declared.Node.the-variants.{Dup}
-use Rattle.policy.specs.Legality.{WellFormed, maxDups}
-use Rattle.policy.specs.NodeLists.{NodeLists, nodeCount, nodeAt, dupsBelow, treeAt}
+use Rattle.policy.specs.Legality.{maxDups}
+use Rattle.policy.specs.NodeLists.{NodeLists, nodeCount, nodeAt, dupsBelow}
 use Rattle.policy.specs.Tree.{Policy, drop, id, field, dup, sum, seq, star}
-use Rattle.policy.specs.Visits.{InTree}
+use Rattle.policy.proofs.LabelLaws.{dups-more}
 use Rattle.policy.proofs.Trees.{children-below}
 use Rattle.policy.proofs.VisitLaws.{in-tree-le}
 use Rattle.packet_set.specs.Bits.{bit}
@@ -25,17 +24,18 @@ use Rattle.packet_set.proofs.Digits.{bits-same, bit-of-zero}
 use Rattle.packet_set.proofs.Words.{words-hold, words-within}
 use Rattle.packet_set.proofs.Work.{member-slot}
 use Rattle.automaton.specs.Remainder.{Evaluable}
-use Rattle.automaton.specs.State.{Marks, PacketSet, passedOn, flow, enter, outputSet, outputMask, next, nextMask}
-use Rattle.automaton.proofs.Tests.{same-test, either, both, eqb-true, T-false}
-use Rattle.automaton.proofs.Sets.{Fits, below, same-set, passedOn-iff, passedOn-fits}
-use Rattle.automaton.proofs.Flow.{flow-fits, enter-fits}
+use Rattle.automaton.specs.State.{PacketSet, passedOn, flow, enter, outputSet, outputMask, next, nextMask}
+use Rattle.automaton.proofs.Tests.{same-test, both, eqb-true, T-false}
+use Rattle.automaton.proofs.Sets.{below, same-set, passedOn-iff, passedOn-fits}
+use Rattle.automaton.proofs.Flow.{enter-fits}
 use Rattle.automaton.proofs.Laws.{nextMask-lt, nextMask-bit}
 use Rattle.automaton.proofs.Trees.{tree-evaluable}
-use Rattle.evaluator.specs.Evaluation.{Members, Within, or, packetsOf, Below, treeOf, DupMasks, slots, Settled, Passes, Evaluated, Ready}
-use Rattle.evaluator.specs.Steps.{Formed, Entered, Gathered, GatherReady, Cleared, StepReady, Stepped}
-use Rattle.evaluator.proofs.Settling.{or-elim, tree-of, all-out, all-in, AtDup, settled-map}
+use Rattle.evaluator.specs.Evaluation.{Members, Within, or, packetsOf, Below, treeOf, slots, Settled, Evaluated, Ready}
+use Rattle.evaluator.specs.Steps.{NumberedDup, Entered, Gathered, GatherReady, Cleared, StepReady, Stepped}
+use Rattle.evaluator.proofs.Settling.{or-elim, tree-of, all-out, all-in, settled-map}
 use Rattle.evaluator.proofs.Passing.{packets-fit, packets-in, packets-out}
 use Rattle.evaluator.proofs.Entering.{slot-within}
+use Rattle.evaluator.proofs.Stepping.{dup-counted}
 
 -- nothing has entered and nothing has been passed on: all has settled
 settled-empty : (sizes : List ℕ) (L : NodeLists) (β : ℕ) (S : ℕ → Members) → ((j γ : ℕ) → T (S j γ) → ⊥) → (p : Policy) (n : ℕ) (Q : Members) → Settled sizes L β (λ _. false) S p n Q
@@ -48,16 +48,13 @@ settled-empty sizes L β S e (sum p q) n Q = (λ γ t. absurd (e n γ t), λ γ 
 settled-empty sizes L β S e (seq p q) n Q = (λ γ t. absurd (e n γ t), settled-empty sizes L β S e p _ _, settled-empty sizes L β S e q _ Q)
 settled-empty sizes L β S e (star p) n Q = (λ γ t. absurd (e n γ t), settled-empty sizes L β S e p _ _, λ γ t. absurd (e n γ t))
 
-module _ (sizes : List ℕ) (L : NodeLists) (count root β : ℕ) (nexts work : List ℕ) (rd : StepReady sizes L count root β nexts work) where
+module _ (sizes : List ℕ) (L : NodeLists) (masks places : List ℕ) (count root β : ℕ) (nexts work : List ℕ) (rd : StepReady sizes L masks places count root β nexts work) where
   pub count-small : count ≤ 1024
   count-small = let h = rd .legal .small in let e = rd .packets in omega arith
 
-  pub lists-fit : nodeCount L ≤ 512
-  lists-fit = rd .well .few
-
-  pub formed : Formed L
-  unfolding Formed
-  formed = (sizes, rd .well)
+  -- the dup at a place
+  at-place : (i : ℕ) → i < length places → NumberedDup L (nodeCount L) (suc i) (getD places i 0)
+  at-place = rd .prepared .placed .listed
 
   module _ (k : ℕ) (ek : k ≡ wordsFor count) where
     words-are : k ≡ wordsFor (product sizes)
@@ -80,15 +77,15 @@ module _ (sizes : List ℕ) (L : NodeLists) (count root β : ℕ) (nexts work : 
       unfolding Below
       belowX γ t = subst (λ (x : ℕ). x < product sizes) (sym (at-β γ t .1)) (rd .packet)
 
-      pub eval-ready : (masks : List ℕ) → DupMasks L masks → nodeCount L ≤ length masks → Ready sizes L k β root masks X work
-      eval-ready masks d l = record {
+      pub eval-ready : Ready sizes L k β root masks X work
+      eval-ready = record {
         legal = rd .legal;
         well = rd .well;
         words = words-are;
         packet = rd .packet;
         node = rd .node;
-        dups = d;
-        masked = l;
+        dups = rd .prepared .dups;
+        masked = rd .prepared .masked;
         below = belowX;
         long = rd .long;
       }
@@ -145,19 +142,21 @@ module _ (sizes : List ℕ) (L : NodeLists) (count root β : ℕ) (nexts work : 
             or-elim (slots k work j) (bit (enter sizes (bit state) β p XN (dupsBelow L (suc j)))) (bit (enter sizes (bit state) β p XN (dupsBelow L (suc j))))
             (λ δ s. absurd (nothing j δ (let f = rd .well .few in omega arith) s)) (λ δ s. s) γ (ev .passes .into j d γ t)
 
-        pub gather-ready : GatherReady L k count work1 nexts
+        pub gather-ready : GatherReady places k count work1 nexts
+        unfolding maxDups
         gather-ready = record {
-          formed = formed;
           few = few;
-          slotRoom = let a = rd .well .few in let b = rd .long in omega arith;
+          labels = let h = rd .well .dups in let e = rd .prepared .placed .count in omega arith;
+          slotRoom = λ i l. let a = rd .well .few in let b = rd .long in let c = at-place i l .within in let d = few in omega arith;
           words = let h = hold in let e = rd .packets in omega arith;
           room = let h = rd .room in let e = rd .packets in omega arith;
-          below = λ j l d γ t.
-              let h = below sizes (enter sizes (bit state) β p XN (dupsBelow L (suc j))) (enter-fits sizes (bit state) β p XN (packets-fit sizes (member X)) (dupsBelow L (suc j))) γ (at-dup j l d γ t) in
+          below = λ i l γ t.
+              let h = below sizes (enter sizes (bit state) β p XN (dupsBelow L (suc (getD places i 0)))) (enter-fits sizes (bit state) β p XN (packets-fit sizes (member X)) (dupsBelow L (suc (getD places i 0)))) γ
+              (at-dup (getD places i 0) (at-place i l .within) (at-place i l .isDup) γ t) in
               let e = rd .packets in omega arith;
         }
 
-        module _ (next1 work2 : List ℕ) (ga : Gathered L k count (nodeCount L) work1 nexts next1) (fits : (γ : ℕ) → getD next1 γ 0 < 2 ^ 32) (cl : Cleared k (nodeCount L) work1 work2)
+        module _ (next1 work2 : List ℕ) (ga : Gathered places k count (length places) work1 nexts next1) (fits : (γ : ℕ) → getD next1 γ 0 < 2 ^ 32) (cl : Cleared k (nodeCount L) work1 work2)
             (l2 : length work2 ≡ length work1) where
           ok : Evaluable sizes (dupsBelow L (nodeCount L)) p
           unfolding treeOf
@@ -181,17 +180,24 @@ module _ (sizes : List ℕ) (L : NodeLists) (count root β : ℕ) (nexts work : 
               is : (i : ℕ) → bit (nextMask sizes p (dupsBelow L (nodeCount L)) state β γ) i ≡ bit (enter sizes (bit state) β p PN i) γ
               is i = nextMask-bit sizes (dupsBelow L (nodeCount L)) p ok state β γ i
 
-              there : (i : ℕ) → Entered L k (nodeCount L) work1 γ i → T (bit (nextMask sizes p (dupsBelow L (nodeCount L)) state β γ) i)
+              there : (i : ℕ) → Entered places k (length places) work1 γ i → T (bit (nextMask sizes p (dupsBelow L (nodeCount L)) state β γ) i)
               there i e =
+                  let h = at-place (e .place) (e .within) in
                   subst T (sym (is i))
                   (subst (λ (Z : PacketSet). T (bit (enter sizes (bit state) β p Z i) γ)) enters-root
-                  (subst (λ (x : ℕ). T (bit (enter sizes (bit state) β p XN x) γ)) (sym (e .label)) (at-dup (e .node) (e .within) (e .isDup) γ (e .entered))))
+                  (subst (λ (x : ℕ). T (bit (enter sizes (bit state) β p XN x) γ)) (sym (e .label ∙ h .label)) (at-dup (getD places (e .place) 0) (h .within) (h .isDup) γ (e .entered))))
 
-              back : (i : ℕ) → T (bit (nextMask sizes p (dupsBelow L (nodeCount L)) state β γ) i) → Entered L k (nodeCount L) work1 γ i
+              back : (i : ℕ) → T (bit (nextMask sizes p (dupsBelow L (nodeCount L)) state β γ) i) → Entered places k (length places) work1 γ i
               back i t =
                   let a = all-in sizes L β (bit state) (slots k work1) (rd .well) p root (rd .node) (tree-of (rd .well) root (rd .node)) (member out) all-settled XN (packets-fit sizes (member X)) entered-root i γ
                   (subst (λ (Z : PacketSet). T (bit (enter sizes (bit state) β p Z i) γ)) (sym enters-root) (subst T (is i) t)) in
-                  record { node = a .node; within = a .within; isDup = a .isDup; label = a .label; entered = a .entered }
+                  let d = dup-counted L (a .node) (a .isDup) in
+                  record {
+                    place = dupsBelow L (a .node);
+                    within = let h = dups-more L (suc (a .node)) (nodeCount L) (a .within) in let e = rd .prepared .placed .count in omega arith;
+                    label = omega (arith, a .label);
+                    entered = subst (λ (j : ℕ). T (slots k work1 j γ)) (sym (rd .prepared .placed .each (a .node) (a .within) (a .isDup))) (a .entered);
+                  }
 
           as-found : work2 ≡ work
           as-found = ext-getD 0 work2 work (l2 ∙ l1) (λ i _. word i (decLt (i / 32) (nodeCount L)) (decLt (i % 32) k))

@@ -1,8 +1,8 @@
 -- Each way out of the evaluator.
 use Prim.Native.Nat.{ℕ, zero, suc, _+_, _-_, _*_, _/_, _%_, _≤_, _<_}
-use mathlib.Core.Bool.{Bool, true, false, _&&_, _||_, not, cond, true≢false}
+use mathlib.Core.Bool.{Bool, true, false, _||_, not, cond, true≢false}
 use mathlib.Core.List.{List, [], _∷_}
-use mathlib.Core.Logic.{_⊎_, inl, inr, _↔_}
+use mathlib.Core.Logic.{_⊎_, inl, inr}
 use mathlib.Core.Option.{Option, none, some}
 use mathlib.Core.Path.{_≡_, refl, sym, ap, _∙_, subst}
 use native.Mathlib.Nat.{eq-or-lt-of-le, le-of-suc-le-suc, not-suc-le-zero}
@@ -11,30 +11,28 @@ use native.Mathlib.Omega.{arith}
 use lib.Bits.{bitAnd}
 use lib.Dec.{T, eqb, eqb→eq}
 use lib.ListN.{length, getD}
-use Rattle.packet.specs.Sizes.{product}
 use Rattle.policy.specs.declared.FieldAction.{FieldAction}
 use Rattle.policy.specs.declared.Node.{Node}
 use Rattle.policy.specs.declared.Node.the-variants.{Drop, Id, Field, Dup, Sum, Seq, Star}
-use Rattle.policy.specs.Legality.{badField, fieldOf, valueOf, InFields}
+use Rattle.policy.specs.Legality.{InFields}
 use Rattle.policy.specs.NodeLists.{NodeLists, nodeCount, nodeAt, children, dupsBelow, grow}
-use Rattle.policy.specs.Tree.{Policy, dup, field}
+use Rattle.policy.specs.Tree.{dup, field}
 use Rattle.policy.specs.Visits.{InTree}
 use Rattle.policy.proofs.Trees.{children-below, two-below, one-below}
 use Rattle.policy.proofs.VisitLaws.{in-tree-le, in-tree-self, in-tree-left, in-tree-right, in-tree-one}
 use Rattle.packet_set.specs.Bits.{bit}
 use Rattle.packet_set.specs.Members.{member, emptySet, unionOf, withPacket, lowestIn, isNone, isEmpty}
 use Rattle.packet_set.proofs.Digits.{bit-of-zero, bits-below}
-use Rattle.packet_set.proofs.Words.{member-union, member-empty, member-with}
-use Rattle.packet_set.proofs.Walk.{FoundIn, LowestIn, lowest-in-is, empty-members}
+use Rattle.packet_set.proofs.Words.{member-union, member-empty, member-with, length-union}
+use Rattle.packet_set.proofs.Walk.{FoundIn, lowest-in-is, empty-members}
 use Rattle.automaton.specs.Remainder.{HasDup}
-use Rattle.automaton.specs.State.{Marks}
-use Rattle.automaton.proofs.Tests.{either, both, true-T, T-true, T-false, eqb-true}
+use Rattle.automaton.proofs.Tests.{either, both, true-T, T-false, eqb-true}
 use Rattle.evaluator.specs.Evaluation.{Members, Within, or, Below, treeOf, slots, Passes, Evaluated, Took, Ready}
 use Rattle.evaluator.specs.Actions.{Image, Acting}
-use Rattle.evaluator.proofs.Settling.{or-left, or-right, or-elim}
+use Rattle.evaluator.proofs.Settling.{or-left, or-elim}
 use Rattle.evaluator.proofs.Passing.{TakesIn, Live, Apart, below-within, below-flow, packets-fit, tree-at, fields, skips, drops, lets, acts, passes-on, sums, seqs}
-use Rattle.evaluator.proofs.Looping.{Rounds, rounds-start, rounds-turn, rounds-end, rounds-below, round-below}
-use Rattle.evaluator.proofs.Entering.{few-words, hold-all, slot-room, within-words, ready-child, live-marks, live-dup, took-length, took-elsewhere, takes-in, apart-slots, union-beyond, is-new}
+use Rattle.evaluator.proofs.Looping.{Rounds, rounds-start, rounds-turn, rounds-end, rounds-below}
+use Rattle.evaluator.proofs.Entering.{few-words, slot-room, within-words, ready-child, live-marks, live-dup, took-length, took-elsewhere, takes-in, apart-slots, union-beyond, is-new}
 
 -- ---- how much is missing in a set
 
@@ -141,11 +139,13 @@ module _ (sizes : List ℕ) (L : NodeLists) (k β n : ℕ) (masks X work : List 
   here : (r : List ℕ) → Passes sizes L β (treeOf L n) n (bit marks) (member X) (slots k work) (member r) (slots k work1) → Evaluated sizes L k β n marks X work r work1
   here r p = record { passes = p; elsewhere = entry-words }
 
-  pub eval-skip : live ≡ 0 → isEmpty k new ≡ true → (r : List ℕ) → r ≡ emptySet → Evaluated sizes L k β n marks X work r work1
-  eval-skip z e r er =
-      here r
-      (skips (rd .well) β (bit marks) (bit live) (member X) (member new) (slots k work) (slots k work1) n (rd .node) ti (rd .below) v (no-bit live z)
-      (λ γ t. subst T (empty-members new k e γ (inside γ (ti .fresh γ t))) t) (member r) (no-member r er))
+  pub eval-skip : live ≡ 0 → isEmpty k new ≡ true → Evaluated sizes L k β n marks X work new work1
+  eval-skip z e =
+      here new
+      (skips (rd .well) β (bit marks) (bit live) (member X) (member new) (slots k work) (slots k work1) n (rd .node) ti (rd .below) v (no-bit live z) nothing (member new) nothing)
+    where
+      nothing : (γ : ℕ) → T (member new γ) → ⊥
+      nothing γ t = subst T (empty-members new k e γ (inside γ (ti .fresh γ t))) t
 
   pub eval-drop : nodeAt L n ≡ Drop → (r : List ℕ) → r ≡ emptySet → Evaluated sizes L k β n marks X work r work1
   eval-drop e r er =
@@ -301,9 +301,9 @@ module _ (sizes : List ℕ) (L : NodeLists) (k β n : ℕ) (masks X work : List 
           apart2 : Apart L c (slots k w) (slots k w2)
           apart2 = apart-slots L k c w w2 few l2 (ev .elsewhere)
 
-          pub turning-turn : (O′ : List ℕ) (again′ : Bool) → length O′ ≡ 32 → O′ ≡ unionOf k O G → again′ ≡ not (isEmpty k G)
+          pub turning-turn : (O′ : List ℕ) (again′ : Bool) → O′ ≡ unionOf k O G → again′ ≡ not (isEmpty k G)
               → Turning sizes L k β n c live new work1 w3 G O′ 0 again′
-          turning-turn O′ again′ lO eO ea =
+          turning-turn O′ again′ eO ea =
               let u = union-is O G (tg .longO) belowO (below-within sizes (member G) (member A) (ti2 .fresh) belowA) in record {
                 rounds =
                     rounds-turn (rd .well) β n c (rd .node) e (bit live) (member new) entry-below (slots k work1) (slots k w) (slots k w2) (member D) (member O) (member A) (bit left) (tg .rounds) (ev .passes)
@@ -314,7 +314,7 @@ module _ (sizes : List ℕ) (L : NodeLists) (k β n : ℕ) (masks X work : List 
                     ∙ ev .elsewhere i (λ t. h (in-tree-one L (children-below (rd .well)) n c (i / 32) (rd .node) kid t)) ∙ tg .elsewhere i h;
                 same = l3 ∙ l2 ∙ tg .same;
                 longD = tk2 .long;
-                longO = lO;
+                longO = ap length eO ∙ length-union k O G ∙ tg .longO;
                 stops = λ z. (flip (isEmpty k G) (sym ea ∙ z), refl);
               }
             where

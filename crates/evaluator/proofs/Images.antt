@@ -1,17 +1,13 @@
 -- What flows through a policy grows with what enters and with what is marked.
-use Prim.Native.Nat.{ℕ, zero, suc, _<_}
-use mathlib.Core.Bool.{Bool, true, false, _||_}
+use Prim.Native.Nat.{ℕ}
 use mathlib.Core.List.{List, []}
-use mathlib.Core.Logic.{_⊎_, inl, inr, _↔_}
-use mathlib.Core.Path.{_≡_, sym, subst}
 use lib.Dec.{T}
-use Rattle.packet.specs.Sizes.{product}
 use Rattle.policy.specs.Legality.{InFields}
 use Rattle.policy.specs.Meaning.{numbered}
-use Rattle.policy.specs.Tree.{Policy, drop, id, field, dup, sum, seq, star}
+use Rattle.policy.specs.Tree.{Policy, star}
 use Rattle.packet_set.specs.Bits.{bit}
-use Rattle.automaton.specs.State.{Marks, PacketSet, rounds, flow, enter}
-use Rattle.automaton.proofs.Fundamental.{Out, Gives, Enters, through, after, straight, later, gives-map, enters-map, star-once, star-none}
+use Rattle.automaton.specs.State.{Marks, PacketSet, flow, enter}
+use Rattle.automaton.proofs.Fundamental.{Out, Enters, through, after, straight, later, gives-map, enters-map, star-once, star-none}
 use Rattle.automaton.proofs.Flow.{Marked, flow-iff, enter-iff, flow-fits}
 use Rattle.automaton.proofs.Sets.{Fits}
 

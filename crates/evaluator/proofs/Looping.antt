@@ -1,16 +1,16 @@
 -- The rounds of a star: only what is new goes through the body again.
-use Prim.Native.Nat.{ℕ, zero, suc, _<_, _≤_}
+use Prim.Native.Nat.{ℕ, suc, _<_}
 use mathlib.Core.Bool.{Bool, true, false, _&&_, _||_, not}
-use mathlib.Core.List.{List, [], _∷_}
-use mathlib.Core.Logic.{_⊎_, inl, inr, _↔_}
-use mathlib.Core.Path.{_≡_, refl, sym, ap, _∙_, subst}
+use mathlib.Core.List.{List}
+use mathlib.Core.Logic.{inl, inr}
+use mathlib.Core.Path.{_≡_, refl, sym, ap, subst}
 use native.Mathlib.Omega.{arith}
 use lib.Dec.{T}
 use Rattle.policy.specs.declared.Node.{Node}
 use Rattle.policy.specs.declared.Node.the-variants.{Dup, Star}
 use Rattle.policy.specs.Legality.{WellFormed, InFields}
 use Rattle.policy.specs.NodeLists.{NodeLists, nodeCount, nodeAt, children, isDup, dupsBelow, grow}
-use Rattle.policy.specs.Tree.{Policy, star}
+use Rattle.policy.specs.Tree.{star}
 use Rattle.policy.specs.Visits.{InTree}
 use Rattle.policy.proofs.Trees.{children-below, one-below}
 use Rattle.policy.proofs.VisitLaws.{in-tree-le, in-tree-self}
@@ -20,7 +20,7 @@ use Rattle.automaton.specs.State.{Marks, PacketSet, flow, enter}
 use Rattle.automaton.proofs.Tests.{either, both}
 use Rattle.automaton.proofs.Sets.{Fits}
 use Rattle.automaton.proofs.Flow.{flow-fits}
-use Rattle.evaluator.specs.Evaluation.{Members, Within, or, packetsOf, Below, treeOf, Settled, leftOf, rightOf, Passes}
+use Rattle.evaluator.specs.Evaluation.{Members, Within, or, packetsOf, Below, treeOf, Settled, leftOf, Passes}
 use Rattle.evaluator.proofs.Images.{flow-more, enter-more, star-holds, star-closed}
 use Rattle.evaluator.proofs.Settling.{or-left, or-right, or-elim, or-map, tree-of, settled-map}
 use Rattle.evaluator.proofs.Passing.{TakesIn, Live, Apart, packets-fit, packets-in, packets-out, packets-map, fields, tree-at, dup-slots, below-flow}

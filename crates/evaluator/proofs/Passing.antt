@@ -1,32 +1,31 @@
 -- A packet set through a node of each kind, from what its children do.
-use Prim.Native.Nat.{ℕ, zero, suc, _<_, _≤_}
-use mathlib.Core.Bool.{Bool, true, false, _&&_, _||_, not, cond}
+use Prim.Native.Nat.{ℕ, suc, _<_}
+use mathlib.Core.Bool.{Bool, true, false, not, cond}
 use mathlib.Core.List.{List, [], _∷_}
-use mathlib.Core.Logic.{_⊎_, inl, inr, _↔_, ⊎-elim}
-use mathlib.Core.Path.{_≡_, refl, sym, ap, ap₂, _∙_, subst}
+use mathlib.Core.Logic.{inl, inr}
+use mathlib.Core.Path.{_≡_, refl, sym, ap, _∙_, subst}
 use native.Mathlib.Decide.{ℕ-discrete}
 use native.Mathlib.Omega.{arith}
-use lib.Dec.{T, eqb, eqb→eq}
+use lib.Dec.{T, eqb}
 use Rattle.packet.specs.Sizes.{product}
 use Rattle.policy.specs.declared.FieldAction.{FieldAction}
 use Rattle.policy.specs.declared.Node.{Node}
-use Rattle.policy.specs.declared.Node.the-variants.{Drop, Id, Field, Dup, Sum, Seq, Star}
+use Rattle.policy.specs.declared.Node.the-variants.{Drop, Id, Field, Dup, Sum, Seq}
 use Rattle.policy.specs.Legality.{WellFormed, InFields}
-use Rattle.policy.specs.NodeLists.{NodeLists, nodeCount, nodeAt, children, isDup, dupsBelow, grow, treeAt, TreeOf}
-use Rattle.policy.specs.Tree.{Policy, drop, id, field, dup, sum, seq, star}
+use Rattle.policy.specs.NodeLists.{NodeLists, nodeCount, nodeAt, children, isDup, dupsBelow, grow}
+use Rattle.policy.specs.Tree.{Policy, drop, id, field, dup, sum, seq}
 use Rattle.policy.specs.Visits.{InTree}
-use Rattle.policy.proofs.Trees.{children-below, two-below, one-below, tree-fields}
+use Rattle.policy.proofs.Trees.{children-below, two-below, tree-fields}
 use Rattle.policy.proofs.VisitLaws.{in-tree-le, in-tree-self, apart}
 use Rattle.packet_set.specs.Bits.{bit}
-use Rattle.packet_set.proofs.Digits.{bit-of-zero}
 use Rattle.automaton.specs.Remainder.{HasDup}
 use Rattle.automaton.specs.State.{Marks, PacketSet, setOf, takes, image, passedOn, flow, enter}
-use Rattle.automaton.proofs.Tests.{either, both, eqb-true, same-test}
+use Rattle.automaton.proofs.Tests.{both, eqb-true, same-test}
 use Rattle.automaton.proofs.Sets.{Fits, below, setOf-fits, setOf-iff, union-iff, passedOn-iff}
 use Rattle.automaton.proofs.Flow.{flow-fits, enter-fits}
 use Rattle.evaluator.specs.Evaluation.{Members, Within, or, packetsOf, Below, treeOf, Settled, leftOf, rightOf, Passes}
-use Rattle.evaluator.proofs.Images.{flow-more, enter-more, star-holds, star-closed}
-use Rattle.evaluator.proofs.Settling.{or-left, or-right, or-elim, or-map, same-within, tree-grow, tree-of, settled-map}
+use Rattle.evaluator.proofs.Images.{flow-more, enter-more}
+use Rattle.evaluator.proofs.Settling.{or-left, or-right, or-elim, or-map, tree-grow, tree-of, settled-map}
 
 -- X enters node n, where S has entered before: F is new of it, and then S′ has entered
 pub record TakesIn (n : ℕ) (S : ℕ → Members) (X F : Members) (S′ : ℕ → Members) : Type 0 where

@@ -1,5 +1,5 @@
 -- A test or a change of one field on a packet and on a set of packets, by the field's stride and size.
-use Prim.Native.Nat.{ℕ, _+_, _-_, _*_, _/_, _%_, _<_}
+use Prim.Native.Nat.{ℕ, _+_, _-_, _*_, _/_, _%_}
 use mathlib.Core.Bool.{Bool, true, false}
 use mathlib.Core.List.{List}
 use mathlib.Core.Path.{_≡_}
@@ -9,7 +9,7 @@ use Rattle.policy.specs.declared.FieldAction.{FieldAction}
 use Rattle.policy.specs.declared.FieldAction.the-variants.{Equals, Differs, Set}
 use Rattle.policy.specs.Legality.{badField, fieldOf, valueOf}
 use Rattle.packet_set.specs.Bits.{bit}
-use Rattle.packet_set.specs.Members.{member, withPacket, wordsFor}
+use Rattle.packet_set.specs.Members.{withPacket, wordsFor}
 use Rattle.packet_set.specs.declared.Lowest.{Lowest}
 use Rattle.packet_set.specs.declared.Lowest.the-variants.{At, Nothing}
 use Rattle.automaton.specs.State.{takes, image}

@@ -1,6 +1,6 @@
 -- One step of a state: the work around the evaluator.
-use Prim.Native.Nat.{ℕ, zero, suc, _+_, _*_, _/_, _%_, _^_, _<_, _≤_}
-use mathlib.Core.Bool.{Bool, cond}
+use Prim.Native.Nat.{ℕ, zero, suc, _+_, _*_, _/_, _%_, _<_, _≤_}
+use mathlib.Core.Bool.{cond}
 use mathlib.Core.List.{List}
 use mathlib.Core.Logic.{_↔_}
 use mathlib.Core.Path.{_≡_}
@@ -11,11 +11,11 @@ use Rattle.packet.specs.Sizes.{product, LegalSizes}
 use Rattle.policy.specs.declared.Node.{Node}
 use Rattle.policy.specs.declared.Node.the-variants.{Drop, Id, Field, Dup, Sum, Seq, Star}
 use Rattle.policy.specs.Legality.{WellFormed}
-use Rattle.policy.specs.NodeLists.{NodeLists, nodeCount, nodeAt, children, dupsBelow}
+use Rattle.policy.specs.NodeLists.{NodeLists, nodeCount, nodeAt, dupsBelow}
 use Rattle.packet_set.specs.Bits.{bit, marked}
-use Rattle.packet_set.specs.Members.{member, wordsFor}
+use Rattle.packet_set.specs.Members.{member}
 use Rattle.automaton.specs.State.{outputMask, nextMask}
-use Rattle.evaluator.specs.Evaluation.{Members, Below, treeOf, slots}
+use Rattle.evaluator.specs.Evaluation.{DupMasks, Below, treeOf, slots}
 
 -- the mask of the dups in the tree of a node, from the masks of its children; `label` is the number of a dup node
 unfoldable pub nodeMask : List ℕ → ℕ → Node → ℕ
@@ -46,37 +46,49 @@ pub record Marked (k label : ℕ) (X next next′ : List ℕ) : Type 0 where
   pub inside : (γ : ℕ) → γ < 32 * k → getD next′ γ 0 ≡ cond (member X γ) (marked (getD next γ 0) label) (getD next γ 0)
   pub beyond : (γ : ℕ) → 32 * k ≤ γ → getD next′ γ 0 ≡ getD next γ 0
 
--- the same, unless no dup has been counted
-pub record MarkedUnless (k before after : ℕ) (X next next′ : List ℕ) : Type 0 where
-  pub same : before ≡ after → next′ ≡ next
-  pub marks : (before ≡ after → ⊥) → Marked k after X next next′
+-- node v, one of the first n, is the dup with number i
+pub record NumberedDup (L : NodeLists) (n i v : ℕ) : Type 0 where
+  pub within : v < n
+  pub isDup : nodeAt L v ≡ Dup
+  pub label : i ≡ dupsBelow L (suc v)
 
--- a dup of the first n nodes has number i, and γ has entered it
-pub record Entered (L : NodeLists) (k n : ℕ) (work : List ℕ) (γ i : ℕ) : Type 0 where
-  pub node : ℕ
-  pub within : node < n
-  pub isDup : nodeAt L node ≡ Dup
-  pub label : i ≡ dupsBelow L (suc node)
-  pub entered : T (slots k work node γ)
+-- the nodes of the d dups among the first n nodes, in node order: the dup at place i has number i + 1
+pub record DupPlaces (L : NodeLists) (n d : ℕ) (places : List ℕ) : Type 0 where
+  pub count : d ≡ dupsBelow L n
+  pub listed : (i : ℕ) → i < d → NumberedDup L n (suc i) (getD places i 0)
+  pub each : (v : ℕ) → v < n → nodeAt L v ≡ Dup → getD places (dupsBelow L v) 0 ≡ v
 
--- the entries below N mark the dups of the first n nodes that have been entered; the others are as they were
-pub record Gathered (L : NodeLists) (k N n : ℕ) (work next next′ : List ℕ) : Type 0 where
-  pub inside : (γ i : ℕ) → γ < N → T (bit (getD next′ γ 0) i) ↔ Entered L k n work γ i
+-- what depends on the policy alone: the masks of the dups in the tree of each node, and the places of the dups
+pub record Prepared (L : NodeLists) (masks places : List ℕ) : Type 0 where
+  pub dups : DupMasks L masks
+  pub masked : nodeCount L ≤ length masks
+  pub placed : DupPlaces L (nodeCount L) (length places) places
+
+-- γ has entered the dup with number i, one of those at the first n places
+pub record Entered (places : List ℕ) (k n : ℕ) (work : List ℕ) (γ i : ℕ) : Type 0 where
+  pub place : ℕ
+  pub within : place < n
+  pub label : i ≡ suc place
+  pub entered : T (slots k work (getD places place 0) γ)
+
+-- the entries below N mark the dups at the first n places that have been entered; the others are as they were
+pub record Gathered (places : List ℕ) (k N n : ℕ) (work next next′ : List ℕ) : Type 0 where
+  pub inside : (γ i : ℕ) → γ < N → T (bit (getD next′ γ 0) i) ↔ Entered places k n work γ i
   pub beyond : (γ : ℕ) → N ≤ γ → getD next′ γ 0 ≡ getD next γ 0
 
--- the first n entries are 0, the others as they were
-pub record Zeroed (n : ℕ) (list list′ : List ℕ) : Type 0 where
-  pub inside : (i : ℕ) → i < n → getD list′ i 0 ≡ 0
-  pub beyond : (i : ℕ) → n ≤ i → getD list′ i 0 ≡ getD list i 0
+-- the entries from m to before n are 0, the others as they were
+pub record Zeroed (m n : ℕ) (list list′ : List ℕ) : Type 0 where
+  pub inside : (i : ℕ) → m ≤ i → i < n → getD list′ i 0 ≡ 0
+  pub beyond : (i : ℕ) → (m ≤ i → i < n → ⊥) → getD list′ i 0 ≡ getD list i 0
 
 -- what gathering asks: only packets below N have entered the dups
-pub record GatherReady (L : NodeLists) (k N : ℕ) (work next : List ℕ) : Type 0 where
-  pub formed : Formed L
+pub record GatherReady (places : List ℕ) (k N : ℕ) (work next : List ℕ) : Type 0 where
   pub few : k ≤ 32
-  pub slotRoom : 32 * nodeCount L ≤ length work
+  pub labels : length places < 32
+  pub slotRoom : (i : ℕ) → i < length places → 32 * getD places i 0 + k ≤ length work
   pub words : N ≤ 32 * k
   pub room : N ≤ length next
-  pub below : (j : ℕ) → j < nodeCount L → nodeAt L j ≡ Dup → (γ : ℕ) → T (slots k work j γ) → γ < N
+  pub below : (i : ℕ) → i < length places → (γ : ℕ) → T (slots k work (getD places i 0) γ) → γ < N
 
 -- the first k words of the first n slots are 0, and all else is as it was
 pub record Cleared (k n : ℕ) (work work′ : List ℕ) : Type 0 where
@@ -84,9 +96,10 @@ pub record Cleared (k n : ℕ) (work work′ : List ℕ) : Type 0 where
   pub beyond : (i : ℕ) → (i / 32 < n → i % 32 < k → ⊥) → getD work′ i 0 ≡ getD work i 0
 
 -- what a step asks
-pub record StepReady (sizes : List ℕ) (L : NodeLists) (count root β : ℕ) (next work : List ℕ) : Type 0 where
+pub record StepReady (sizes : List ℕ) (L : NodeLists) (masks places : List ℕ) (count root β : ℕ) (next work : List ℕ) : Type 0 where
   pub legal : LegalSizes sizes
   pub well : WellFormed sizes L
+  pub prepared : Prepared L masks places
   pub packets : count ≡ product sizes
   pub node : root < nodeCount L
   pub packet : β < product sizes

@@ -1,7 +1,7 @@
 // Output and next of a state, by packet sets (document 01, "States and rows"). All functions here are inner.
 ghost use mathlib.Core.Path.{_≡_};
 ghost use Prim.Native.Nat.{ℕ, _+_, _*_, _<_, _≤_};
-ghost use lib.ListN.{length, getD};
+ghost use lib.ListN.{length, getD, take};
 ghost use Rattle.policy.specs.Legality.{fieldOf, valueOf};
 ghost use Rattle.packet_set.specs.Members.{member};
 ghost use Rattle.packet_set.specs.declared.Lowest.the-variants.{At};
@@ -9,10 +9,9 @@ ghost use Rattle.policy.specs.AsLists.{asLists};
 ghost use mathlib.Core.Bool.{_&&_};
 ghost use lib.Dec.{T, eqb};
 ghost use Rattle.packet_set.specs.Bits.{bit};
-ghost use Rattle.evaluator.specs.Evaluation.{DupMasks, slots, Took, Ready, Evaluated};
-ghost use Rattle.policy.specs.NodeLists.{nodeCount, isDup, one, dupsBelow, nodeAt};
-ghost use Rattle.packet_set.specs.Slots.{slotAt};
-ghost use Rattle.evaluator.specs.Steps.{nodeMask, KidsBelow, Formed, Marked, MarkedUnless, Gathered, Zeroed, GatherReady, Cleared, StepReady, Stepped};
+ghost use Rattle.evaluator.specs.Evaluation.{Took, Ready, Evaluated};
+ghost use Rattle.policy.specs.NodeLists.{isDup, one};
+ghost use Rattle.evaluator.specs.Steps.{nodeMask, KidsBelow, Formed, Prepared, Marked, Gathered, Zeroed, GatherReady, Cleared, StepReady, Stepped};
 ghost use Rattle.evaluator.specs.Actions.{landing, withLanding, Image, Acting};
 use packet_set::Lowest;
 use packet_set::Mask;
@@ -54,48 +53,53 @@ fn act(action: FieldAction, stride: u16, size: u16, packet: u16) -> Lowest
     }
 }
 
-// Inner. The set with the packet besides, if there is one.
-fn put(set: PacketSet, at: Lowest) -> PacketSet
+// Inner. The set takes the packet, if there is one.
+fn put(set: &mut PacketSet, at: Lowest)
     requires { ⌜ ((γ : ℕ) → at ≡ At γ → γ < 1024) ⌝ }
-    ensures { λ r. ⌜ r ≡ withLanding set at ⌝ }
+    ensures { λ _. ⌜ now (set .exit) ≡ withLanding (now (set .entry)) at ⌝ }
 {
-    match at {
-        Lowest::At(packet) => packet_set::insert(set, packet),
-        Lowest::Nothing => set,
+    if let Lowest::At(packet) = at {
+        packet_set::insert(set, packet);
     }
 }
 
-// Inner. The packets to which the action takes those of the set.
-fn image(sizes: &[u16], action: FieldAction, set: PacketSet, words: usize) -> PacketSet
-    requires { ⌜ Acting (now sizes) action words (member set) ⌝ }
-    ensures { λ r. ⌜ Image (now (sizes .entry)) action (member set) (member r) ⌝ }
+// Inner. The set becomes the packets to which the action takes its members.
+fn image(sizes: &[u16], action: FieldAction, set: &mut PacketSet, words: usize)
+    requires { ⌜ Acting (now sizes) action words (member (now set)) × (length (now set) ≡ 32) ⌝ }
+    ensures { λ _. ⌜ Image (now (sizes .entry)) action (member (now (set .entry))) (member (now (set .exit))) × (length (now (set .exit)) ≡ 32) ⌝ }
 {
     let field = field_of(action) as usize;
     let stride = packet::stride_of(sizes, field);
     let size = sizes[field];
-    let mut out = packet_set::empty();
+    let before = *set;
+    *set = [0u32; 32];
     let mut from: u16 = 0;
     loop {
-        let Lowest::At(alpha) = packet_set::next_member(&set, from, words) else {
-            return out;
+        let Lowest::At(alpha) = packet_set::next_member(&before, from, words) else {
+            return;
         };
-        let grown = put(out, act(action, stride, size, alpha));
-        out = grown;
+        put(set, act(action, stride, size, alpha));
         from = alpha + 1;
     }
 }
 
-// Inner. Slot n of the work list takes the set; what was not there before is returned.
-fn take_in(work: &mut [u32], n: usize, words: usize, set: PacketSet) -> PacketSet
-    requires { ⌜ (words ≤ 32) × (32 * n + words ≤ length (now work)) ⌝ }
-    ensures { λ r. ⌜ Took words n (now (work .entry)) set r (now (work .exit)) ⌝ }
+// Inner. Slot n of the work list takes the set; what was not there before stays in the set.
+fn take_in(work: &mut [u32], n: usize, words: usize, set: &mut PacketSet)
+    requires { ⌜ (words ≤ 32) × (32 * n + words ≤ length (now work)) × (length (now set) ≡ 32) ⌝ }
+    ensures { λ _. ⌜ Took words n (now (work .entry)) (now (set .entry)) (now (set .exit)) (now (work .exit)) ⌝ }
 {
-    let old = packet_set::load_slot(work, n, words);
-    packet_set::store_slot(work, n, words, packet_set::union(old, set, words));
-    packet_set::difference(set, old, words)
+    let start = 32 * n;
+    let mut i = 0;
+    while i < words {
+        let old = work[start + i];
+        let new = set[i];
+        work[start + i] = old | new;
+        set[i] = new ^ (new & old);
+        i += 1;
+    }
 }
 
-// Inner. The set through node n: what has not entered the node before in this step goes on, and the marked dups pass on the
+// Inner. The set through node n, in place: what has not entered the node before in this step goes on, and the marked dups pass on the
 // packet; later visits pass no mark. Slot n of the work list records what has entered node n. masks[n] has the dups in the tree of n.
 fn through(
     kind: &[u8],
@@ -107,31 +111,35 @@ fn through(
     packet: u16,
     n: usize,
     marks: Mask,
-    set: PacketSet,
+    set: &mut PacketSet,
     work: &mut [u32],
-) -> PacketSet
-    requires { ⌜ Ready (now sizes) (asLists (now kind) (now first) (now second)) words packet n (now masks) set (now work) ⌝ }
-    ensures { λ r. ⌜ Evaluated (now (sizes .entry)) (asLists (now (kind .entry)) (now (first .entry)) (now (second .entry))) words packet n marks set (now (work .entry)) r (now (work .exit)) ⌝ }
+)
+    requires { ⌜ Ready (now sizes) (asLists (now kind) (now first) (now second)) words packet n (now masks) (now set) (now work) × (length (now set) ≡ 32) ⌝ }
+    ensures { λ _. ⌜ Evaluated (now (sizes .entry)) (asLists (now (kind .entry)) (now (first .entry)) (now (second .entry))) words packet n marks (now (set .entry)) (now (work .entry)) (now (set .exit)) (now (work .exit)) × (length (now (set .exit)) ≡ 32) ⌝ }
 {
-    let fresh = take_in(work, n, words, set);
+    take_in(work, n, words, set);
     let live = marks & masks[n];
     if live == 0 {
-        if packet_set::is_empty(fresh, words) {
-            return packet_set::empty();
+        if packet_set::is_empty(set, words) {
+            return;
         }
     }
     match policy::lent::node_at(kind, first, second, n) {
-        Node::Drop => packet_set::empty(),
-        Node::Id => fresh,
-        Node::Field(action) => image(sizes, action, fresh, words),
+        Node::Drop => {
+            *set = [0u32; 32];
+        }
+        Node::Id => {}
+        Node::Field(action) => image(sizes, action, set, words),
         Node::Dup => {
+            *set = [0u32; 32];
             if live == 0 {
-                return packet_set::empty();
+                return;
             }
-            packet_set::singleton(packet)
+            packet_set::insert(set, packet);
         }
         Node::Sum(l, r) => {
-            let a = through(
+            let mut other = *set;
+            through(
                 kind,
                 first,
                 second,
@@ -141,36 +149,7 @@ fn through(
                 packet,
                 l as usize,
                 live,
-                fresh,
-                work,
-            );
-            let b = through(
-                kind,
-                first,
-                second,
-                sizes,
-                masks,
-                words,
-                packet,
-                r as usize,
-                live,
-                fresh,
-                work,
-            );
-            packet_set::union(a, b, words)
-        }
-        Node::Seq(l, r) => {
-            let a = through(
-                kind,
-                first,
-                second,
-                sizes,
-                masks,
-                words,
-                packet,
-                l as usize,
-                live,
-                fresh,
+                set,
                 work,
             );
             through(
@@ -183,18 +162,46 @@ fn through(
                 packet,
                 r as usize,
                 live,
-                a,
+                &mut other,
                 work,
-            )
+            );
+            packet_set::union(set, &other, words);
+        }
+        Node::Seq(l, r) => {
+            through(
+                kind,
+                first,
+                second,
+                sizes,
+                masks,
+                words,
+                packet,
+                l as usize,
+                live,
+                set,
+                work,
+            );
+            through(
+                kind,
+                first,
+                second,
+                sizes,
+                masks,
+                words,
+                packet,
+                r as usize,
+                live,
+                set,
+                work,
+            );
         }
         Node::Star(c) => {
             let child = c as usize;
-            let mut out = fresh;
-            let mut delta = fresh;
+            let mut delta = *set;
             let mut left = live;
             let mut again = true;
             while again {
-                let given = through(
+                through(
                     kind,
                     first,
                     second,
@@ -204,17 +211,14 @@ fn through(
                     packet,
                     child,
                     left,
-                    delta,
+                    &mut delta,
                     work,
                 );
-                let new = take_in(work, n, words, given);
-                let grown = packet_set::union(out, new, words);
-                out = grown;
-                delta = new;
+                take_in(work, n, words, &mut delta);
+                packet_set::union(set, &delta, words);
                 left = 0;
-                again = !packet_set::is_empty(new, words);
+                again = !packet_set::is_empty(&delta, words);
             }
-            out
         }
     }
 }
@@ -251,10 +255,17 @@ fn node_mask(node: Node, label: u32, masks: &[u32]) -> Mask
     }
 }
 
-// Inner. The masks of the dups in the tree of each node.
-fn dup_masks(kind: &[u8], first: &[u16], second: &[u16], masks: &mut [u32])
-    requires { ⌜ Formed (asLists (now kind) (now first) (now second)) × (length (now kind) ≤ length (now masks)) ⌝ }
-    ensures { λ _. ⌜ DupMasks (asLists (now (kind .entry)) (now (first .entry)) (now (second .entry))) (now (masks .exit)) ⌝ }
+// Inner. What depends on the policy alone: the masks of the dups in the tree of each node, and the nodes of the dups, as many as
+// the answer says. Later places are overwritten.
+pub fn prepare(
+    kind: &[u8],
+    first: &[u16],
+    second: &[u16],
+    masks: &mut [u32],
+    places: &mut [u16],
+) -> usize
+    requires { ⌜ Formed (asLists (now kind) (now first) (now second)) × (length (now kind) ≤ length (now masks)) × (32 ≤ length (now places)) ⌝ }
+    ensures { λ r. ⌜ (r < 32) × Prepared (asLists (now (kind .entry)) (now (first .entry)) (now (second .entry))) (now (masks .exit)) (take r (now (places .exit))) ⌝ }
 {
     let mut label: u32 = 0;
     let mut n = 0;
@@ -262,19 +273,21 @@ fn dup_masks(kind: &[u8], first: &[u16], second: &[u16], masks: &mut [u32])
         let node = policy::lent::node_at(kind, first, second, n);
         let after = label_after(node, label);
         masks[n] = node_mask(node, after, masks);
+        places[label as usize] = n as u16;
         label = after;
         n += 1;
     }
+    label as usize
 }
 
-// Inner. Marks the dup in the entry of each member of the set.
-fn mark_members(set: PacketSet, words: usize, label: u32, next: &mut [u32])
-    requires { ⌜ (words ≤ 32) × (label < 32) × ((γ : ℕ) → T (member set γ) → γ < length (now next)) ⌝ }
-    ensures { λ _. ⌜ Marked words label set (now (next .entry)) (now (next .exit)) ⌝ }
+// Inner. Marks the dup in the entry of each member of the set, which is walked where it lies.
+fn mark_members(set: &[u32], words: usize, label: u32, next: &mut [u32])
+    requires { ⌜ (words ≤ 32) × (words ≤ length (now set)) × (label < 32) × ((γ : ℕ) → γ < 32 * words → T (member (now set) γ) → γ < length (now next)) ⌝ }
+    ensures { λ _. ⌜ Marked words label (now (set .entry)) (now (next .entry)) (now (next .exit)) ⌝ }
 {
     let mut from: u16 = 0;
     loop {
-        let Lowest::At(gamma) = packet_set::next_member(&set, from, words) else {
+        let Lowest::At(gamma) = packet_set::next_member(set, from, words) else {
             return;
         };
         let at = gamma as usize;
@@ -283,51 +296,35 @@ fn mark_members(set: PacketSet, words: usize, label: u32, next: &mut [u32])
     }
 }
 
-// Inner. Marks the dup at node n, whose number is `after`, in the entry of each packet that has entered it; nothing where the node is no dup.
-fn mark_slot(work: &[u32], n: usize, words: usize, before: u32, after: u32, next: &mut [u32])
-    requires { ⌜ (words ≤ 32) × (after < 32) × (32 * n + words ≤ length (now work)) × ((before ≡ after → ⊥) → (γ : ℕ) → T (slots words (now work) n γ) → γ < length (now next)) ⌝ }
-    ensures { λ _. ⌜ MarkedUnless words before after (slotAt words n (now (work .entry))) (now (next .entry)) (now (next .exit)) ⌝ }
+// Inner. The entries from start to before end become 0.
+fn zero_range(list: &mut [u32], start: usize, end: usize)
+    requires { ⌜ end ≤ length (now list) ⌝ }
+    ensures { λ _. ⌜ Zeroed start end (now (list .entry)) (now (list .exit)) ⌝ }
 {
-    if before == after {
-        return;
-    }
-    mark_members(packet_set::load_slot(work, n, words), words, after, next);
-}
-
-// Inner. The first entries become 0.
-fn zero_first(list: &mut [u32], count: usize)
-    requires { ⌜ count ≤ length (now list) ⌝ }
-    ensures { λ _. ⌜ Zeroed count (now (list .entry)) (now (list .exit)) ⌝ }
-{
-    let mut i = 0;
-    while i < count {
+    let mut i = start;
+    while i < end {
         list[i] = 0;
         i += 1;
     }
 }
 
-// Inner. Next at each packet below N: the dups that the packet has entered, gathered by walking the dups' slots.
-fn gather(
-    kind: &[u8],
-    first: &[u16],
-    second: &[u16],
-    words: usize,
-    count: usize,
-    work: &[u32],
-    next: &mut [u32],
-)
-    requires { ⌜ GatherReady (asLists (now kind) (now first) (now second)) words count (now work) (now next) ⌝ }
-    ensures { λ _. ⌜ Gathered (asLists (now (kind .entry)) (now (first .entry)) (now (second .entry))) words count (length (now (kind .entry))) (now (work .entry)) (now (next .entry)) (now (next .exit)) ⌝ }
+fn wide(x: u16) -> usize
+    ensures { λ r. ⌜ r ≡ x ⌝ }
 {
-    zero_first(next, count);
-    let mut label: u32 = 0;
-    let mut n = 0;
-    while n < kind.len() {
-        let node = policy::lent::node_at(kind, first, second, n);
-        let after = label_after(node, label);
-        mark_slot(work, n, words, label, after, next);
-        label = after;
-        n += 1;
+    x as usize
+}
+
+// Inner. Next at each packet below N: the dups that the packet has entered, gathered by walking the dups' slots.
+fn gather(places: &[u16], words: usize, count: usize, work: &[u32], next: &mut [u32])
+    requires { ⌜ GatherReady (now places) words count (now work) (now next) ⌝ }
+    ensures { λ _. ⌜ Gathered (now (places .entry)) words count (length (now (places .entry))) (now (work .entry)) (now (next .entry)) (now (next .exit)) ⌝ }
+{
+    zero_range(next, 0, count);
+    let mut i = 0;
+    while i < places.len() {
+        let start = 32 * wide(places[i]);
+        i += 1;
+        mark_members(&work[start..], words, i as u32, next);
     }
 }
 
@@ -338,7 +335,8 @@ fn clear(work: &mut [u32], slots: usize, words: usize)
 {
     let mut n = 0;
     while n < slots {
-        packet_set::store_slot(work, n, words, packet_set::empty());
+        let start = 32 * n;
+        zero_range(work, start, start + words);
         n += 1;
     }
 }
@@ -354,12 +352,15 @@ fn start_set(state: Mask, packet: u16) -> PacketSet
     packet_set::empty()
 }
 
-// Inner. One step of a state of the policy at the root, at a packet; count is the packet count. Next at each packet goes to the lent list.
+// Inner. One step of a state of the policy at the root, at a packet; count is the packet count, masks and places are what `prepare` gives.
+// Next at each packet goes to the lent list.
 // The work list is 0 in its first 16,384 words before, and as it was after.
 pub fn step(
     kind: &[u8],
     first: &[u16],
     second: &[u16],
+    masks: &[u32],
+    places: &[u16],
     root: usize,
     sizes: &[u16],
     count: u16,
@@ -368,27 +369,26 @@ pub fn step(
     next: &mut [u32],
     work: &mut [u32],
 ) -> PacketSet
-    requires { ⌜ StepReady (now sizes) (asLists (now kind) (now first) (now second)) count root packet (now next) (now work) ⌝ }
+    requires { ⌜ StepReady (now sizes) (asLists (now kind) (now first) (now second)) (now masks) (now places) count root packet (now next) (now work) ⌝ }
     ensures { λ r. ⌜ Stepped (now (sizes .entry)) (asLists (now (kind .entry)) (now (first .entry)) (now (second .entry))) root state packet (now (next .entry)) (now (work .entry)) r (now (next .exit)) (now (work .exit)) ⌝ }
 {
     let n = count as usize;
     let words = packet_set::words_for(n);
-    let mut masks = [0u32; 512];
-    dup_masks(kind, first, second, &mut masks);
-    let out = through(
+    let mut out = start_set(state, packet);
+    through(
         kind,
         first,
         second,
         sizes,
-        &masks,
+        masks,
         words,
         packet,
         root,
         state,
-        start_set(state, packet),
+        &mut out,
         work,
     );
-    gather(kind, first, second, words, n, work, next);
+    gather(places, words, n, work, next);
     clear(work, kind.len(), words);
     out
 }

@@ -54,10 +54,15 @@ fn step(sizes: &[u16], kind: &[u8], first: &[u16], second: &[u16], state: u32, p
     }
     let mut next = [0u32; 1024];
     let mut work = [0u32; 16384];
+    let mut masks = [0u32; 512];
+    let mut places = [0u16; 32];
+    let dups = evaluator::prepare(kind, first, second, &mut masks, &mut places);
     let out = evaluator::step(
         kind,
         first,
         second,
+        &masks,
+        &places[..dups],
         kind.len() - 1,
         sizes,
         count,

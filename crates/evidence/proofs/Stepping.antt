@@ -26,7 +26,7 @@ use Rattle.index.specs.Index.{Indexed}
 use Rattle.index.proofs.Growth.{indexed-none}
 use Rattle.compare.specs.declared.Compared.{Compared}
 use Rattle.compare.specs.declared.Compared.the-variants.{Same, Left, Right}
-use Rattle.compare.specs.Comparison.{differsAt, rowOf, CompareReady, ComparedRow}
+use Rattle.compare.specs.Comparison.{differsAt, rowOf, BothPrepared, CompareReady, ComparedRow}
 use Rattle.compare.proofs.Telling.{same-lowest, differs-lowest}
 use Rattle.evidence.specs.declared.Evidence.{Evidence}
 use Rattle.evidence.specs.declared.Evidence.the-variants.{Accepted, RuleA, RuleB, RuleC, RuleD}
@@ -53,13 +53,15 @@ module _ (sizes : List ℕ) (L R : NodeLists) (packets lefts rights : List ℕ) 
   -- ---- one row
 
   module _ (count : ℕ) (heads links work : List ℕ) (ready : Ready sizes L R packets lefts rights count heads links work) (i : ℕ) (inside : i < length packets) (x : MaskRow) (isRow : x ≡ rowAt packets lefts rights i) where
-    pub compare-ready : (nextL nextR : List ℕ) → 1024 ≤ length nextL → 1024 ≤ length nextR → CompareReady sizes L R count (x .packet) nextL nextR work
-    compare-ready nextL nextR roomL roomR =
+    pub compare-ready : {masksL placesL masksR placesR : List ℕ} → BothPrepared L R masksL placesL masksR placesR → (nextL nextR : List ℕ) → 1024 ≤ length nextL → 1024 ≤ length nextR
+        → CompareReady sizes L R masksL placesL masksR placesR count (x .packet) nextL nextR work
+    compare-ready B nextL nextR roomL roomR =
         let a = ready .cleared .lent .allowed in
         record {
           legal = a .legal;
           left-legal = a .left-legal;
           right-legal = a .right-legal;
+          prepared = B;
           packets = a .packet-count;
           packet = subst (λ (n : ℕ). x .packet < n) (a .packet-count) (subst (λ (y : MaskRow). y .packet < count) (sym isRow) (ready .cleared .small .small i inside));
           left-room = omega (arith, a .legal .small, roomL);

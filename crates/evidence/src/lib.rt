@@ -7,6 +7,7 @@ ghost use Rattle.policy.specs.AsLists.{asLists};
 ghost use Rattle.policy.specs.NodeLists.{dupsBelow, nodeCount};
 ghost use Rattle.index.specs.Columns.{Table};
 ghost use Rattle.index.specs.Index.{Indexed};
+ghost use Rattle.compare.specs.Comparison.{BothPrepared};
 ghost use Rattle.evidence.specs.Presence.{spotOf, fits, zeroStates, strays, startMissing, nextMissing};
 ghost use Rattle.evidence.specs.Calls.{CheckedRows};
 ghost use Rattle.evidence.specs.Steps.{Lent, Cleared, Ready, RowChecked, RowsChecked, StartsChecked, TableChecked};
@@ -214,9 +215,13 @@ fn row_checked(
     left_kind: &[u8],
     left_first: &[u16],
     left_second: &[u16],
+    left_masks: &[u32],
+    left_places: &[u16],
     right_kind: &[u8],
     right_first: &[u16],
     right_second: &[u16],
+    right_masks: &[u32],
+    right_places: &[u16],
     packets: &[u16],
     lefts: &[Mask],
     rights: &[Mask],
@@ -227,7 +232,7 @@ fn row_checked(
     work: &mut [u32],
 ) -> RowAnswer
     requires { ⌜ Ready (now sizes) (asLists (now «left_kind») (now «left_first») (now «left_second»)) (asLists (now «right_kind») (now «right_first») (now «right_second»)) (now packets) (now lefts) (now rights) count (now heads) (now links) (now work) ⌝ }
-    requires { ⌜ i < length (now packets) ⌝ }
+    requires { ⌜ (i < length (now packets)) × BothPrepared (asLists (now «left_kind») (now «left_first») (now «left_second»)) (asLists (now «right_kind») (now «right_first») (now «right_second»)) (now «left_masks») (now «left_places») (now «right_masks») (now «right_places») ⌝ }
     ensures { λ r. ⌜ RowChecked (now (sizes .entry)) (asLists (now («left_kind» .entry)) (now («left_first» .entry)) (now («left_second» .entry))) (asLists (now («right_kind» .entry)) (now («right_first» .entry)) (now («right_second» .entry))) (now (packets .entry)) (now (lefts .entry)) (now (rights .entry)) i (now (work .entry)) r (now (work .exit)) ⌝ }
 {
     let row = index::row_at(packets, lefts, rights, i);
@@ -240,9 +245,13 @@ fn row_checked(
         left_kind,
         left_first,
         left_second,
+        left_masks,
+        left_places,
         right_kind,
         right_first,
         right_second,
+        right_masks,
+        right_places,
         row.packet,
         states[0],
         states[1],
@@ -289,6 +298,24 @@ fn rows_checked(
     requires { ⌜ Ready (now sizes) (asLists (now «left_kind») (now «left_first») (now «left_second»)) (asLists (now «right_kind») (now «right_first») (now «right_second»)) (now packets) (now lefts) (now rights) count (now heads) (now links) (now work) ⌝ }
     ensures { λ r. ⌜ RowsChecked (now (sizes .entry)) (asLists (now («left_kind» .entry)) (now («left_first» .entry)) (now («left_second» .entry))) (asLists (now («right_kind» .entry)) (now («right_first» .entry)) (now («right_second» .entry))) (now (packets .entry)) (now (lefts .entry)) (now (rights .entry)) (now (work .entry)) r (now (work .exit)) ⌝ }
 {
+    let mut left_masks = [0u32; 512];
+    let mut left_places = [0u16; 32];
+    let left_dups = evaluator::prepare(
+        left_kind,
+        left_first,
+        left_second,
+        &mut left_masks,
+        &mut left_places,
+    );
+    let mut right_masks = [0u32; 512];
+    let mut right_places = [0u16; 32];
+    let right_dups = evaluator::prepare(
+        right_kind,
+        right_first,
+        right_second,
+        &mut right_masks,
+        &mut right_places,
+    );
     let mut i = 0;
     while i < packets.len() {
         match row_checked(
@@ -296,9 +323,13 @@ fn rows_checked(
             left_kind,
             left_first,
             left_second,
+            &left_masks,
+            &left_places[..left_dups],
             right_kind,
             right_first,
             right_second,
+            &right_masks,
+            &right_places[..right_dups],
             packets,
             lefts,
             rights,

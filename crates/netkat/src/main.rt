@@ -1,8 +1,11 @@
 // The program (document 01, "The program"): reads standard input to its end and writes the answer.
 use libc::STDIN_FILENO;
 use libc::STDOUT_FILENO;
-ghost use Prim.Native.Nat.{_≤_};
-ghost use lib.ListN.{length};
+ghost use mathlib.Core.Path.{_≡_};
+ghost use Prim.Native.Nat.{_-_, _≤_, min};
+ghost use lib.ListN.{length, take};
+ghost use Rattle.console.specs.Inner.{Wrote};
+ghost use Rattle.netkat.specs.Reading.{Grown};
 
 // How much of the input is kept, and whether there may be more.
 struct Kept {
@@ -10,28 +13,28 @@ struct Kept {
     more: bool,
 }
 
-// Keeps what there is room for.
+fn least(a: usize, b: usize) -> usize
+    ensures { λ r. ⌜ (r ≤ a) × (r ≤ b) × (r ≡ min a b) ⌝ }
+{
+    if a < b {
+        return a;
+    }
+    b
+}
+
+// Keeps what there is room for behind the first bytes.
 fn keep(input: &mut [u8], len: usize, chunk: &[u8]) -> usize
     requires { ⌜ len ≤ length (now input) ⌝ }
-    ensures { λ r. ⌜ r ≤ length (now (input .exit)) ⌝ }
+    ensures { λ r. ⌜ Wrote (now (input .entry)) (now (input .exit)) len r (take (min (length (now (input .entry)) - len) (length (now (chunk .entry)))) (now (chunk .entry))) ⌝ }
 {
-    let mut at = len;
-    let mut i = 0;
-    while i < chunk.len() {
-        if input.len() <= at {
-            return at;
-        }
-        input[at] = chunk[i];
-        at += 1;
-        i += 1;
-    }
-    at
+    let n = least(input.len() - len, chunk.len());
+    console::output::bytes(input, len, &chunk[..n])
 }
 
 // One read. After a read that fails nothing is kept: half an input must not get a verdict, and an empty one is malformed.
 fn read_some(input: &mut [u8], len: usize) -> Kept
     requires { ⌜ len ≤ length (now input) ⌝ }
-    ensures { λ r. ⌜ r .len ≤ length (now (input .exit)) ⌝ }
+    ensures { λ r. ⌜ Grown (now (input .entry)) len (r .len) (now (input .exit)) ⌝ }
 {
     let mut chunk = io::buffer();
     let got = libc::read(STDIN_FILENO, &mut chunk);

@@ -8,7 +8,7 @@ use native.Mathlib.Decide.{ℕ-discrete}
 use native.Mathlib.Omega.{arith}
 use lib.Dec.{eqb}
 use borrow.Author.Tests.{eq-eqb, ne-eqb}
-use lib.ListN.{length, getD, set, replicate}
+use lib.ListN.{length, getD, set, replicate, length-set}
 use lib.Seq.{getD-set-same, getD-set-other}
 use lib.Bits.{bitOr, bitXor}
 use Rattle.packet_set.specs.Bits.{bit, marked}
@@ -110,6 +110,18 @@ member-with s β γ h = go (ℕ-discrete (γ / 32) (β / 32))
     go (no e) =
         ap (λ (x : ℕ). bit x (γ % 32)) (getD-set-other s (β / 32) (γ / 32) (marked w (β % 32)) 0 e)
         ∙ sym (ap (λ (q : Bool). bit (getD s (γ / 32) 0) (γ % 32) || q) (ne-eqb γ β (λ q. e (ap (λ (x : ℕ). x / 32) q))) ∙ or-false (bit (getD s (γ / 32) 0) (γ % 32)))
+
+-- ---- lengths
+
+pub length-with : (s : List ℕ) (γ : ℕ) → length (withPacket s γ) ≡ length s
+unfolding withPacket
+length-with s γ = length-set s (γ / 32) (marked (getD s (γ / 32) 0) (γ % 32))
+
+pub length-union : (k : ℕ) (a b : List ℕ) → length (unionOf k a b) ≡ length a
+unfolding unionOf
+length-union = length-wordwise bitOr
+
+-- ---- words
 
 -- word i holds the packets from 32 i on
 pub member-in-word : (s : List ℕ) (i j : ℕ) → j < 32 → member s (i * 32 + j) ≡ bit (getD s i 0) j

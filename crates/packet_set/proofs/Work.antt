@@ -1,10 +1,9 @@
 -- Laws of the work list's slots. Assumes nothing.
 use Prim.Native.Nat.{ℕ, zero, suc, _+_, _*_, _/_, _%_, _≤_, _<_}
-use mathlib.Core.Path.{_≡_, refl, sym, ap, ap₂, _∙_}
-use mathlib.Core.Logic.{_≢_, _⊎_, inl, inr, ⊎-elim}
-use mathlib.Core.List.{List, [], _∷_, _++_}
+use mathlib.Core.Path.{_≡_, sym, ap, ap₂, _∙_}
+use mathlib.Core.Logic.{_⊎_, inl, inr, ⊎-elim}
+use mathlib.Core.List.{List, _++_}
 use native.Mathlib.Nat.{not-suc-le-zero, le-of-suc-le-suc, eq-or-lt-of-le}
-use native.Mathlib.Decide.{decLt}
 use native.Mathlib.Omega.{arith}
 use lib.ListN.{length, getD, set, take, drop, length-drop, length-append, List·getD-append}
 use lib.Seq.{paste-zero, paste-suc, length-paste, getD-set-same, getD-set-other, getD-drop, getD-take, ext-getD, length-take-le}
@@ -13,24 +12,6 @@ use Rattle.packet_set.specs.Members.{emptySet, member}
 use Rattle.packet_set.specs.Slots.{slotAt, withSlot}
 
 -- ---- the loops
-
-pub slot-none : (n : ℕ) (work : List ℕ) → emptySet ≡ slotAt 0 n work
-unfolding slotAt
-slot-none n work = refl
-
--- one more word of s in front of what is left of e
-front-more : (i : ℕ) (s e : List ℕ) → i < length s → i < length e → set (take i s ++ drop i e) i (getD s i 0) ≡ take (suc i) s ++ drop (suc i) e
-front-more i [] e h l = absurd (not-suc-le-zero h)
-front-more i (y ∷ s) [] h l = absurd (not-suc-le-zero l)
-front-more zero (y ∷ s) (x ∷ e) h l = refl
-front-more (suc i) (y ∷ s) (x ∷ e) h l = ap (λ (r : List ℕ). y ∷ r) (front-more i s e (le-of-suc-le-suc h) (le-of-suc-le-suc l))
-
-pub slot-turn : (i n : ℕ) (work now : List ℕ) → i < 32 → 32 * n + i < length work → now ≡ slotAt i n work
-    → set now i (getD work (32 * n + i) 0) ≡ slotAt (suc i) n work
-unfolding slotAt
-slot-turn i n work now l h e =
-    ap₂ (λ (r : List ℕ) (v : ℕ). set r i v) e (sym (getD-drop (32 * n) work i 0))
-    ∙ front-more i (drop (32 * n) work) emptySet (omega (arith, length-drop (32 * n) work)) (unfold emptySet in l)
 
 pub store-none : (n : ℕ) (work s : List ℕ) → work ≡ withSlot 0 n work s
 unfolding withSlot
@@ -89,17 +70,6 @@ module _ (k n : ℕ) (work s : List ℕ) (fits : 32 * n + k ≤ length work) (lo
   pub slot-stored : slotAt k n (withSlot k n work s) ≡ take k s ++ drop k emptySet
   slot-stored = slot-same k n (withSlot k n work s) s (omega (arith, length-with-slot k n work s fits long)) long (word-stored n work s k fits long)
 
-  -- every other slot is as it was
-  pub slot-other : k ≤ 32 → (m : ℕ) → 32 * m + k ≤ length work → m ≢ n → slotAt k m (withSlot k n work s) ≡ slotAt k m work
-  unfolding slotAt
-  slot-other within m fits′ ne =
-      slot-same k m (withSlot k n work s) (drop (32 * m) work) (omega (arith, length-with-slot k n work s fits long)) (omega (arith, length-drop (32 * m) work))
-      (λ i b. word-other n work s k fits long (32 * m + i) (apart i b (decLt m n)) ∙ sym (getD-drop (32 * m) work i 0))
-    where
-      apart : (i : ℕ) → i < k → Dec (m < n) → (32 * m + i < 32 * n) ⊎ (32 * n + k ≤ 32 * m + i)
-      apart i b (yes l) = inl (omega arith)
-      apart i b (no l) = inr (omega arith)
-
 -- ---- what a slot holds
 
 pub length-slot : (k n : ℕ) (work : List ℕ) → k ≤ 32 → 32 * n + k ≤ length work → length (slotAt k n work) ≡ 32
@@ -109,14 +79,18 @@ length-slot k n work l h =
     ∙ ap₂ (λ (x y : ℕ). x + y) (length-take-le k (drop (32 * n) work) (omega (arith, length-drop (32 * n) work))) (length-drop k emptySet)
     ∙ unfold emptySet in omega arith
 
+first-word : (k : ℕ) (s : List ℕ) (i : ℕ) → i < k → k ≤ length s → getD (take k s ++ drop k emptySet) i 0 ≡ getD s i 0
+first-word k s i l h = List·getD-append (take k s) (drop k emptySet) 0 i (omega (arith, length-take-le k s h)) ∙ getD-take k s i 0 l
+
+pub slot-word : (k n : ℕ) (work : List ℕ) (i : ℕ) → i < k → 32 * n + k ≤ length work → getD (slotAt k n work) i 0 ≡ getD work (32 * n + i) 0
+unfolding slotAt
+slot-word k n work i l h = first-word k (drop (32 * n) work) i l (omega (arith, length-drop (32 * n) work)) ∙ getD-drop (32 * n) work i 0
+
 -- the first k words of a set hold its packets below 32 k
 pub member-first : (k : ℕ) (s : List ℕ) (γ : ℕ) → γ < 32 * k → k ≤ length s → member (take k s ++ drop k emptySet) γ ≡ member s γ
 unfolding member
-member-first k s γ l h =
-    ap (λ (x : ℕ). bit x (γ % 32))
-    (List·getD-append (take k s) (drop k emptySet) 0 (γ / 32) (omega (arith, length-take-le k s h)) ∙ getD-take k s (γ / 32) 0 (omega arith))
+member-first k s γ l h = ap (λ (x : ℕ). bit x (γ % 32)) (first-word k s (γ / 32) (omega arith) h)
 
 pub member-slot : (k n : ℕ) (work : List ℕ) (γ : ℕ) → γ < 32 * k → 32 * n + k ≤ length work → member (slotAt k n work) γ ≡ bit (getD work (32 * n + γ / 32) 0) (γ % 32)
-unfolding slotAt
-member-slot k n work γ l h =
-    member-first k (drop (32 * n) work) γ l (omega (arith, length-drop (32 * n) work)) ∙ unfold member in ap (λ (x : ℕ). bit x (γ % 32)) (getD-drop (32 * n) work (γ / 32) 0)
+unfolding member
+member-slot k n work γ l h = ap (λ (x : ℕ). bit x (γ % 32)) (slot-word k n work (γ / 32) (omega arith) h)

@@ -3,8 +3,7 @@ ghost use mathlib.Core.Path.{_≡_};
 ghost use Prim.Native.Nat.{_+_, _*_, _<_, _≤_};
 ghost use lib.ListN.{length};
 ghost use Rattle.packet_set.specs.Bits.{maskBits, bit, marked, onlyBits};
-ghost use Rattle.packet_set.specs.Members.{member, wordsFor, emptySet, withPacket, unionOf, differenceOf, exclusiveOrOf, lowestIn, lowestAnswer, isEmpty};
-ghost use Rattle.packet_set.specs.Slots.{slotAt, withSlot};
+ghost use Rattle.packet_set.specs.Members.{member, wordsFor, emptySet, withPacket, unionOf, exclusiveOrOf, lowestIn, lowestAnswer, isEmpty};
 
 pub type PacketSet = [u32; 32];
 
@@ -51,24 +50,23 @@ pub fn empty() -> PacketSet
 }
 
 // Inner. Packet is in the set.
-pub fn contains(set: PacketSet, packet: u16) -> bool
+pub fn contains(set: &PacketSet, packet: u16) -> bool
     requires { ⌜ packet < 1024 ⌝ }
-    ensures { λ r. ⌜ r ≡ member set packet ⌝ }
+    ensures { λ r. ⌜ r ≡ member (now (set .entry)) packet ⌝ }
 {
     let at = packet as usize;
     let word = set[at / 32];
     (word >> (packet % 32)) & 1 == 1
 }
 
-// Inner. The set with packet besides.
-pub fn insert(mut set: PacketSet, packet: u16) -> PacketSet
+// Inner. The set takes the packet.
+pub fn insert(set: &mut PacketSet, packet: u16)
     requires { ⌜ packet < 1024 ⌝ }
-    ensures { λ r. ⌜ r ≡ withPacket set packet ⌝ }
+    ensures { λ _. ⌜ now (set .exit) ≡ withPacket (now (set .entry)) packet ⌝ }
 {
     let at = packet as usize;
     let w = at / 32;
     set[w] = set[w] | (1 << (packet % 32));
-    set
 }
 
 // Inner.
@@ -76,46 +74,33 @@ pub fn singleton(packet: u16) -> PacketSet
     requires { ⌜ packet < 1024 ⌝ }
     ensures { λ r. ⌜ r ≡ withPacket emptySet packet ⌝ }
 {
-    insert(empty(), packet)
+    let mut set = empty();
+    insert(&mut set, packet);
+    set
 }
 
-// Inner.
-pub fn union(mut a: PacketSet, b: PacketSet, words: usize) -> PacketSet
+// Inner. The first set becomes the union.
+pub fn union(a: &mut PacketSet, b: &PacketSet, words: usize)
     requires { ⌜ words ≤ 32 ⌝ }
-    ensures { λ r. ⌜ r ≡ unionOf words a b ⌝ }
+    ensures { λ _. ⌜ now (a .exit) ≡ unionOf words (now (a .entry)) (now (b .entry)) ⌝ }
 {
     let mut i = 0;
     while i < words {
         a[i] = a[i] | b[i];
         i += 1;
     }
-    a
 }
 
-// Inner.
-pub fn difference(mut a: PacketSet, b: PacketSet, words: usize) -> PacketSet
+// Inner. The first set becomes the exclusive or.
+pub fn exclusive_or(a: &mut PacketSet, b: &PacketSet, words: usize)
     requires { ⌜ words ≤ 32 ⌝ }
-    ensures { λ r. ⌜ r ≡ differenceOf words a b ⌝ }
-{
-    let mut i = 0;
-    while i < words {
-        a[i] = a[i] ^ (a[i] & b[i]);
-        i += 1;
-    }
-    a
-}
-
-// Inner.
-pub fn exclusive_or(mut a: PacketSet, b: PacketSet, words: usize) -> PacketSet
-    requires { ⌜ words ≤ 32 ⌝ }
-    ensures { λ r. ⌜ r ≡ exclusiveOrOf words a b ⌝ }
+    ensures { λ _. ⌜ now (a .exit) ≡ exclusiveOrOf words (now (a .entry)) (now (b .entry)) ⌝ }
 {
     let mut i = 0;
     while i < words {
         a[i] = a[i] ^ b[i];
         i += 1;
     }
-    a
 }
 
 // A packet, or none.
@@ -141,11 +126,11 @@ fn lowest_from(set: &[u32], start: usize, words: usize) -> Lowest
 }
 
 // Inner. The lowest packet in the first words.
-pub fn lowest_member(set: PacketSet, words: usize) -> Lowest
+pub fn lowest_member(set: &PacketSet, words: usize) -> Lowest
     requires { ⌜ words ≤ 32 ⌝ }
-    ensures { λ r. ⌜ r ≡ lowestAnswer (lowestIn words 0 set) ⌝ }
+    ensures { λ r. ⌜ r ≡ lowestAnswer (lowestIn words 0 (now (set .entry))) ⌝ }
 {
-    lowest_from(&set, 0, words)
+    lowest_from(set, 0, words)
 }
 
 // Inner. The lowest packet in the first words that is not below `from`: to walk a set, or a slot where it lies.
@@ -166,41 +151,13 @@ pub fn next_member(set: &[u32], from: u16, words: usize) -> Lowest
 }
 
 // Inner. No packet is in the first words.
-pub fn is_empty(set: PacketSet, words: usize) -> bool
+pub fn is_empty(set: &PacketSet, words: usize) -> bool
     requires { ⌜ words ≤ 32 ⌝ }
-    ensures { λ r. ⌜ r ≡ isEmpty words set ⌝ }
+    ensures { λ r. ⌜ r ≡ isEmpty words (now (set .entry)) ⌝ }
 {
     if let Lowest::At(_) = lowest_member(set, words) {
         false
     } else {
         true
-    }
-}
-
-// Inner. The set in slot n of the work list.
-pub fn load_slot(work: &[u32], n: usize, words: usize) -> PacketSet
-    requires { ⌜ (words ≤ 32) × (32 * n + words ≤ length (now work)) ⌝ }
-    ensures { λ r. ⌜ r ≡ slotAt words n (now (work .entry)) ⌝ }
-{
-    let start = 32 * n;
-    let mut set = [0u32; 32];
-    let mut i = 0;
-    while i < words {
-        set[i] = work[start + i];
-        i += 1;
-    }
-    set
-}
-
-// Inner. Slot n of the work list takes the set.
-pub fn store_slot(work: &mut [u32], n: usize, words: usize, set: PacketSet)
-    requires { ⌜ (words ≤ 32) × (32 * n + words ≤ length (now work)) ⌝ }
-    ensures { λ r. ⌜ now (work .exit) ≡ withSlot words n (now (work .entry)) set ⌝ }
-{
-    let start = 32 * n;
-    let mut i = 0;
-    while i < words {
-        work[start + i] = set[i];
-        i += 1;
     }
 }

@@ -11,11 +11,6 @@ unfoldable pub other : Side → Side
 other left = right
 other right = left
 
--- the side's number in an answer
-unfoldable pub sideNumber : Side → ℕ
-sideNumber left = 1
-sideNumber right = 2
-
 -- one thing for each side
 pub record Pair (A : Type 0) : Type 0 where
   pub left : A

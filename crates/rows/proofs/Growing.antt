@@ -10,7 +10,7 @@ use lib.ListN.{length, getD, length-set}
 use Rattle.packet.specs.Sizes.{product}
 use Rattle.system.specs.System as system
 use Rattle.system.specs.System.{Lawful, nextRow}
-use Rattle.system.specs.RowOrder.{starts, listed, append, appendNext}
+use Rattle.system.specs.RowOrder.{starts, append, appendNext}
 use Rattle.system.proofs.Basics.{Prefix}
 use Rattle.system.proofs.Answers.{starts-longer, appendNext-longer}
 use Rattle.pair.specs.Sides.{left, right, Pair, at, onBoth, Labelled}

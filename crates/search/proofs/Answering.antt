@@ -29,6 +29,7 @@ use Rattle.rows.proofs.Testing.{tests-passed, lists-passed, row-list-fits, rows
 use Rattle.search.specs.declared.Stop.{Stop}
 use Rattle.search.specs.declared.Verdict.{Verdict}
 use Rattle.search.specs.declared.Verdict.the-variants.{Equal, Full, Refused}
+use Rattle.compare.specs.Comparison.{BothPrepared}
 use Rattle.search.specs.Ending.{endedAnswer, RowsReady, RowsRun}
 use Rattle.search.specs.Call.{tellingVerdict, verdictOf, traceAfter, Told, Lent, lent, filled, verdictAfter, lentAfter, searchTests, answerHere, rowsHere, searchVerdict, searchLeaves, Telling, Searched, Accepted, SearchDone}
 
@@ -98,9 +99,9 @@ module _ {sizes : List ℕ} {L R : NodeLists} {x : Lent} where
   -- ---- where no cause of 1 to 10 holds
 
   module _ {count : ℕ} (A : Accepted sizes L R count x) where
-    pub rows-ready : (work′ : List ℕ) → work′ ≡ replicate (length (x .work)) 0
-        → RowsReady sizes L R (lists (x .packets) (x .lefts) (x .rights) (x .parents) (replicate 65536 0) (replicate 65536 0)) count (replicate 1024 0) (replicate 1024 0) work′
-    rows-ready work′ w =
+    pub rows-ready : {masksL placesL masksR placesR : List ℕ} → BothPrepared L R masksL placesL masksR placesR → (work′ : List ℕ) → work′ ≡ replicate (length (x .work)) 0
+        → RowsReady sizes L R masksL placesL masksR placesR (lists (x .packets) (x .lefts) (x .rights) (x .parents) (replicate 65536 0) (replicate 65536 0)) count (replicate 1024 0) (replicate 1024 0) work′
+    rows-ready B work′ w =
         let few : product sizes ≤ 1024 = A .legal .small in
         let l : length (replicate {A = ℕ} 65536 0) ≡ 65536 = length-replicate {A = ℕ} 65536 0 in
         let k : length (replicate {A = ℕ} 1024 0) ≡ 1024 = length-replicate {A = ℕ} 1024 0 in
@@ -108,6 +109,7 @@ module _ {sizes : List ℕ} {L R : NodeLists} {x : Lent} where
           legal = A .legal;
           left-legal = A .left-legal;
           right-legal = A .right-legal;
+          prepared = B;
           packets = A .packets;
           indexed = indexed-none (x .packets) (x .lefts) (x .rights) count 65536 (replicate 65536 0) (record { left = A .lefts; right = A .rights }) (omega (arith, A .few)) (omega (arith, A .few, l)) (omega (arith, A .packets, few));
           parents = A .parents;

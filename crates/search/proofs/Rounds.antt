@@ -90,11 +90,11 @@ pub started-rows : {x y : Lists} {count m : ℕ} {a : Appended} → Started x y 
 started-rows {x} {y} {count} T e = subst (Started x y count) e T
 
 -- A round of a row order that started from any columns x and listed its starting rows in b.
-abbrev pub RoundFrom : List ℕ → NodeLists → NodeLists → Lists → Lists → ℕ → ℕ → ℕ → ℕ → List ℕ → List ℕ → List ℕ → List ℕ → List ℕ → List ℕ → Type 0
-RoundFrom sizes L R b y count m n h nextL₀ nextR₀ work₀ nextL nextR work =
-    (x : Lists) → RowsReady sizes L R x count nextL₀ nextR₀ work₀ → Started x b count (Rows m) → SameLengths x b → Round sizes L R x y count n h nextL₀ nextR₀ work₀ nextL nextR work
+abbrev pub RoundFrom : List ℕ → NodeLists → NodeLists → List ℕ → List ℕ → List ℕ → List ℕ → Lists → Lists → ℕ → ℕ → ℕ → ℕ → List ℕ → List ℕ → List ℕ → List ℕ → List ℕ → List ℕ → Type 0
+RoundFrom sizes L R masksL placesL masksR placesR b y count m n h nextL₀ nextR₀ work₀ nextL nextR work =
+    (x : Lists) → RowsReady sizes L R masksL placesL masksR placesR x count nextL₀ nextR₀ work₀ → Started x b count (Rows m) → SameLengths x b → Round sizes L R x y count n h nextL₀ nextR₀ work₀ nextL nextR work
 
-module _ {sizes : List ℕ} {L R : NodeLists} {x : Lists} {count : ℕ} {nextL₀ nextR₀ work₀ : List ℕ} (P : RowsReady sizes L R x count nextL₀ nextR₀ work₀) where
+module _ {sizes : List ℕ} {L R : NodeLists} {masksL placesL masksR placesR : List ℕ} {x : Lists} {count : ℕ} {nextL₀ nextR₀ work₀ : List ℕ} (P : RowsReady sizes L R masksL placesL masksR placesR x count nextL₀ nextR₀ work₀) where
   abbrev S′ : System
   S′ = S sizes L R
 
@@ -143,12 +143,13 @@ module _ {sizes : List ℕ} {L R : NodeLists} {x : Lists} {count : ℕ} {nextL�
     is-earlier : Earlier S′ (run S′ k .rows)
     is-earlier = earlier S′ (invariant S′ is-lawful k .listing)
 
-    pub round-ready : StepReady sizes L R y count n h nextL nextR work
+    pub round-ready : StepReady sizes L R masksL placesL masksR placesR y count n h nextL nextR work
     round-ready =
         record {
           legal = P .legal;
           left-legal = P .left-legal;
           right-legal = P .right-legal;
+          prepared = P .prepared;
           packets = P .packets;
           indexed = O .running .standing .indexed;
           parents = parents-long;

@@ -59,7 +59,7 @@ module _ (sizes : List ℕ) (ps : Pair Labelled) (lent : ℕ) (x : Run (pairSyst
       go true e = absurd (let z : _≡_ {A = ℕ} 0 1 = cc in omega arith)
       go false e = let same : m ≡ length (x .rows) = cc in ap (goesOn (x .handled)) same
 
-module _ {sizes : List ℕ} {L R : NodeLists} {y : Lists} {count n h : ℕ} {nextL nextR work : List ℕ} (P : StepReady sizes L R y count n h nextL nextR work) where
+module _ {sizes : List ℕ} {L R : NodeLists} {masksL placesL masksR placesR : List ℕ} {y : Lists} {count n h : ℕ} {nextL nextR work : List ℕ} (P : StepReady sizes L R masksL placesL masksR placesR y count n h nextL nextR work) where
   abbrev S : System
   S = pairSystem sizes (policies L R)
 
@@ -69,12 +69,13 @@ module _ {sizes : List ℕ} {L R : NodeLists} {y : Lists} {count n h : ℕ} {nex
   abbrev x : Run (pairSystem sizes (policies L R))
   x = runAt sizes (policies L R) y n h
 
-  pub compare-ready : (r : Row) → r ≡ rowAt (y .packets) (y .left) (y .right) h → CompareReady sizes L R count (r .packet) nextL nextR work
+  pub compare-ready : (r : Row) → r ≡ rowAt (y .packets) (y .left) (y .right) h → CompareReady sizes L R masksL placesL masksR placesR count (r .packet) nextL nextR work
   compare-ready r is =
       record {
         legal = P .legal;
         left-legal = P .left-legal;
         right-legal = P .right-legal;
+        prepared = P .prepared;
         packets = P .packets;
         packet = omega (arith, P .small, P .packets, ap (λ q. q .packet) is);
         left-room = omega (arith, P .left-room, P .packets);

@@ -13,6 +13,7 @@ use Rattle.pair.specs.Search.{SearchAnswer, equal, rowsFull, reported, searchAn
 use Rattle.index.specs.Appending.{Lists}
 use Rattle.index.specs.Index.{Indexed}
 use Rattle.rows.specs.Standing.{Standing, pairMasks}
+use Rattle.compare.specs.Comparison.{BothPrepared}
 use Rattle.rows.specs.Lines.{linePath, lineStart, Rooted}
 use Rattle.search.specs.declared.Ended.{Ended}
 use Rattle.search.specs.declared.Ended.the-variants.{Done, Left, Right, Full}
@@ -50,10 +51,11 @@ unfoldable pub Readable : List ℕ → List ℕ → Stop → Type 0
 Readable packets parents stop = ReadableAt packets parents (stop .row) (stop .listed) (stop .ended)
 
 -- what the row order asks: causes 1 to 10 don't hold, the index is empty and the work list is 0
-pub record RowsReady (sizes : List ℕ) (L R : NodeLists) (x : Lists) (count : ℕ) (nextL nextR work : List ℕ) : Type 0 where
+pub record RowsReady (sizes : List ℕ) (L R : NodeLists) (masksL placesL masksR placesR : List ℕ) (x : Lists) (count : ℕ) (nextL nextR work : List ℕ) : Type 0 where
   pub legal : LegalSizes sizes
   pub left-legal : Legal sizes L
   pub right-legal : Legal sizes R
+  pub prepared : BothPrepared L R masksL placesL masksR placesR
   pub packets : count ≡ product sizes
   pub indexed : Indexed (x .packets) (x .left) (x .right) count 0 (x .heads) (x .links)
   pub parents : length (x .parents) ≡ length (x .packets)

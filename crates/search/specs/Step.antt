@@ -16,6 +16,7 @@ use Rattle.pair.specs.Search.{sideOf}
 use Rattle.index.specs.Appending.{Lists}
 use Rattle.index.specs.Index.{Indexed}
 use Rattle.rows.specs.Standing.{rowsIn, Standing, pairMasks}
+use Rattle.compare.specs.Comparison.{BothPrepared}
 use Rattle.search.specs.declared.Ended.{Ended}
 use Rattle.search.specs.declared.Ended.the-variants.{Done, Left, Right, Full}
 use Rattle.search.specs.declared.Handled.{Handled}
@@ -63,10 +64,11 @@ module _ (sizes : List ℕ) (ps : Pair Labelled) where
     pub standing : Standing (pairSystem sizes ps) (pairMasks sizes ps) y z count (length (stepRows (length (y .packets)) (runAt y n h))) (stepRows (length (y .packets)) (runAt y n h))
 
 -- what a step asks: causes 1 to 10 don't hold, the first n rows are indexed and row h is one of them, and the work list is 0
-pub record StepReady (sizes : List ℕ) (L R : NodeLists) (y : Lists) (count n h : ℕ) (nextL nextR work : List ℕ) : Type 0 where
+pub record StepReady (sizes : List ℕ) (L R : NodeLists) (masksL placesL masksR placesR : List ℕ) (y : Lists) (count n h : ℕ) (nextL nextR work : List ℕ) : Type 0 where
   pub legal : LegalSizes sizes
   pub left-legal : Legal sizes L
   pub right-legal : Legal sizes R
+  pub prepared : BothPrepared L R masksL placesL masksR placesR
   pub packets : count ≡ product sizes
   pub indexed : Indexed (y .packets) (y .left) (y .right) count n (y .heads) (y .links)
   pub parents : length (y .parents) ≡ length (y .packets)

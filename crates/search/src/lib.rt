@@ -70,9 +70,13 @@ pub fn handle(
     left_kind: &[u8],
     left_first: &[u16],
     left_second: &[u16],
+    left_masks: &[u32],
+    left_places: &[u16],
     right_kind: &[u8],
     right_first: &[u16],
     right_second: &[u16],
+    right_masks: &[u32],
+    right_places: &[u16],
     packets: &mut [u16],
     lefts: &mut [Mask],
     rights: &mut [Mask],
@@ -85,7 +89,7 @@ pub fn handle(
     next_right: &mut [u32],
     work: &mut [u32],
 ) -> Handled
-    requires { ⌜ StepReady (now sizes) (asLists (now «left_kind») (now «left_first») (now «left_second»)) (asLists (now «right_kind») (now «right_first») (now «right_second»)) (lists (now packets) (now lefts) (now rights) (now parents) (now heads) (now links)) count listed handled (now «next_left») (now «next_right») (now work) ⌝ }
+    requires { ⌜ StepReady (now sizes) (asLists (now «left_kind») (now «left_first») (now «left_second»)) (asLists (now «right_kind») (now «right_first») (now «right_second»)) (now «left_masks») (now «left_places») (now «right_masks») (now «right_places») (lists (now packets) (now lefts) (now rights) (now parents) (now heads) (now links)) count listed handled (now «next_left») (now «next_right») (now work) ⌝ }
     ensures handles { λ r. ⌜ RowHandled (now (sizes .entry)) (policies (asLists (now («left_kind» .entry)) (now («left_first» .entry)) (now («left_second» .entry))) (asLists (now («right_kind» .entry)) (now («right_first» .entry)) (now («right_second» .entry)))) (lists (now (packets .entry)) (now (lefts .entry)) (now (rights .entry)) (now (parents .entry)) (now (heads .entry)) (now (links .entry))) (lists (now (packets .exit)) (now (lefts .exit)) (now (rights .exit)) (now (parents .exit)) (now (heads .exit)) (now (links .exit))) count listed handled r ⌝ }
     ensures kept { λ _. ⌜ now (work .exit) ≡ now (work .entry) ⌝ }
 {
@@ -97,9 +101,13 @@ pub fn handle(
         left_kind,
         left_first,
         left_second,
+        left_masks,
+        left_places,
         right_kind,
         right_first,
         right_second,
+        right_masks,
+        right_places,
         row.packet,
         states[0],
         states[1],
@@ -137,9 +145,13 @@ fn run(
     left_kind: &[u8],
     left_first: &[u16],
     left_second: &[u16],
+    left_masks: &[u32],
+    left_places: &[u16],
     right_kind: &[u8],
     right_first: &[u16],
     right_second: &[u16],
+    right_masks: &[u32],
+    right_places: &[u16],
     packets: &mut [u16],
     lefts: &mut [Mask],
     rights: &mut [Mask],
@@ -150,7 +162,7 @@ fn run(
     next_right: &mut [u32],
     work: &mut [u32],
 ) -> Stop
-    requires { ⌜ RowsReady (now sizes) (asLists (now «left_kind») (now «left_first») (now «left_second»)) (asLists (now «right_kind») (now «right_first») (now «right_second»)) (lists (now packets) (now lefts) (now rights) (now parents) (now heads) (now links)) count (now «next_left») (now «next_right») (now work) ⌝ }
+    requires { ⌜ RowsReady (now sizes) (asLists (now «left_kind») (now «left_first») (now «left_second»)) (asLists (now «right_kind») (now «right_first») (now «right_second»)) (now «left_masks») (now «left_places») (now «right_masks») (now «right_places») (lists (now packets) (now lefts) (now rights) (now parents) (now heads) (now links)) count (now «next_left») (now «next_right») (now work) ⌝ }
     ensures runs { λ r. ⌜ RowsRun (now (sizes .entry)) (asLists (now («left_kind» .entry)) (now («left_first» .entry)) (now («left_second» .entry))) (asLists (now («right_kind» .entry)) (now («right_first» .entry)) (now («right_second» .entry))) (lists (now (packets .entry)) (now (lefts .entry)) (now (rights .entry)) (now (parents .entry)) (now (heads .entry)) (now (links .entry))) (lists (now (packets .exit)) (now (lefts .exit)) (now (rights .exit)) (now (parents .exit)) (now (heads .exit)) (now (links .exit))) count r ⌝ }
     ensures kept { λ _. ⌜ now (work .exit) ≡ now (work .entry) ⌝ }
 {
@@ -171,9 +183,13 @@ fn run(
             left_kind,
             left_first,
             left_second,
+            left_masks,
+            left_places,
             right_kind,
             right_first,
             right_second,
+            right_masks,
+            right_places,
             packets,
             lefts,
             rights,
@@ -269,6 +285,24 @@ fn search_accepted(
     ensures { λ r. ⌜ SearchDone (now (sizes .entry)) (asLists (now («left_kind» .entry)) (now («left_first» .entry)) (now («left_second» .entry))) (asLists (now («right_kind» .entry)) (now («right_first» .entry)) (now («right_second» .entry))) (lent (now (packets .entry)) (now (lefts .entry)) (now (rights .entry)) (now (parents .entry)) (now (trace .entry)) (now (work .entry))) r (lent (now (packets .exit)) (now (lefts .exit)) (now (rights .exit)) (now (parents .exit)) (now (trace .exit)) (now (work .exit))) ⌝ }
 {
     rows::clear(work);
+    let mut left_masks = [0u32; 512];
+    let mut left_places = [0u16; 32];
+    let left_dups = evaluator::prepare(
+        left_kind,
+        left_first,
+        left_second,
+        &mut left_masks,
+        &mut left_places,
+    );
+    let mut right_masks = [0u32; 512];
+    let mut right_places = [0u16; 32];
+    let right_dups = evaluator::prepare(
+        right_kind,
+        right_first,
+        right_second,
+        &mut right_masks,
+        &mut right_places,
+    );
     let mut heads = [0u16; 65536];
     let mut links = [0u16; 65536];
     let mut next_left = [0u32; 1024];
@@ -279,9 +313,13 @@ fn search_accepted(
         left_kind,
         left_first,
         left_second,
+        &left_masks,
+        &left_places[..left_dups],
         right_kind,
         right_first,
         right_second,
+        &right_masks,
+        &right_places[..right_dups],
         packets,
         lefts,
         rights,

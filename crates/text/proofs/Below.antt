@@ -1,13 +1,10 @@
 -- A test that antt computes at every number below n, and what it shows at each.
-use Prim.Native.Nat.{ℕ, zero, suc, _+_, _<_}
-use native.Mathlib.Nat.{add-zero, le-of-suc-le-suc, not-suc-le-zero, eq-or-lt-of-le}
+use Prim.Native.Nat.{ℕ, zero, suc, _<_}
+use native.Mathlib.Nat.{le-of-suc-le-suc, not-suc-le-zero, eq-or-lt-of-le}
 use mathlib.Core.Bool.{Bool, true, false, _&&_}
 use mathlib.Core.Logic.{⊎-elim}
-use mathlib.Core.Path.{_≡_, _∙_, ap, sym, subst}
-use mathlib.Core.List.{List, [], _∷_}
+use mathlib.Core.Path.{sym, subst}
 use lib.Dec.{T}
-use native.Mathlib.Omega.{arith}
-use lib.ListN.{getD}
 
 abbrev pub allBelow : (ℕ → Bool) → ℕ → Bool
 allBelow f zero = true
@@ -26,13 +23,3 @@ below f zero t i h = absurd (not-suc-le-zero h)
 below f (suc n) t i h =
     ⊎-elim (λ e. subst (λ (j : ℕ). T (f j)) (sym e) (left (f n) (allBelow f n) t)) (λ l. below f n (right (f n) (allBelow f n) t) i l)
     (eq-or-lt-of-le (le-of-suc-le-suc h))
-
--- the table of f at n numbers from `at` on
-abbrev pub table : (ℕ → ℕ) → ℕ → ℕ → List ℕ
-table f at zero = []
-table f at (suc n) = f at ∷ table f (suc at) n
-
-pub table-at : (f : ℕ → ℕ) (at n i : ℕ) → i < n → getD (table f at n) i 0 ≡ f (at + i)
-table-at f at zero i h = absurd (not-suc-le-zero h)
-table-at f at (suc n) zero h = ap f (sym (add-zero at))
-table-at f at (suc n) (suc i) h = table-at f (suc at) n i (le-of-suc-le-suc h) ∙ ap f (omega arith)

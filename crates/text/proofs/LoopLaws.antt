@@ -1,13 +1,13 @@
 -- What the loops of the readers keep, and what their calls ask.
-use Prim.Native.Nat.{ℕ, zero, suc, _+_, _-_, _≤_, _<_, _^_}
+use Prim.Native.Nat.{ℕ, suc, _+_, _-_, _≤_, _<_, _^_}
 use native.Mathlib.Nat.{le-refl, le-of-lt}
 use native.Mathlib.Omega.{arith}
-use mathlib.Core.Bool.{Bool, true, false, cond, true≢false}
+use mathlib.Core.Bool.{Bool, true, false, cond}
 use mathlib.Core.List.{List}
-use mathlib.Core.Path.{_≡_, refl, sym, _∙_, ap, subst}
+use mathlib.Core.Path.{_≡_, refl, sym, _∙_, ap}
 use lib.ListN.{length}
 use Rattle.policy.specs.NodeLists.{NodeLists}
-use Rattle.policy.specs.NodesOfTree.{entry, treeSize}
+use Rattle.policy.specs.NodesOfTree.{entry}
 use Rattle.text.specs.Tokens.{tokensFrom, fieldNames}
 use Rattle.text.specs.Kinds.{kindAt}
 use Rattle.text.specs.Inner.{Level, item, starred, joined, sequence, added, sum, Entered, lists, putEntry, Ready, TokenFrom, LeafDone, Joined, Got, Done}
@@ -16,7 +16,7 @@ use Rattle.text.specs.declared.Step as Stepped
 use Rattle.text.specs.declared.Leaf as Leaves
 use Rattle.text.proofs.TokensLeft.{no-more, fewer-next}
 use Rattle.text.proofs.PutLaws.{size-pos}
-use Rattle.text.proofs.StepLaws.{kind-not, leaf-item, star-turn, star-ends, sequence-starts, sequence-ends, sum-starts, sum-ends, done-got, done-stopped, done-as, sequence-next, sum-next}
+use Rattle.text.proofs.StepLaws.{leaf-item, star-turn, star-ends, sequence-starts, sequence-ends, sum-starts, sum-ends, done-got, done-stopped, done-as}
 
 -- from where the loop begins to where it is: the lengths, and what has been done since the reader began at the lists E
 pub record Kept (l : Level) (text : List ℕ) (at nodes room : ℕ) (K₀ F₀ S₀ : List ℕ) (s₀ : Stepped.Step) (K F S : List ℕ) (s : Stepped.Step) : Type 0 where

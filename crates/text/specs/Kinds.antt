@@ -1,5 +1,5 @@
 -- The numbers by which the reader knows classes of bytes and kinds of tokens.
-use Prim.Native.Nat.{ℕ}
+use Prim.Native.Nat.{ℕ, zero, suc}
 use mathlib.Core.Bool.{cond}
 use mathlib.Core.List.{List, [], _∷_}
 use Rattle.text.specs.Bytes.{isBlank, isLetter, isDigit}
@@ -45,6 +45,15 @@ valueOf closing = 0
 -- the class of a byte: 0 starts no token, 1 blank, 2 letter, 3 digit, 4 begins a mark of two bytes, else the mark that it is
 unfoldable pub classOf : ℕ → ℕ
 classOf b = cond (isBlank b) 1 (cond (isLetter b) 2 (cond (isDigit b) 3 (cond (beginsDouble b) 4 (kindOf (singleMark b)))))
+
+-- the classes of n bytes from one on
+unfoldable pub classesFrom : ℕ → ℕ → List ℕ
+classesFrom b zero = []
+classesFrom b (suc n) = classOf b ∷ classesFrom (suc b) n
+
+-- the table of 256 entries
+unfoldable pub classTable : List ℕ
+classTable = classesFrom 0 256
 
 -- the token at the front of the tokens that are left: its kind, value and place, and the tokens after it
 unfoldable pub kindAt : List Placed → ℕ

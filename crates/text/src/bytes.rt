@@ -1,7 +1,8 @@
 // Classes of bytes.
 ghost use mathlib.Core.Path.{_≡_};
 ghost use Rattle.text.specs.Bytes.{isBlank, isDigit, inWord};
-ghost use Rattle.text.specs.Kinds.{classOf};
+ghost use Rattle.text.specs.Kinds.{classOf, classTable};
+ghost use lib.ListN.{length};
 
 // The class of each byte: 0 starts no token, 1 blank, 2 letter, 3 digit, 4 begins a mark of two bytes, else the kind of the mark that it is.
 const CLASSES: [u8; 256] = [
@@ -263,6 +264,13 @@ const CLASSES: [u8; 256] = [
     0,
 ];
 
+// Inner: the table, to be lent to the functions below. A constant is built anew wherever it is named, so a token takes it once.
+pub fn classes() -> [u8; 256]
+    ensures { λ r. ⌜ (r ≡ classTable) × (256 ≡ length r) ⌝ }
+{
+    CLASSES
+}
+
 fn index(b: u8) -> usize
     ensures { λ r. ⌜ r ≡ b ⌝ }
 {
@@ -270,31 +278,35 @@ fn index(b: u8) -> usize
 }
 
 // Inner: the class of a byte.
-pub fn class_of(b: u8) -> u8
+pub fn class_of(classes: &[u8], b: u8) -> u8
+    requires { ⌜ now classes ≡ classTable ⌝ }
     ensures { λ r. ⌜ r ≡ classOf b ⌝ }
 {
-    CLASSES[index(b)]
+    classes[index(b)]
 }
 
 // Inner.
-pub fn is_blank(b: u8) -> bool
+pub fn is_blank(classes: &[u8], b: u8) -> bool
+    requires { ⌜ now classes ≡ classTable ⌝ }
     ensures { λ r. ⌜ r ≡ isBlank b ⌝ }
 {
-    class_of(b) == 1
+    class_of(classes, b) == 1
 }
 
 // Inner.
-pub fn is_digit(b: u8) -> bool
+pub fn is_digit(classes: &[u8], b: u8) -> bool
+    requires { ⌜ now classes ≡ classTable ⌝ }
     ensures { λ r. ⌜ r ≡ isDigit b ⌝ }
 {
-    class_of(b) == 3
+    class_of(classes, b) == 3
 }
 
 // Inner: whether a word can have the byte.
-pub fn in_word(b: u8) -> bool
+pub fn in_word(classes: &[u8], b: u8) -> bool
+    requires { ⌜ now classes ≡ classTable ⌝ }
     ensures { λ r. ⌜ r ≡ inWord b ⌝ }
 {
-    let c = class_of(b);
+    let c = class_of(classes, b);
     if c == 2 {
         return true;
     }

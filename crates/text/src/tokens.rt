@@ -7,7 +7,7 @@ ghost use Prim.Native.Nat.{_+_, _≤_, _<_};
 ghost use lib.ListN.{length, getD, drop};
 ghost use Rattle.text.specs.Bytes.{isBlank, inWord};
 ghost use Rattle.text.specs.Tokens.{wordOf, doubleMark, beginsDouble};
-ghost use Rattle.text.specs.Kinds.{valueOf};
+ghost use Rattle.text.specs.Kinds.{classTable, valueOf};
 ghost use Rattle.text.specs.Inner.{Skipped, FrontAt, TokenFrom};
 
 // A token by its numbers, with the byte at which it starts and the byte after it.
@@ -18,13 +18,13 @@ pub struct Token {
     pub next: usize,
 }
 
-fn skip(text: &[u8], at: usize) -> usize
-    requires { ⌜ at ≤ length (now text) ⌝ }
+fn skip(classes: &[u8], text: &[u8], at: usize) -> usize
+    requires { ⌜ (now classes ≡ classTable) × (at ≤ length (now text)) ⌝ }
     ensures { λ r. ⌜ Skipped (now (text .entry)) at r ⌝ }
 {
     let mut i = at;
     while i < text.len() {
-        if !bytes::is_blank(text[i]) {
+        if !bytes::is_blank(classes, text[i]) {
             return i;
         }
         i += 1;
@@ -32,13 +32,13 @@ fn skip(text: &[u8], at: usize) -> usize
     i
 }
 
-fn word_end(text: &[u8], at: usize) -> usize
-    requires { ⌜ at ≤ length (now text) ⌝ }
+fn word_end(classes: &[u8], text: &[u8], at: usize) -> usize
+    requires { ⌜ (now classes ≡ classTable) × (at ≤ length (now text)) ⌝ }
     ensures { λ r. ⌜ r ≡ at + length (wordOf (drop at (now (text .entry)))) ⌝ }
 {
     let mut i = at;
     while i < text.len() {
-        if !bytes::in_word(text[i]) {
+        if !bytes::in_word(classes, text[i]) {
             return i;
         }
         i += 1;
@@ -46,11 +46,11 @@ fn word_end(text: &[u8], at: usize) -> usize
     i
 }
 
-fn word_at(text: &[u8], at: usize) -> Token
-    requires { ⌜ (at < length (now text)) × (inWord (getD (now text) at 0) ≡ true) ⌝ }
+fn word_at(classes: &[u8], text: &[u8], at: usize) -> Token
+    requires { ⌜ (now classes ≡ classTable) × (at < length (now text)) × (inWord (getD (now text) at 0) ≡ true) ⌝ }
     ensures { λ r. ⌜ FrontAt (now (text .entry)) at r ⌝ }
 {
-    let end = word_end(text, at);
+    let end = word_end(classes, text, at);
     let w = words::word_token(&text[at..end]);
     Token {
         kind: w.kind,
@@ -108,11 +108,11 @@ fn double_at(text: &[u8], at: usize) -> Token
     }
 }
 
-fn mark_at(text: &[u8], at: usize) -> Token
-    requires { ⌜ (at < length (now text)) × (inWord (getD (now text) at 0) ≡ false) × (isBlank (getD (now text) at 0) ≡ false) ⌝ }
+fn mark_at(classes: &[u8], text: &[u8], at: usize) -> Token
+    requires { ⌜ (now classes ≡ classTable) × (at < length (now text)) × (inWord (getD (now text) at 0) ≡ false) × (isBlank (getD (now text) at 0) ≡ false) ⌝ }
     ensures { λ r. ⌜ FrontAt (now (text .entry)) at r ⌝ }
 {
-    let c = bytes::class_of(text[at]);
+    let c = bytes::class_of(classes, text[at]);
     if c == 4 {
         return double_at(text, at);
     }
@@ -137,7 +137,8 @@ pub fn token_from(text: &[u8], at: usize) -> Token
     requires { ⌜ at ≤ length (now text) ⌝ }
     ensures { λ r. ⌜ TokenFrom (now (text .entry)) at r ⌝ }
 {
-    let start = skip(text, at);
+    let classes = bytes::classes();
+    let start = skip(&classes, text, at);
     if text.len() <= start {
         return Token {
             kind: 1,
@@ -146,8 +147,8 @@ pub fn token_from(text: &[u8], at: usize) -> Token
             next: start,
         };
     }
-    if bytes::in_word(text[start]) {
-        return word_at(text, start);
+    if bytes::in_word(&classes, text[start]) {
+        return word_at(&classes, text, start);
     }
-    mark_at(text, start)
+    mark_at(&classes, text, start)
 }

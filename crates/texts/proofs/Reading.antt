@@ -1,7 +1,7 @@
 -- What the reader's answer tells: the stage that tested the text, and the text's nodes.
 use Prim.Native.Nat.{ℕ, _≤_, min}
 use native.Mathlib.Omega.{arith}
-use mathlib.Core.List.{List, _++_, map}
+use mathlib.Core.List.{List, map}
 use mathlib.Core.Path.{_≡_, refl, sym, _∙_, ap}
 use lib.ListN.{length, take, drop, replicate, length-map, length-replicate}
 use lib.Seq.{take-at, length-take-le}
@@ -14,7 +14,7 @@ use Rattle.policy.proofs.Nodes.{entries-length}
 use Rattle.text.specs.declared.Answer.{Answer}
 use Rattle.text.specs.declared.Answer.the-variants.{Nodes, Refused}
 use Rattle.text.specs.Tokens.{fieldNames}
-use Rattle.text.specs.Answer.{answered, textTree, tested, answerTo, written, leftBy, shortest, TextRead}
+use Rattle.text.specs.Answer.{answered, textTree, answerTo, written, leftBy, shortest, TextRead}
 use Rattle.text.proofs.AnswerLaws.{few-enough, count-parts}
 use Rattle.texts.specs.Call.{textNodes, textStage}
 

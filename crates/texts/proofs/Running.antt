@@ -1,5 +1,5 @@
 -- From the search on the texts' nodes to the promise about the texts.
-use Prim.Native.Nat.{ℕ, _<_}
+use Prim.Native.Nat.{ℕ}
 use native.Mathlib.Omega.{arith}
 use mathlib.Core.List.{List, [], _∷_}
 use mathlib.Core.Logic.{_↔_}
@@ -8,7 +8,6 @@ use lib.ListN.{length, take}
 use Rattle.packet.specs.declared.Refusal.{Refusal}
 use Rattle.packet.specs.declared.Tested.{Tested}
 use Rattle.packet.specs.declared.Tested.the-variants.{Passed, Refused as Stopped}
-use Rattle.packet.specs.declared.Counted.{Counted}
 use Rattle.packet.specs.Refusals.{firstOf}
 use Rattle.packet.specs.Sizes.{fieldsStage, productStage, product}
 use Rattle.packet.proofs.Stages.{firstOf-next, firstOf-last, firstOf-refused, firstOf-passed}
@@ -25,9 +24,9 @@ use Rattle.text.specs.Tokens.{fieldNames}
 use Rattle.text.specs.Answer.{textTree}
 use Rattle.text.proofs.NodeLaws.{text-traces}
 use Rattle.search.specs.declared.Verdict.{Verdict}
-use Rattle.search.specs.declared.Verdict.the-variants.{Equal, Left, Right, Full, Refused}
-use Rattle.search.specs.Call.{Lent, tellingVerdict, verdictAfter, lentAfter, searchTests, searchVerdict, searchLeaves, Telling, Searched}
-use Rattle.texts.specs.Call.{textNodes, textStage, textPolicies, textsTests, textsAnswer, textsRows, textsVerdict, textsLeaves, TextsTelling, TextsSearched, Ran}
+use Rattle.search.specs.declared.Verdict.the-variants.{Equal, Full, Refused}
+use Rattle.search.specs.Call.{Lent, tellingVerdict, verdictAfter, lentAfter, searchTests, searchVerdict, searchLeaves, Searched}
+use Rattle.texts.specs.Call.{textNodes, textStage, textPolicies, textsTests, textsAnswer, textsRows, textsVerdict, textsLeaves, TextsSearched, Ran}
 use Rattle.texts.proofs.Reading.{stage-answer}
 
 zero≢one : _≡_ {A = ℕ} 0 1 → ⊥

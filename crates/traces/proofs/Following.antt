@@ -18,7 +18,7 @@ use Rattle.automaton.specs.State.{outputMask, nextMask, runs, hasTrace}
 use Rattle.automaton.proofs.Laws.{dead-nextMask, dead-outputMask}
 use Rattle.automaton.proofs.Trees.{policy-evaluable}
 use Rattle.evaluator.specs.Evaluation.{treeOf}
-use Rattle.evaluator.specs.Steps.{StepReady, Stepped}
+use Rattle.evaluator.specs.Steps.{Prepared, StepReady, Stepped}
 use Rattle.traces.specs.Checking.{FollowReady, Followed}
 
 -- a state 0 has no trace
@@ -64,11 +64,12 @@ module _ (sizes : List ℕ) (L : NodeLists) (count α : ℕ) (trace work : List 
     following-none = record { within = omega arith; packet = ready .entering; room = length-replicate {A = ℕ} 1024 0; rest = refl; kept = refl }
 
     module _ {next : List ℕ} {state β : ℕ} {work′ : List ℕ} {i : ℕ} (f : Following next state β work′ i) where
-      pub step-ready : StepReady sizes L count (nodeCount L - 1) β next work′
-      step-ready =
+      pub step-ready : {masks places : List ℕ} → Prepared L masks places → StepReady sizes L masks places count (nodeCount L - 1) β next work′
+      step-ready prepared =
           record {
             legal = ready .legal-sizes;
             well = ready .legal .wellFormed;
+            prepared = prepared;
             packets = ready .packets;
             node = let h = some-nodes in omega arith;
             packet = f .packet;

@@ -85,6 +85,9 @@ fn has_trace(
     requires { ⌜ FollowReady (now sizes) (asLists (now kind) (now first) (now second)) count entering (now trace) (now work) ⌝ }
     ensures { λ r. ⌜ Followed (now (sizes .entry)) (asLists (now (kind .entry)) (now (first .entry)) (now (second .entry))) entering (now (trace .entry)) (now (work .entry)) r (now (work .exit)) ⌝ }
 {
+    let mut masks = [0u32; 512];
+    let mut places = [0u16; 32];
+    let dups = evaluator::prepare(kind, first, second, &mut masks, &mut places);
     let mut next = [0u32; 1024];
     let mut state = 1;
     let mut packet = entering;
@@ -94,6 +97,8 @@ fn has_trace(
             kind,
             first,
             second,
+            &masks,
+            &places[..dups],
             kind.len() - 1,
             sizes,
             count,
@@ -105,7 +110,7 @@ fn has_trace(
         packet = trace[i];
         i += 1;
         if i == trace.len() {
-            return packet_set::contains(output, packet);
+            return packet_set::contains(&output, packet);
         }
         state = next[wide(packet)];
         if state == 0 {

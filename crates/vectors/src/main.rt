@@ -15,21 +15,6 @@ struct Filled {
     at: usize,
 }
 
-fn size(x: u32) -> usize
-    ensures { λ r. ⌜ r ≡ x ⌝ }
-{
-    x as usize
-}
-
-fn least(a: usize, b: usize) -> usize
-    ensures { λ r. ⌜ (r ≤ a) × (r ≤ b) ⌝ }
-{
-    if a < b {
-        return a;
-    }
-    b
-}
-
 // The next number where one is given, else the last again.
 fn next(input: &[u8], at: usize, given: bool, last: u32) -> Scanned {
     if given {
@@ -55,12 +40,12 @@ fn fill8(input: &[u8], from: usize, list: &mut [u8]) -> Filled
 {
     let wanted = harness::scan(input, from);
     let given = harness::scan(input, wanted.at);
-    let count = least(size(wanted.value), list.len());
+    let count = harness::least(harness::size(wanted.value), list.len());
     let mut at = given.at;
     let mut last: u32 = 0;
     let mut i: usize = 0;
     while i < count {
-        let s = next(input, at, i < size(given.value), last);
+        let s = next(input, at, i < harness::size(given.value), last);
         last = s.value;
         at = s.at;
         list[i] = (last % 256) as u8;
@@ -74,12 +59,12 @@ fn fill16(input: &[u8], from: usize, list: &mut [u16]) -> Filled
 {
     let wanted = harness::scan(input, from);
     let given = harness::scan(input, wanted.at);
-    let count = least(size(wanted.value), list.len());
+    let count = harness::least(harness::size(wanted.value), list.len());
     let mut at = given.at;
     let mut last: u32 = 0;
     let mut i: usize = 0;
     while i < count {
-        let s = next(input, at, i < size(given.value), last);
+        let s = next(input, at, i < harness::size(given.value), last);
         last = s.value;
         at = s.at;
         list[i] = (last % 65536) as u16;
@@ -93,12 +78,12 @@ fn fill32(input: &[u8], from: usize, list: &mut [u32]) -> Filled
 {
     let wanted = harness::scan(input, from);
     let given = harness::scan(input, wanted.at);
-    let count = least(size(wanted.value), list.len());
+    let count = harness::least(harness::size(wanted.value), list.len());
     let mut at = given.at;
     let mut last: u32 = 0;
     let mut i: usize = 0;
     while i < count {
-        let s = next_wide(input, at, i < size(given.value), last);
+        let s = next_wide(input, at, i < harness::size(given.value), last);
         last = s.value;
         at = s.at;
         list[i] = last;

@@ -1,56 +1,90 @@
 -- `gather` meets its contract. Assumes nothing.
-use Prim.Native.Nat.{_-_}
-use mathlib.Core.Path.{_∙_}
+use Prim.Native.Nat.{_-_, _*_}
+use mathlib.Core.Path.{ap, refl, _∙_}
 use native.Mathlib.Omega.{arith}
 use lib.ListN.{length}
-use Rattle.policy.specs.AsLists.{asLists}
-use Rattle.policy.specs.NodeLists.{nodeCount}
-use Rattle.evaluator.specs.Steps.{Formed}
-use Rattle.evaluator.proofs.Stepping.{Gathering, gather-after, gathering-start, gathering-label, gathering-needs, gathering-turn, gathering-end}
+use Rattle.evaluator.proofs.Stepping.{Gathering, gather-after, gathering-start, start-fits, words-fit, gathering-room, gathering-turn, gathering-end}
 use borrow.Author.Needs.{needs}
 use Rattle.evaluator.proofs.gather.Statement.{statement}
 use Rattle.evaluator.proofs.gather.Tie as tie
 
 abbrev Inv-loop : tie.InvT-loop
-Inv-loop kind first second words count work next₀ label₀ n₀ next label n = Gathering (asLists kind first second) words count work next₀ next n label
+Inv-loop places words count work next₀ i₀ next i = Gathering places words count work next₀ next i
 
 abbrev μ-loop : tie.MeasureT-loop
-μ-loop kind first second words count work next₀ label₀ n₀ next label n = length kind - n
+μ-loop places words count work next₀ i₀ next i = length places - i
 
-zero-first-requires : tie.Need-zero-first-requires Inv-loop μ-loop
-zero-first-requires c κs = c .before .before .before .before .before .before .pre .room
+zero-range-requires : tie.Need-zero-range-requires Inv-loop μ-loop
+zero-range-requires c κs = c .before .before .before .before .pre .room
 
 loop-holds : tie.Need-loop-holds Inv-loop μ-loop
-loop-holds c = gathering-start _ _ _ _ _ _ (c .before .before .zero-first .ensures)
+loop-holds c = gathering-start _ _ _ _ _ _ (c .before .before .zero-range .ensures)
 
-node-at-requires : tie.Need-node-at-requires Inv-loop μ-loop
-unfolding nodeCount Formed
-node-at-requires c κs = let h = c .before .before .before .before .before .before .before .before .before .before .before .pre .formed .1 .firsts in let k = c .before .before .before .before .before .before .before .before .before .before .before .pre .formed .1 .seconds in omega (arith, c .loop-test .taken)
+mul-wide : tie.Need-mul-wide Inv-loop μ-loop
+mul-wide c = search needs
 
-label-after-requires : tie.Need-label-after-requires Inv-loop μ-loop
-unfolding nodeCount
-label-after-requires c κs = gathering-label _ _ _ _ _ _ (gather-after _ _ _ _ _ _ (c .before .before .before .before .before .before .before .before .before .before .before .before .pre) (search needs)) _ _ (c .before .before .loop .inv) (c .before .loop-test .taken) _ (c .node-at .ensures)
+shared-slice-read-wide : tie.Need-shared-slice-read-wide Inv-loop μ-loop
+shared-slice-read-wide c = search needs
 
-mark-slot-requires : tie.Need-mark-slot-requires Inv-loop μ-loop
-unfolding nodeCount
-mark-slot-requires c κs = gathering-needs _ _ _ _ _ _ (gather-after _ _ _ _ _ _ (c .before .before .before .before .before .before .before .before .before .before .before .before .before .before .pre) (search needs)) _ _ (c .before .before .before .before .loop .inv) (c .before .before .before .loop-test .taken) _ (c .before .before .node-at .ensures) _ (c .before .label-after .ensures)
+wide-requires : tie.Need-wide-requires Inv-loop μ-loop
+wide-requires c κs = search needs
 
-add-n : tie.Need-add-n Inv-loop μ-loop
-add-n c = search needs
+mul-start : tie.Need-mul-start Inv-loop μ-loop
+mul-start c = let h = start-fits _ _ _ _ _ _ (gather-after _ _ _ _ _ _ (c .before .before .before .before .before .before .before .before .before .before .before .pre) (search needs)) _ (c .before .before .before .loop .inv) (c .before .before .loop-test .taken) _ (ap (λ x. 32 * x) (c .wide .ensures)) in omega (arith, h)
+
+add-i : tie.Need-add-i Inv-loop μ-loop
+add-i c = search needs
+
+mul-mark-members : tie.Need-mul-mark-members Inv-loop μ-loop
+mul-mark-members c = let h = start-fits _ _ _ _ _ _ (gather-after _ _ _ _ _ _ (c .before .before .before .before .before .before .before .before .before .before .before .pre) (search needs)) _ (c .before .before .before .loop .inv) (c .before .before .loop-test .taken) _ (ap (λ x. 32 * x) (c .wide .ensures)) in omega arith
+
+sub-mark-members : tie.Need-sub-mark-members Inv-loop μ-loop
+sub-mark-members c = let h = start-fits _ _ _ _ _ _ (gather-after _ _ _ _ _ _ (c .before .before .before .before .before .before .before .before .before .before .before .pre) (search needs)) _ (c .before .before .before .loop .inv) (c .before .before .loop-test .taken) _ (ap (λ x. 32 * x) (c .wide .ensures)) in omega (arith, h)
+
+part-mark-members-start : tie.Need-part-mark-members-start Inv-loop μ-loop
+part-mark-members-start c = let h = start-fits _ _ _ _ _ _ (gather-after _ _ _ _ _ _ (c .before .before .before .before .before .before .before .before .before .before .before .pre) (search needs)) _ (c .before .before .before .loop .inv) (c .before .before .loop-test .taken) _ (ap (λ x. 32 * x) (c .wide .ensures)) in omega (arith, h)
+
+part-mark-members-end : tie.Need-part-mark-members-end Inv-loop μ-loop
+part-mark-members-end c = search needs
+
+cast-mark-members : tie.Need-cast-mark-members Inv-loop μ-loop
+cast-mark-members c = record { fits = omega (arith, c .before .before .before .loop-test .taken, c .before .before .before .before .before .before .before .before .before .before .before .before .pre .labels) }
+
+mark-members-requires : tie.Need-mark-members-requires Inv-loop μ-loop
+mark-members-requires c κs = (c .before .before .before .before .before .before .before .before .before .before .before .before .before .pre .few, words-fit _ _ _ _ _ _ (gather-after _ _ _ _ _ _ (c .before .before .before .before .before .before .before .before .before .before .before .before .before .pre) (search needs)) _ (c .before .before .before .before .before .loop .inv) (c .before .before .before .before .loop-test .taken) _ (ap (λ x. 32 * x) (c .before .before .wide .ensures)), omega (arith, c .before .before .before .before .loop-test .taken, c .before .before .before .before .before .before .before .before .before .before .before .before .before .pre .labels), gathering-room _ _ _ _ _ _ (gather-after _ _ _ _ _ _ (c .before .before .before .before .before .before .before .before .before .before .before .before .before .pre) (search needs)) _ (c .before .before .before .before .before .loop .inv) (c .before .before .before .before .loop-test .taken) _ (ap (λ x. 32 * x) (c .before .before .wide .ensures)))
 
 loop-less : tie.Need-loop-less Inv-loop μ-loop
 loop-less c = search needs
 
 loop-again : tie.Need-loop-again Inv-loop μ-loop
-unfolding nodeCount
-loop-again c = gathering-turn _ _ _ _ _ _ (gather-after _ _ _ _ _ _ (c .before .before .before .before .before .before .before .before .before .before .before .before .before .before .before .before .before .pre) (search needs)) _ _ (c .before .before .before .before .before .before .before .loop .inv) (c .before .before .before .before .before .before .loop-test .taken) _ (c .before .before .before .before .before .node-at .ensures) _ (c .before .before .before .before .label-after .ensures) _ (search needs) (c .before .before .mark-slot .ensures)
+loop-again c = gathering-turn _ _ _ _ _ _ (gather-after _ _ _ _ _ _ (c .before .before .before .before .before .before .before .before .before .before .before .before .before .before .before .before .pre) (search needs)) _ (c .before .before .before .before .before .before .before .before .loop .inv) (c .before .before .before .before .before .before .before .loop-test .taken) _ (ap (λ x. 32 * x) (c .before .before .before .before .before .wide .ensures)) _ refl _ (search needs) (c .before .before .mark-members .ensures)
 
 same-length : tie.Need-same-length Inv-loop μ-loop
 same-length c = c .before .loop .inv .long ∙ (search needs)
 
 returns : tie.Need-returns Inv-loop μ-loop
-unfolding nodeCount
-returns c = gathering-end _ _ _ _ _ _ _ _ _ (c .before .before .before .before .zero-first .ensures) (c .before .loop .inv) (c .loop-test .left)
+returns c = gathering-end _ _ _ _ _ _ _ _ (c .before .before .before .before .zero-range .ensures) (c .before .loop .inv) (c .loop-test .left)
 
 pub gather-spec : {M : Type 1} → statement M
-gather-spec = tie.close (tie.spec Inv-loop μ-loop zero-first-requires loop-holds node-at-requires label-after-requires mark-slot-requires add-n loop-less loop-again same-length returns)
+gather-spec =
+    tie.close
+    (tie.spec
+    Inv-loop
+    μ-loop
+    zero-range-requires
+    loop-holds
+    mul-wide
+    shared-slice-read-wide
+    wide-requires
+    mul-start
+    add-i
+    mul-mark-members
+    sub-mark-members
+    part-mark-members-start
+    part-mark-members-end
+    cast-mark-members
+    mark-members-requires
+    loop-less
+    loop-again
+    same-length
+    returns)

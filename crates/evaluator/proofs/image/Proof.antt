@@ -1,16 +1,18 @@
 -- `image` meets its contract: each turn takes the next member. Assumes nothing.
 use Prim.Native.Nat.{_-_, _*_}
+use mathlib.Core.Path.{refl, sym}
 use borrow.Author.Needs.{needs}
 use native.Mathlib.Omega.{arith}
+use Rattle.packet_set.specs.Members.{emptySet}
 use Rattle.evaluator.proofs.Acts.{Walking, field-within, words-few, walking-start, walking-needs, walking-next, walking-small, walking-turn, walking-end}
 use Rattle.evaluator.proofs.image.Statement.{statement}
 use Rattle.evaluator.proofs.image.Tie as tie
 
 abbrev Inv-loop : tie.InvT-loop
-Inv-loop sizes action words set field stride size out₀ from₀ out from = Walking sizes action words set stride size out from
+Inv-loop sizes action set₀ words field stride size before from₀ set from = Walking sizes action words before stride size set from
 
 abbrev μ-loop : tie.MeasureT-loop
-μ-loop sizes action words set field stride size out₀ from₀ out from = 32 * words - from
+μ-loop sizes action set₀ words field stride size before from₀ set from = 32 * words - from
 
 field-of-requires : tie.Need-field-of-requires Inv-loop μ-loop
 field-of-requires c κs = search needs
@@ -19,25 +21,23 @@ cast-field : tie.Need-cast-field Inv-loop μ-loop
 cast-field c = search needs
 
 stride-of-requires : tie.Need-stride-of-requires Inv-loop μ-loop
-stride-of-requires c κs = (c .before .before .pre .legal, omega (arith, field-within _ _ _ _ (c .before .before .pre), c .field-of .ensures))
+stride-of-requires c κs = (c .before .before .pre .0 .legal, omega (arith, field-within _ _ _ _ (c .before .before .pre .0), c .field-of .ensures))
 
 mul-size : tie.Need-mul-size Inv-loop μ-loop
-mul-size c = omega (arith, field-within _ _ _ _ (c .before .before .before .pre), c .before .field-of .ensures)
+mul-size c = omega (arith, field-within _ _ _ _ (c .before .before .before .pre .0), c .before .field-of .ensures)
 
 shared-slice-read-size : tie.Need-shared-slice-read-size Inv-loop μ-loop
-shared-slice-read-size c = omega (arith, field-within _ _ _ _ (c .before .before .before .before .pre), c .before .before .field-of .ensures)
-
-empty-requires : tie.Need-empty-requires Inv-loop μ-loop
-empty-requires c κs = search needs
+shared-slice-read-size c = omega (arith, field-within _ _ _ _ (c .before .before .before .before .pre .0), c .before .before .field-of .ensures)
 
 loop-holds : tie.Need-loop-holds Inv-loop μ-loop
-loop-holds c = walking-start _ _ _ _ _ _ _ 0 _ (c .before .before .before .field-of .ensures) (c .before .before .before .before .before .pre) (c .empty .ensures) (c .before .before .stride-of .ensures) (search needs)
+unfolding emptySet
+loop-holds c = walking-start _ _ _ _ _ _ _ 0 _ (c .before .before .before .before .field-of .ensures) (c .before .before .before .before .before .before .pre .0) refl (c .before .before .before .stride-of .ensures) (search needs)
 
 slice-aggregate-next-member : tie.Need-slice-aggregate-next-member Inv-loop μ-loop
-slice-aggregate-next-member c = search needs
+slice-aggregate-next-member c = sym (c .before .before .before .before .before .before .before .before .pre .1)
 
 next-member-requires : tie.Need-next-member-requires Inv-loop μ-loop
-next-member-requires c κs = omega (arith, words-few _ _ _ _ (c .before .before .before .before .before .before .before .pre))
+next-member-requires c κs = omega (arith, words-few _ _ _ _ (c .before .before .before .before .before .before .before .before .pre .0), c .before .before .before .before .before .before .before .before .pre .1)
 
 enum-known-alpha : tie.Need-enum-known-alpha Inv-loop μ-loop
 enum-known-alpha c = search needs
@@ -46,22 +46,22 @@ enum-told : tie.Need-enum-told Inv-loop μ-loop
 enum-told c = search needs
 
 returns : tie.Need-returns Inv-loop μ-loop
-returns c = walking-end _ _ _ _ _ _ _ _ (c .before .before .before .before .loop .inv) _ (c .before .before .next-member .ensures) (c .enum-told .given .1)
+returns c = (walking-end _ _ _ _ _ _ _ _ (c .before .before .before .before .loop .inv) _ (c .before .before .next-member .ensures) (c .enum-told .given .1), c .before .before .before .before .loop .inv .walked .long)
 
 act-requires : tie.Need-act-requires Inv-loop μ-loop
-act-requires c κs = walking-needs _ _ _ _ _ _ _ _ (c .before .before .before .before .before .loop .inv) _ (c .before .before .before .next-member .ensures) _ (c .before .alpha .given .1)
+act-requires c κs = walking-needs _ _ _ _ _ _ _ _ (c .before .before .before .before .before .before .loop .inv) _ (c .before .before .before .before .next-member .ensures) _ (c .before .before .alpha .given .1)
 
 put-requires : tie.Need-put-requires Inv-loop μ-loop
-put-requires c κs = walking-small _ _ _ _ _ _ _ _ (c .before .before .before .before .before .before .loop .inv) _ (c .before .before .before .before .next-member .ensures) _ (c .before .before .alpha .given .1) _ (c .act .ensures)
+put-requires c κs = walking-small _ _ _ _ _ _ _ _ (c .before .before .before .before .before .before .before .loop .inv) _ (c .before .before .before .before .before .next-member .ensures) _ (c .before .before .before .alpha .given .1) _ (c .act .ensures)
 
 add-from : tie.Need-add-from Inv-loop μ-loop
-add-from c = let h = walking-needs _ _ _ _ _ _ _ _ (c .before .before .before .before .before .before .before .loop .inv) _ (c .before .before .before .before .before .next-member .ensures) _ (c .before .before .before .alpha .given .1) in omega arith
+add-from c = let h = walking-needs _ _ _ _ _ _ _ _ (c .before .before .before .before .before .before .before .before .loop .inv) _ (c .before .before .before .before .before .before .next-member .ensures) _ (c .before .before .before .before .alpha .given .1) in omega arith
 
 loop-less : tie.Need-loop-less Inv-loop μ-loop
-loop-less c = let h = walking-next _ _ _ _ _ _ _ _ (c .before .before .before .before .before .before .before .loop .inv) _ (c .before .before .before .before .before .next-member .ensures) _ (c .before .before .before .alpha .given .1) in omega arith
+loop-less c = let h = walking-next _ _ _ _ _ _ _ _ (c .before .before .before .before .before .before .before .before .loop .inv) _ (c .before .before .before .before .before .before .next-member .ensures) _ (c .before .before .before .before .alpha .given .1) in omega arith
 
 loop-again : tie.Need-loop-again Inv-loop μ-loop
-loop-again c = walking-turn _ _ _ _ _ _ _ _ (c .before .before .before .before .before .before .before .loop .inv) _ (c .before .before .before .before .before .next-member .ensures) _ (c .before .before .before .alpha .given .1) _ (c .before .act .ensures) _ (search needs) (c .put .ensures)
+loop-again c = walking-turn _ _ _ _ _ _ _ _ (c .before .before .before .before .before .before .before .before .loop .inv) _ (c .before .before .before .before .before .before .next-member .ensures) _ (c .before .before .before .before .alpha .given .1) _ (c .before .act .ensures) _ (c .put .ensures)
 
 pub image-spec : {M : Type 1} → statement M
 image-spec =
@@ -74,7 +74,6 @@ image-spec =
     stride-of-requires
     mul-size
     shared-slice-read-size
-    empty-requires
     loop-holds
     slice-aggregate-next-member
     next-member-requires

@@ -8,13 +8,13 @@ enum-known-at : tie.Need-enum-known-at
 enum-known-at c = search needs
 
 insert-requires : tie.Need-insert-requires
-insert-requires c κs = c .before .before .before .pre _ (c .before .at .given .1)
+insert-requires c κs = c .before .before .before .before .pre _ (c .before .before .at .given .1)
 
 enum-told : tie.Need-enum-told
 enum-told c = search needs
 
 returns : tie.Need-returns
-returns c = lands-at _ _ _ _ (c .before .before .at .given .1) (c .insert .ensures)
+returns c = lands-at _ _ _ _ (c .before .before .before .at .given .1) (c .insert .ensures)
 
 returns-2 : tie.Need-returns-2
 returns-2 c = lands-nowhere _ _ (c .enum-told .given .1)

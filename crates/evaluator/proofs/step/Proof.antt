@@ -1,38 +1,28 @@
 -- `step` meets its contract. Assumes nothing.
 use native.Mathlib.Omega.{arith}
 use Rattle.policy.specs.NodeLists.{nodeCount}
-use Rattle.evaluator.proofs.Answering.{count-small, lists-fit, formed, clear-ready, eval-ready, gather-ready, stepped}
+use Rattle.evaluator.proofs.Answering.{count-small, clear-ready, eval-ready, gather-ready, stepped}
 use borrow.Author.Needs.{needs}
 use Rattle.evaluator.proofs.step.Statement.{statement}
 use Rattle.evaluator.proofs.step.Tie as tie
 
 words-for-requires : tie.Need-words-for-requires
-words-for-requires c κs = count-small _ _ _ _ _ _ _ (c .before .before .before .before .before .before .pre)
-
-slice-aggregate-dup-masks : tie.Need-slice-aggregate-dup-masks
-slice-aggregate-dup-masks c = search needs
-
-dup-masks-requires : tie.Need-dup-masks-requires
-unfolding nodeCount
-dup-masks-requires c κs = (formed _ _ _ _ _ _ _ (c .before .before .before .before .before .before .before .before .pre), let h = lists-fit _ _ _ _ _ _ _ (c .before .before .before .before .before .before .before .before .pre) in omega arith)
-
-slice-aggregate-through : tie.Need-slice-aggregate-through
-slice-aggregate-through c = search needs
+words-for-requires c κs = count-small _ _ _ _ _ _ _ _ _ (c .before .before .before .before .before .before .before .before .pre)
 
 start-set-requires : tie.Need-start-set-requires
-start-set-requires c κs = omega (arith, c .before .before .before .before .before .before .before .before .before .before .before .pre .packet, c .before .before .before .before .before .before .before .before .before .before .before .pre .legal .small)
+start-set-requires c κs = omega (arith, c .before .before .before .before .before .before .before .before .before .pre .packet, c .before .before .before .before .before .before .before .before .before .pre .legal .small)
 
 through-requires : tie.Need-through-requires
 unfolding nodeCount
-through-requires c κs = eval-ready _ _ _ _ _ _ _ (c .before .before .before .before .before .before .before .before .before .before .before .before .before .pre) _ (c .before .before .before .before .before .before .words-for .ensures) _ _ (c .before .start-set .ensures) _ (c .before .before .before .before .dup-masks .ensures) (let h = lists-fit _ _ _ _ _ _ _ (c .before .before .before .before .before .before .before .before .before .before .before .before .before .pre) in omega arith)
+through-requires c κs = (eval-ready _ _ _ _ _ _ _ _ _ (c .before .before .before .before .before .before .before .before .before .before .before .before .pre) _ (c .before .before .before .words-for .ensures) _ _ (c .before .before .start-set .ensures), search needs)
 
 gather-requires : tie.Need-gather-requires
 unfolding nodeCount
-gather-requires c κs = gather-ready _ _ _ _ _ _ _ (c .before .before .before .before .before .before .before .before .before .before .before .before .before .before .before .before .before .before .pre) _ (c .before .before .before .before .before .before .before .before .before .before .before .words-for .ensures) _ _ (c .before .before .before .before .before .before .start-set .ensures) _ _ (c .before .before .before .before .through .ensures) (search needs)
+gather-requires c κs = gather-ready _ _ _ _ _ _ _ _ _ (c .before .before .before .before .before .before .before .before .before .before .before .before .before .before .before .before .before .pre) _ (c .before .before .before .before .before .before .before .before .words-for .ensures) _ _ (c .before .before .before .before .before .before .before .start-set .ensures) _ _ (c .before .before .before .before .through .ensures .0) (search needs)
 
 clear-requires : tie.Need-clear-requires
 unfolding nodeCount
-clear-requires c κs = let h = clear-ready _ _ _ _ _ _ _ (c .before .before .before .before .before .before .before .before .before .before .before .before .before .before .before .before .before .before .before .before .before .before .pre) _ (c .before .before .before .before .before .before .before .before .before .before .before .before .before .before .before .words-for .ensures) in omega arith
+clear-requires c κs = let h = clear-ready _ _ _ _ _ _ _ _ _ (c .before .before .before .before .before .before .before .before .before .before .before .before .before .before .before .before .before .before .before .before .before .pre) _ (c .before .before .before .before .before .before .before .before .before .before .before .before .words-for .ensures) in omega arith
 
 same-length : tie.Need-same-length
 same-length c = search needs
@@ -42,7 +32,17 @@ same-length-2 c = search needs
 
 returns : tie.Need-returns
 unfolding nodeCount
-returns c = stepped _ _ _ _ _ _ _ (c .before .before .before .before .before .before .before .before .before .before .before .before .before .before .before .before .before .before .before .before .before .before .before .before .before .pre) _ (c .before .before .before .before .before .before .before .before .before .before .before .before .before .before .before .before .before .before .words-for .ensures) _ _ (c .before .before .before .before .before .before .before .before .before .before .before .before .before .start-set .ensures) _ _ (c .before .before .before .before .before .before .before .before .before .before .before .through .ensures) (search needs) _ _ (c .before .before .before .before .before .before .gather .ensures) (λ γ. c .before .before .before .before .slice-known4 .given γ .fits) (c .before .before .clear .ensures) (search needs)
+returns c = stepped _ _ _ _ _ _ _ _ _ (c .before .before .before .before .before .before .before .before .before .before .before .before .before .before .before .before .before .before .before .before .before .before .before .before .pre) _ (c .before .before .before .before .before .before .before .before .before .before .before .before .before .before .before .words-for .ensures) _ _ (c .before .before .before .before .before .before .before .before .before .before .before .before .before .before .start-set .ensures) _ _ (c .before .before .before .before .before .before .before .before .before .before .before .through .ensures .0) (search needs) _ _ (c .before .before .before .before .before .before .gather .ensures) (λ γ. c .before .before .before .before .slice-known4 .given γ .fits) (c .before .before .clear .ensures) (search needs)
 
 pub step-spec : {M : Type 1} → statement M
-step-spec = tie.close (tie.spec words-for-requires slice-aggregate-dup-masks dup-masks-requires slice-aggregate-through start-set-requires through-requires gather-requires clear-requires same-length same-length-2 returns)
+step-spec =
+    tie.close
+    (tie.spec
+    words-for-requires
+    start-set-requires
+    through-requires
+    gather-requires
+    clear-requires
+    same-length
+    same-length-2
+    returns)

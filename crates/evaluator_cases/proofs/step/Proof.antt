@@ -2,13 +2,15 @@
 -- Assumes nothing.
 use borrow.Author.Needs.{needs}
 use native.Mathlib.Omega.{arith}
-use mathlib.Core.Path.{sym, _∙_, subst}
-use Prim.Native.Nat.{ℕ, _≤_, _<_}
+use mathlib.Core.Path.{sym, _∙_}
+use Prim.Native.Nat.{_≤_}
 use lib.Dec.{lit≤}
-use lib.ListN.{getD-replicate, length-replicate}
+use lib.ListN.{getD-replicate}
+use lib.Seq.{length-take-le}
 use Rattle.packet.proofs.Sizes.{count-packets}
 use Rattle.policy.specs.NodeLists.{nodeCount}
 use Rattle.policy.proofs.AnswerLaws.{legal-answer}
+use Rattle.evaluator.specs.Steps.{Formed}
 use Rattle.evaluator_cases.proofs.step.Statement.{statement}
 use Rattle.evaluator_cases.proofs.step.Tie as tie
 
@@ -51,27 +53,46 @@ write-all-requires-2 c κs = search needs
 returns-3 : tie.Need-returns-3
 returns-3 c = search needs
 
-sub-step : tie.Need-sub-step
-unfolding nodeCount
-sub-step c = omega (arith, legal-answer _ _ _ (sym (c .before .before .before .before .before .before .before .policy-legality .ensures) ∙ c .before .before .before .before .before .enum-told .given .1) .1 .some)
+slice-aggregate-prepare : tie.Need-slice-aggregate-prepare
+slice-aggregate-prepare c = search needs
+
+slice-aggregate-prepare-2 : tie.Need-slice-aggregate-prepare-2
+slice-aggregate-prepare-2 c = search needs
+
+prepare-requires : tie.Need-prepare-requires
+unfolding nodeCount Formed
+prepare-requires c κs = let legal = legal-answer _ _ _ (sym (c .before .before .before .before .before .before .before .before .before .policy-legality .ensures) ∙ c .before .before .before .before .before .before .before .enum-told .given .1) in ((_, legal .1 .wellFormed), omega (arith, legal .1 .wellFormed .few), lit≤ tt)
 
 slice-aggregate-step : tie.Need-slice-aggregate-step
 slice-aggregate-step c = search needs
 
+array-share-prefix-places : tie.Need-array-share-prefix-places
+array-share-prefix-places c = search needs
+
 slice-aggregate-step-2 : tie.Need-slice-aggregate-step-2
-slice-aggregate-step-2 c = search needs
+slice-aggregate-step-2 c = sym (length-take-le _ _ (omega (arith, c .before .before .before .before .prepare .ensures .0, c .before .before .before .before .prepare .kept)))
+
+sub-step : tie.Need-sub-step
+unfolding nodeCount
+sub-step c = omega (arith, legal-answer _ _ _ (sym (c .before .before .before .before .before .before .before .before .before .before .before .before .before .before .policy-legality .ensures) ∙ c .before .before .before .before .before .before .before .before .before .before .before .before .enum-told .given .1) .1 .some)
+
+slice-aggregate-step-3 : tie.Need-slice-aggregate-step-3
+slice-aggregate-step-3 c = search needs
+
+slice-aggregate-step-4 : tie.Need-slice-aggregate-step-4
+slice-aggregate-step-4 c = search needs
 
 step-requires : tie.Need-step-requires
 unfolding nodeCount
-step-requires c κs =
-    let legal = legal-answer _ _ _ (sym (c .before .before .before .before .before .before .before .before .before .policy-legality .ensures) ∙ c .before .before .before .before .before .before .before .enum-told .given .1) in
-    let n = count-packets _ _ (sym (c .before .before .before .before .before .before .packet-count .ensures) ∙ c .before .before .before .before .count .given .1) .1 in
+step-requires c κs = let legal = legal-answer _ _ _ (sym (c .before .before .before .before .before .before .before .before .before .before .before .before .before .before .before .before .policy-legality .ensures) ∙ c .before .before .before .before .before .before .before .before .before .before .before .before .before .before .enum-told .given .1) in
+    let n = count-packets _ _ (sym (c .before .before .before .before .before .before .before .before .before .before .before .before .before .packet-count .ensures) ∙ c .before .before .before .before .before .before .before .before .before .before .before .count .given .1) .1 in
     record {
       legal = legal .0;
       well = legal .1 .wellFormed;
+      prepared = c .before .before .before .before .before .before .prepare .ensures .1;
       packets = n;
       node = omega (arith, legal .1 .some);
-      packet = omega (arith, n, c .before .before .if1 .left);
+      packet = omega (arith, n, c .before .before .before .before .before .before .before .before .before .if1 .left);
       room = omega (arith, legal .0 .small);
       long = lit≤ tt;
       zero = λ i h. getD-replicate 16384 i 0 0 h;
@@ -121,9 +142,15 @@ step-spec =
     slice-aggregate-write-all-2
     write-all-requires-2
     returns-3
-    sub-step
+    slice-aggregate-prepare
+    slice-aggregate-prepare-2
+    prepare-requires
     slice-aggregate-step
+    array-share-prefix-places
     slice-aggregate-step-2
+    sub-step
+    slice-aggregate-step-3
+    slice-aggregate-step-4
     step-requires
     slice-aggregate-write-all-3
     write-all-requires-3

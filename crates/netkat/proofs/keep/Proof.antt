@@ -1,65 +1,31 @@
 -- `keep` meets its contract.
-use borrow.Author.Needs.{needs}
-use Prim.Native.Nat.{_-_, _≤_}
-use mathlib.Core.Path.{_≡_, refl, _∙_}
 use native.Mathlib.Omega.{arith}
-use lib.ListN.{length, getD, length-set}
+use mathlib.Core.Path.{sym}
+use lib.Seq.{length-take-le}
+use Rattle.netkat.proofs.Growing.{wrote-so-many}
+use borrow.Author.Needs.{needs}
 use Rattle.netkat.proofs.keep.Statement.{statement}
 use Rattle.netkat.proofs.keep.Tie as tie
 
-abbrev Inv-loop : tie.InvT-loop
-Inv-loop input₀ len chunk at₀ i₀ input at i = (at ≤ length input) × (i ≤ length chunk) × (length input ≡ length input₀)
+sub-least : tie.Need-sub-least
+sub-least c = search needs
 
-abbrev μ-loop : tie.MeasureT-loop
-μ-loop input₀ len chunk at₀ i₀ input at i = length chunk - i
+least-requires : tie.Need-least-requires
+least-requires c κs = search needs
 
-loop-holds : tie.Need-loop-holds Inv-loop μ-loop
-loop-holds c = (search needs, search needs, refl)
+slice-aggregate-bytes : tie.Need-slice-aggregate-bytes
+slice-aggregate-bytes c = sym (length-take-le _ _ (c .before .before .least .ensures .1))
 
-shared-slice-read-input : tie.Need-shared-slice-read-input Inv-loop μ-loop
-shared-slice-read-input c = search needs
+bytes-requires : tie.Need-bytes-requires
+bytes-requires c κs = omega (arith, length-take-le (c .before .before .least .result) (c .before .before .before .before .before .args .chunk .now) (c .before .before .least .ensures .1), c .before .before .least .ensures .0, c .before .before .before .before .before .pre)
 
-slice-write-input : tie.Need-slice-write-input Inv-loop μ-loop
-slice-write-input c = search needs
-
-add-at : tie.Need-add-at Inv-loop μ-loop
-add-at c = search needs
-
-add-i : tie.Need-add-i Inv-loop μ-loop
-add-i c = search needs
-
-loop-less : tie.Need-loop-less Inv-loop μ-loop
-loop-less c = search needs
-
-loop-again : tie.Need-loop-again Inv-loop μ-loop
-loop-again c = let same = length-set (c .before .before .before .loop .input) (c .before .before .before .loop .at) (getD (c .before .before .before .before .args .chunk .now) (c .before .before .before .loop .i) 0) in (omega (arith, same, c .before .if1 .left), omega arith, same ∙ c .before .before .before .loop .inv .2)
-
-same-length : tie.Need-same-length Inv-loop μ-loop
+same-length : tie.Need-same-length
 same-length c = search needs
 
-returns : tie.Need-returns Inv-loop μ-loop
-returns c = search needs
-
-same-length-2 : tie.Need-same-length-2 Inv-loop μ-loop
-same-length-2 c = search needs
-
-returns-2 : tie.Need-returns-2 Inv-loop μ-loop
-returns-2 c = search needs
+returns : tie.Need-returns
+returns c = wrote-so-many (c .before .before .before .before .before .before .before .before .args .chunk .now) (c .before .before .before .before .before .least .ensures .2) (c .before .before .bytes .ensures)
 
 pub keep-spec : {M : Type 1} → statement M
 keep-spec =
     tie.close
-    (tie.spec
-    Inv-loop
-    μ-loop
-    loop-holds
-    same-length
-    returns
-    shared-slice-read-input
-    slice-write-input
-    add-at
-    add-i
-    loop-less
-    loop-again
-    same-length-2
-    returns-2)
+    (tie.spec sub-least least-requires slice-aggregate-bytes bytes-requires same-length returns)

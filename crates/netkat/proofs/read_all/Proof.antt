@@ -32,7 +32,7 @@ loop-less : tie.Need-loop-less Inv-loop μ-loop
 loop-less c = search needs
 
 loop-again : tie.Need-loop-again Inv-loop μ-loop
-loop-again c = (c .before .before .before .before .read-some .ensures, c .before .before .before .before .read-some .kept .0 ∙ c .before .before .before .before .before .before .before .loop .inv .1)
+loop-again c = (c .before .before .before .before .read-some .ensures .within, c .before .before .before .before .read-some .kept .0 ∙ c .before .before .before .before .before .before .before .loop .inv .1)
 
 same-length-2 : tie.Need-same-length-2 Inv-loop μ-loop
 same-length-2 c = search needs

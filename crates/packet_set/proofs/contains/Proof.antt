@@ -8,8 +8,8 @@ use Rattle.packet_set.proofs.contains.Tie as tie
 mul-word : tie.Need-mul-word
 mul-word c = search needs
 
-array-read-word : tie.Need-array-read-word
-array-read-word c = search needs
+element-copy-out-word : tie.Need-element-copy-out-word
+element-copy-out-word c = search needs
 
 cast-result : tie.Need-cast-result
 cast-result c = search needs
@@ -22,4 +22,4 @@ unfolding member
 returns c = shift-tests _ _
 
 pub contains-spec : {M : Type 1} → statement M
-contains-spec = tie.close (tie.spec mul-word array-read-word cast-result shr-result returns)
+contains-spec = tie.close (tie.spec mul-word element-copy-out-word cast-result shr-result returns)

@@ -1,7 +1,9 @@
 -- `exclusive_or` meets its contract: each turn of the loop does one more word. Assumes nothing.
 use Prim.Native.Nat.{_-_}
 use borrow.Author.Needs.{needs}
+use mathlib.Core.Path.{refl}
 use lib.Bits.{bitXor}
+use lib.ListN.{length}
 use Rattle.packet_set.specs.Members.{wordwise, exclusiveOrOf}
 use Rattle.packet_set.proofs.Loops.{Loop, none-done, one-done, all-done}
 use Rattle.packet_set.proofs.Words.{wordwise-none, wordwise-turn}
@@ -9,31 +11,31 @@ use Rattle.packet_set.proofs.exclusive_or.Statement.{statement}
 use Rattle.packet_set.proofs.exclusive_or.Tie as tie
 
 abbrev Inv-loop : tie.InvT-loop
-Inv-loop words a₀ b i₀ a i = Loop (λ k. wordwise bitXor k a₀ b) words 32 a i
+Inv-loop a₀ b words i₀ a i = Loop (λ k. wordwise bitXor k a₀ b) words (length a₀) a i
 
 abbrev μ-loop : tie.MeasureT-loop
-μ-loop words a₀ b i₀ a i = words - i
+μ-loop a₀ b words i₀ a i = words - i
 
 loop-holds : tie.Need-loop-holds Inv-loop μ-loop
-loop-holds c = none-done _ _ _ _ (wordwise-none bitXor _ _) (search needs)
+loop-holds c = none-done _ _ _ _ (wordwise-none bitXor _ _) refl
 
 mul-a : tie.Need-mul-a Inv-loop μ-loop
 mul-a c = search needs
 
-array-read-a : tie.Need-array-read-a Inv-loop μ-loop
-array-read-a c = search needs
+element-copy-out-a : tie.Need-element-copy-out-a Inv-loop μ-loop
+element-copy-out-a c = search needs
 
 mul-a-2 : tie.Need-mul-a-2 Inv-loop μ-loop
 mul-a-2 c = search needs
 
-array-read-a-2 : tie.Need-array-read-a-2 Inv-loop μ-loop
-array-read-a-2 c = search needs
+element-copy-out-a-2 : tie.Need-element-copy-out-a-2 Inv-loop μ-loop
+element-copy-out-a-2 c = search needs
 
 mul-a-3 : tie.Need-mul-a-3 Inv-loop μ-loop
 mul-a-3 c = search needs
 
-array-write-a : tie.Need-array-write-a Inv-loop μ-loop
-array-write-a c = search needs
+element-write-a : tie.Need-element-write-a Inv-loop μ-loop
+element-write-a c = search needs
 
 add-i : tie.Need-add-i Inv-loop μ-loop
 add-i c = search needs
@@ -42,7 +44,7 @@ loop-less : tie.Need-loop-less Inv-loop μ-loop
 loop-less c = search needs
 
 loop-again : tie.Need-loop-again Inv-loop μ-loop
-loop-again c = one-done _ _ _ _ _ _ _ (c .before .loop .inv) (c .loop-test .taken) (wordwise-turn bitXor _ _ _ _ (c .before .loop .inv .done))
+loop-again c = one-done _ _ _ _ _ _ _ (c .before .before .before .loop .inv) (c .before .before .loop-test .taken) (wordwise-turn bitXor _ _ _ _ (c .before .before .before .loop .inv .done))
 
 returns : tie.Need-returns Inv-loop μ-loop
 unfolding exclusiveOrOf
@@ -56,11 +58,11 @@ exclusive-or-spec =
     μ-loop
     loop-holds
     mul-a
-    array-read-a
+    element-copy-out-a
     mul-a-2
-    array-read-a-2
+    element-copy-out-a-2
     mul-a-3
-    array-write-a
+    element-write-a
     add-i
     loop-less
     loop-again

@@ -12,8 +12,8 @@ use Rattle.packet_set.proofs.insert.Tie as tie
 mul-set : tie.Need-mul-set
 mul-set c = search needs
 
-array-read-set : tie.Need-array-read-set
-array-read-set c = search needs
+element-copy-out-set : tie.Need-element-copy-out-set
+element-copy-out-set c = search needs
 
 cast-set : tie.Need-cast-set
 cast-set c = search needs
@@ -24,14 +24,15 @@ shl-set c = search needs
 mul-set-2 : tie.Need-mul-set-2
 mul-set-2 c = search needs
 
-array-write-set : tie.Need-array-write-set
-array-write-set c = search needs
+element-write-set : tie.Need-element-write-set
+element-write-set c = search needs
 
 returns : tie.Need-returns
 unfolding withPacket
 returns c =
-    ap (set (c .args .t1) (c .args .packet / 32)) (shift-marks 32 (getD (c .args .t1) (c .args .packet / 32) 0) (c .args .packet % 32) (omega arith))
+    let a = c .before .args in
+    ap (set (a .set .now) (a .packet / 32)) (shift-marks 32 (getD (a .set .now) (a .packet / 32) 0) (a .packet % 32) (omega arith))
 
 pub insert-spec : {M : Type 1} → statement M
 insert-spec =
-    tie.close (tie.spec mul-set array-read-set cast-set shl-set mul-set-2 array-write-set returns)
+    tie.close (tie.spec mul-set element-copy-out-set cast-set shl-set mul-set-2 element-write-set returns)

@@ -14,7 +14,7 @@ insert-requires : tie.Need-insert-requires
 insert-requires c κs = search needs
 
 returns : tie.Need-returns
-returns c = c .insert .ensures ∙ ap (λ (s : List ℕ). withPacket s (c .before .before .args .packet)) (c .before .empty .ensures)
+returns c = c .insert .ensures ∙ ap (λ (s : List ℕ). withPacket s (c .before .before .before .args .packet)) (c .before .before .empty .ensures)
 
 pub singleton-spec : {M : Type 1} → statement M
 singleton-spec = tie.close (tie.spec empty-requires insert-requires returns)

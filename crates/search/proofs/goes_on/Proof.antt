@@ -1,9 +1,4 @@
 -- `goes_on` meets its contract. Assumes nothing.
-use borrow.Author.Needs.{needs}
-use mathlib.Core.Path.{sym, ap}
-use mathlib.Core.Bool.{cond}
-use borrow.Author.Tests.{lt-ltb, le-ltb}
-use Rattle.search.specs.Step.{goesOn}
 use Rattle.search.proofs.Stepping.{goes-open, goes-done}
 use Rattle.search.proofs.goes_on.Statement.{statement}
 use Rattle.search.proofs.goes_on.Tie as tie

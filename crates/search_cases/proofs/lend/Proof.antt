@@ -1,7 +1,6 @@
 -- `search_cases::lend`: the lists that it lends are within its own, which keep their lengths.
 -- Assumes nothing.
 use borrow.Author.Needs.{needs}
-use native.Mathlib.Omega.{arith}
 use mathlib.Core.Path.{sym}
 use lib.Seq.{length-take-le}
 use Rattle.search_cases.proofs.lend.Statement.{statement}

@@ -1,7 +1,6 @@
 -- `search_cases::show_rows` ends: each turn writes one row.
 -- Assumes nothing.
 use borrow.Author.Needs.{needs}
-use native.Mathlib.Omega.{arith}
 use Prim.Native.Nat.{_-_}
 use Rattle.search_cases.proofs.show_rows.Statement.{statement}
 use Rattle.search_cases.proofs.show_rows.Tie as tie

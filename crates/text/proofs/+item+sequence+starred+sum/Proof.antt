@@ -1,10 +1,9 @@
 -- The cycle of readers: sum, sequence, starred item, item. Each calls one of a lower rank, or one after a token that it has read: the measure
 -- is four times the tokens left, and the reader's rank.
-use borrow.Author.Needs.{needs}
 use Prim.Native.Nat.{ℕ, _<_, _+_, _*_}
 use native.Mathlib.Nat.{le-refl, le-of-lt}
 use native.Mathlib.Omega.{arith}
-use mathlib.Core.Path.{_≡_, _∙_}
+use mathlib.Core.Path.{_∙_}
 use lib.ListN.{length}
 use Rattle.text.specs.Tokens.{tokensFrom, fieldNames}
 use Rattle.text.specs.Inner as level

@@ -1,10 +1,8 @@
 -- `output::bytes` meets its contract.
 use borrow.Author.Needs.{needs}
-use Prim.Native.Nat.{_-_, _+_, _≤_}
-use mathlib.Core.Path.{_≡_, refl}
+use Prim.Native.Nat.{_-_}
 use native.Mathlib.Omega.{arith}
 use lib.ListN.{length, take}
-use Rattle.console.specs.Inner.{Wrote}
 use Rattle.console.proofs.OutputLaws.{Copied, copied-none, copied-more, copied-all}
 use Rattle.console.proofs.output.bytes.Statement.{statement}
 use Rattle.console.proofs.output.bytes.Tie as tie

@@ -1,5 +1,4 @@
 -- `output::last_flag` meets its contract.
-use borrow.Author.Needs.{needs}
 use borrow.Author.Tests.{eq-eqb, ne-eqb}
 use Rattle.console.proofs.output.last_flag.Statement.{statement}
 use Rattle.console.proofs.output.last_flag.Tie as tie

@@ -1,7 +1,6 @@
 -- `output::trace` meets its contract.
 use borrow.Author.Needs.{needs}
 use Prim.Native.Nat.{_-_}
-use native.Mathlib.Omega.{arith}
 use lib.ListN.{length}
 use Rattle.console.proofs.OutputLaws.{TraceSoFar, trace-none, trace-room, trace-more, trace-all}
 use Rattle.console.proofs.output.trace.Statement.{statement}

@@ -1,5 +1,4 @@
 -- `sizes::is_digit` meets its contract.
-use borrow.Author.Needs.{needs}
 use Rattle.console.proofs.SizeLaws.{digit-below, digit-above}
 use Rattle.console.proofs.sizes.is_digit.Statement.{statement}
 use Rattle.console.proofs.sizes.is_digit.Tie as tie
