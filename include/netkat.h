@@ -75,7 +75,7 @@ void netkat_policy(const uint16_t *sizes, size_t sizes_length,
                    uint64_t *answer);
 
 /* Reads a policy's text, as "f0=0;(dup+f1<-2)*". Answers 0, number of nodes, which stand first in the three lists; or refuses
- * by 14 to 17, side 0. The place that 17 names is the length that the lists need, at most NETKAT_NODES. */
+ * by 14 to 17, side 0. 17 names the nodes needed; over NETKAT_NODES no lists suffice. */
 void netkat_read(const uint8_t *text, size_t text_length,
                  uint8_t *kind, size_t kind_length,
                  uint16_t *first, size_t first_length,
@@ -84,10 +84,12 @@ void netkat_read(const uint8_t *text, size_t text_length,
 
 /* Have two policies the same traces from every packet? Answers
  *   0, rows                        equal: the row lists hold so many rows, a table that netkat_evidence accepts
- *   1 or 2, length, entering       the left or the right policy alone has the trace of this length from the entering
- *                                  packet, which stands first in `trace`; no shorter trace tells the two apart
+ *   1 or 2, length, entering       the left or the right policy alone has a trace of this length from the entering
+ *                                  packet, and no shorter trace tells the two apart; the trace stands first in the list
+ *                                  `trace`; the entering packet is not part of it
  * or refuses by 1 to 12. Once 10 has passed, the row lists (packet, left, right, parent) hold the rows listed so far, of 11 the
- * first rows that fit, and the work list is all 0. */
+ * first rows that fit, and the work list is all 0. `parent` holds the number of the row that listed the row, counted from
+ * 0; of a starting row its own number. */
 void netkat_search(const uint16_t *sizes, size_t sizes_length,
                    const uint8_t *left_kind, size_t left_kind_length,
                    const uint16_t *left_first, size_t left_first_length,

@@ -70,25 +70,32 @@ fn load() -> String {
 }
 
 fn main() -> ExitCode {
-    let Some(options) = options() else {
-        eprintln!("usage: benchmarks [--quick] [--write FOLDER --date DATE]");
-        return ExitCode::FAILURE;
+    let options = match options() {
+        Some(options) => options,
+        None => {
+            eprintln!("usage: benchmarks [--quick] [--write FOLDER --date DATE]");
+            return ExitCode::FAILURE;
+        }
     };
     let load = load();
     // no more stack than the C interface asks for
     let worker = thread::Builder::new()
         .stack_size(netkat::STACK)
         .spawn(move || run(options.quick));
-    let Ok(Ok(measured)) = worker.map(thread::JoinHandle::join) else {
-        eprintln!("benchmarks: broken off");
-        return ExitCode::FAILURE;
+    let measured = match worker.map(thread::JoinHandle::join) {
+        Ok(Ok(measured)) => measured,
+        _ => {
+            eprintln!("benchmarks: broken off");
+            return ExitCode::FAILURE;
+        }
     };
     if options.quick {
         return ExitCode::SUCCESS;
     }
     print!("{}", report::table(&measured));
-    let (Some(folder), Some(date)) = (options.folder, options.date) else {
-        return ExitCode::SUCCESS;
+    let (folder, date) = match (options.folder, options.date) {
+        (Some(folder), Some(date)) => (folder, date),
+        _ => return ExitCode::SUCCESS,
     };
     let cores = thread::available_parallelism().map_or(1, usize::from);
     let files = [

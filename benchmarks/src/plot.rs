@@ -56,7 +56,7 @@ impl Scale {
         (self.low..=self.high).map(|power| {
             let value = 10f64.powi(power);
             let label = match power {
-                ..=-1 => format!("{value:.*}", power.unsigned_abs() as usize),
+                i32::MIN..=-1 => format!("{value:.*}", power.unsigned_abs() as usize),
                 _ => thousands(value as usize),
             };
             (label, self.at(value))

@@ -136,8 +136,9 @@ fn comparison(measured: &[Measured]) -> String {
         };
         let ratios: Vec<f64> = group().map(Measured::ratio).collect();
         let by_ratio = |a: &&Measured, b: &&Measured| a.ratio().total_cmp(&b.ratio());
-        let (Some(best), Some(worst)) = (group().min_by(by_ratio), group().max_by(by_ratio)) else {
-            continue;
+        let (best, worst) = match (group().min_by(by_ratio), group().max_by(by_ratio)) {
+            (Some(best), Some(worst)) => (best, worst),
+            _ => continue,
         };
         let _ = if ratios.len() == 1 {
             writeln!(text, "- {name}: {}", digits(best.ratio()))
@@ -160,8 +161,9 @@ fn comparison(measured: &[Measured]) -> String {
 fn flatness(measured: &[Measured]) -> String {
     let mut text = String::new();
     for (name, line) in families(measured) {
-        let (Some(first), Some(last)) = (line.first(), line.last()) else {
-            continue;
+        let (first, last) = match (line.first(), line.last()) {
+            (Some(first), Some(last)) => (first, last),
+            _ => continue,
         };
         let _ = writeln!(
             text,
@@ -188,11 +190,13 @@ pub struct PerRow {
 pub fn families(measured: &[Measured]) -> Vec<(&'static str, Vec<PerRow>)> {
     let mut families: Vec<(&'static str, Vec<PerRow>)> = Vec::new();
     for one in measured {
-        let Group::Rows(name) = one.compared.benchmark.group else {
-            continue;
+        let name = match one.compared.benchmark.group {
+            Group::Rows(name) => name,
+            _ => continue,
         };
-        let (Some((library, second)), Some(rows)) = (one.per_row(), one.compared.rows) else {
-            continue;
+        let ((library, second), rows) = match (one.per_row(), one.compared.rows) {
+            (Some(times), Some(rows)) => (times, rows),
+            _ => continue,
         };
         if families.last().map(|family| family.0) != Some(name) {
             families.push((name, Vec::new()));
@@ -286,6 +290,6 @@ const WHAT: &str = "\
   one such row repeated; one row with 1,024 next rows repeated.
 - text: one call of the reader on 1,048,576 bytes. A legal text has at most 512 nodes, so the legal one is mostly
   parentheses and blanks; the others are refused at their end.
-- console: forty checks of texts one after the other, with 4,096 rows lent: document 01's pairs, the networks, and random
+- forty checks: texts checked one after the other, with 4,096 rows lent: document 01's pairs, the networks, and random
   pairs.
 ";

@@ -16,8 +16,9 @@ fn row_order(pair: &Pair) -> (Vec<Row>, usize) {
     let mut lists = Lists::new(MOST_ROWS, 0, LEAST_WORK);
     let (left, right) = (nodes(&pair.left), nodes(&pair.right));
     let answer = search::search(&pair.sizes, left.lists(), right.lists(), lists.lend());
-    let Ok(Verdict::Equal { rows }) = answer else {
-        panic!("{}: {answer:?}", pair.name);
+    let rows = match answer {
+        Ok(Verdict::Equal { rows }) => rows,
+        _ => panic!("{}: {answer:?}", pair.name),
     };
     let order = (0..rows).map(|row| (lists.packet[row], lists.left[row], lists.right[row]));
     (order.collect(), lists.parent[rows - 1].into())

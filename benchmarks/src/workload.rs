@@ -62,7 +62,7 @@ pub enum Group {
     /// Long texts.
     Text,
     /// Checks one after the other.
-    Console,
+    Checks,
 }
 
 impl Group {
@@ -75,7 +75,7 @@ impl Group {
             Group::Rows(_) => "rows",
             Group::Evidence => "evidence",
             Group::Text => "text",
-            Group::Console => "console",
+            Group::Checks => "forty checks",
         }
     }
 }
@@ -119,7 +119,7 @@ pub fn benchmarks(extent: Extent) -> Vec<Benchmark> {
     all.extend(rows(extent));
     all.extend(tables::benchmarks(extent));
     all.extend(texts());
-    all.push(console());
+    all.push(checks());
     all
 }
 
@@ -213,18 +213,18 @@ const PAIRS: [(u16, &str, &str); 10] = [
     (1, "dup*", "(dup;dup)*"),
 ];
 
-/// Rows that a console lends.
-const CONSOLE_ROWS: usize = 4_096;
+/// Rows lent to each check.
+const CHECK_ROWS: usize = 4_096;
 /// Checks of one sitting.
 const CHECKS: usize = 40;
 
 /// Checks of texts one after the other, small ones, networks and random ones mixed.
-fn console() -> Benchmark {
+fn checks() -> Benchmark {
     let check = |sizes: &[u16], left: &[u8], right: &[u8]| Case::Texts {
         sizes: sizes.to_vec(),
         left: left.to_vec(),
         right: right.to_vec(),
-        lists: Lists::new(CONSOLE_ROWS, CONSOLE_ROWS, LEAST_WORK),
+        lists: Lists::new(CHECK_ROWS, CHECK_ROWS, LEAST_WORK),
     };
     let mut cases: Vec<Case> = PAIRS
         .iter()
@@ -251,8 +251,8 @@ fn console() -> Benchmark {
     }
     random.shuffle(&mut cases);
     Benchmark {
-        group: Group::Console,
-        name: "forty checks".to_string(),
+        group: Group::Checks,
+        name: "texts one after the other".to_string(),
         cases,
     }
 }

@@ -1,9 +1,11 @@
-//! A case run by the verified library, through the C interface.
+//! A case run by the verified library, through the C interface, or by the verified program.
 
 use netkat::lists::{self, Columns, Lent, Nodes, Numbers};
 use netkat_reference::case::Case;
 use netkat_reference::policy::OwnedLists;
 use netkat_reference::search::Lists;
+
+pub mod program;
 
 fn nodes(policy: &OwnedLists) -> Nodes<'_> {
     Nodes {
@@ -24,7 +26,7 @@ fn lent(lists: &mut Lists) -> Lent<'_> {
     }
 }
 
-/// Runs the case on its own lists; none for calls that the C interface does not have.
+/// Runs the case on its own lists; none for the program, which is no call of the C interface.
 pub fn run(case: &mut Case) -> Option<Numbers> {
     Some(match case {
         Case::Values {

@@ -6,8 +6,9 @@
 //! on once, so nested stars cost no more than other nodes. Steps of single remainders are remembered; a state's step
 //! is the union of its remainders' steps.
 
+use std::collections::hash_map::DefaultHasher;
 use std::collections::HashMap;
-use std::hash::{DefaultHasher, Hash, Hasher};
+use std::hash::{Hash, Hasher};
 use std::ops::Range;
 
 use crate::packets::{set, Packets};
@@ -250,7 +251,7 @@ impl Flow {
             seen: vec![0; points * words],
             pending: vec![0; points * words],
             spans: vec![Span::EMPTY; points],
-            active: vec![0; points.div_ceil(64)],
+            active: vec![0; (points + 63) / 64],
             visited: Vec::new(),
             moving: vec![0; words],
             span: Span::EMPTY,

@@ -1,7 +1,6 @@
 //! One call with its inputs and lent lists: run it, print it, sum up what it left.
 
 use std::fmt::Write;
-use std::str::FromStr;
 
 use crate::answer::{Numbered, Numbers};
 use crate::evidence::{self, Table};
@@ -131,8 +130,9 @@ fn checksum<T: Entry>(list: &[T]) -> u64 {
 /// A list as `length:v v v`; the last number printed stands for all entries that follow.
 fn list<T: Entry>(entries: &[T]) -> String {
     let mut printed = format!("{}:", entries.len());
-    let Some(last) = entries.last() else {
-        return printed;
+    let last = match entries.last() {
+        Some(last) => last,
+        None => return printed,
     };
     let shown = entries
         .iter()
@@ -348,137 +348,6 @@ impl Case {
             Case::Trace { work, .. } => vec![checksum(work)],
             Case::Program { output, .. } => vec![checksum(output)],
         }
-    }
-
-    /// Runs the case and prints it as one line: name, inputs, answer, checksums, separated by `|`.
-    pub fn vector(mut self) -> String {
-        let mut fields = vec![self.name().to_string()];
-        fields.extend(self.inputs());
-        let answer = self.run().map(|number| number.to_string());
-        fields.push(answer.join(" "));
-        let sums: Vec<String> = self
-            .checksums()
-            .iter()
-            .map(|s| format!("{s:016x}"))
-            .collect();
-        fields.push(sums.join(" "));
-        fields.join("|")
-    }
-}
-
-/// Reads the fields of a printed case one by one.
-struct Fields<'a>(std::str::Split<'a, char>);
-
-impl Fields<'_> {
-    fn number(&mut self) -> Option<u16> {
-        self.0.next()?.parse().ok()
-    }
-
-    fn list<T: Entry + FromStr>(&mut self) -> Option<Vec<T>> {
-        let (length, given) = self.0.next()?.split_once(':')?;
-        let length = length.parse().ok()?;
-        let entries: Option<Vec<T>> = given.split_whitespace().map(|v| v.parse().ok()).collect();
-        let mut entries = entries?;
-        if let Some(&last) = entries.last() {
-            entries.resize(length, last);
-        }
-        (entries.len() == length).then_some(entries)
-    }
-
-    fn text(&mut self) -> Option<Vec<u8>> {
-        let digits = self.0.next()?;
-        (0..digits.len())
-            .step_by(2)
-            .map(|at| u8::from_str_radix(digits.get(at..at + 2)?, 16).ok())
-            .collect()
-    }
-
-    fn nodes(&mut self) -> Option<OwnedLists> {
-        Some(OwnedLists {
-            kind: self.list()?,
-            first: self.list()?,
-            second: self.list()?,
-        })
-    }
-
-    fn lists(&mut self) -> Option<Lists> {
-        Some(Lists {
-            packet: self.list()?,
-            left: self.list()?,
-            right: self.list()?,
-            parent: self.list()?,
-            trace: self.list()?,
-            work: self.list()?,
-        })
-    }
-
-    /// The three lists of a table, and the work list.
-    fn table(&mut self) -> Option<Lists> {
-        Some(Lists {
-            packet: self.list()?,
-            left: self.list()?,
-            right: self.list()?,
-            parent: Vec::new(),
-            trace: Vec::new(),
-            work: self.list()?,
-        })
-    }
-}
-
-impl Case {
-    /// Reads a case from a line that [`Case::vector`] printed; answer and checksums are not read.
-    pub fn parse(line: &str) -> Option<Case> {
-        let mut fields = Fields(line.split('|'));
-        Some(match fields.0.next()? {
-            "values" => Case::Values {
-                sizes: fields.list()?,
-                number: fields.number()?,
-                values: fields.list()?,
-            },
-            "number" => Case::Number {
-                sizes: fields.list()?,
-                values: fields.list()?,
-            },
-            "policy" => Case::Policy {
-                sizes: fields.list()?,
-                policy: fields.nodes()?,
-            },
-            "read" => Case::Read {
-                text: fields.text()?,
-                nodes: fields.nodes()?,
-            },
-            "search" => Case::Search {
-                sizes: fields.list()?,
-                left: fields.nodes()?,
-                right: fields.nodes()?,
-                lists: fields.lists()?,
-            },
-            "texts" => Case::Texts {
-                sizes: fields.list()?,
-                left: fields.text()?,
-                right: fields.text()?,
-                lists: fields.lists()?,
-            },
-            "evidence" => Case::Evidence {
-                sizes: fields.list()?,
-                left: fields.nodes()?,
-                right: fields.nodes()?,
-                lists: fields.table()?,
-            },
-            "trace" => Case::Trace {
-                sizes: fields.list()?,
-                left: fields.nodes()?,
-                right: fields.nodes()?,
-                entering: fields.number()?,
-                trace: fields.list()?,
-                work: fields.list()?,
-            },
-            "program" => Case::Program {
-                input: fields.text()?,
-                output: Vec::new(),
-            },
-            _ => return None,
-        })
     }
 }
 

@@ -1,7 +1,8 @@
 //! Which rows are listed: by state pair, the set of its packets.
 
+use std::collections::hash_map::RandomState;
 use std::collections::HashMap;
-use std::hash::{BuildHasher, Hasher, RandomState};
+use std::hash::{BuildHasher, Hasher};
 
 use crate::automaton::State;
 use crate::packets::{set, Packets};
@@ -62,7 +63,7 @@ impl RowSet {
     pub fn new(packets: &Packets) -> RowSet {
         RowSet {
             words: packets.words(),
-            places: HashMap::with_hasher(Mixing(RandomState::new().hash_one(0u64))),
+            places: HashMap::with_hasher(Mixing(RandomState::new().build_hasher().finish())),
             sets: Vec::new(),
             last: None,
         }

@@ -1,8 +1,7 @@
 //! NetKAT policy equivalence: a second implementation, unverified.
 //!
 //! It is written from the requirements and the papers they name, not from the verified code, so that the two can be
-//! compared: [`generate`] makes random inputs, [`case`] runs them, the binary `vectors` prints them with the expected
-//! answers. It is also the baseline of the benchmarks.
+//! compared: [`generate`] makes random inputs, [`case`] runs them. It is also the baseline of the benchmarks.
 //!
 //! Every public call takes lists of any length with any contents, answers a result or a numbered refusal
 //! ([`answer::Refusal`]), and never panics.

@@ -68,7 +68,7 @@ impl Packets {
     pub fn has(&self, field: u16, value: u16) -> bool {
         self.sizes
             .get(usize::from(field))
-            .is_some_and(|&size| usize::from(value) < size)
+            .map_or(false, |&size| usize::from(value) < size)
     }
 
     /// The value of a field in a packet.
@@ -88,7 +88,7 @@ impl Packets {
 
     /// Words of a set of packets.
     pub fn words(&self) -> usize {
-        self.count.div_ceil(64)
+        (self.count + 63) / 64
     }
 }
 

@@ -29,8 +29,9 @@ fn parse(input: &[u8]) -> Result<Request<'_>, Refusal> {
     if input.len() > MOST_INPUT {
         return Err(malformed);
     }
-    let [sizes, left, right] = lines(input)[..] else {
-        return Err(malformed);
+    let (sizes, left, right) = match lines(input)[..] {
+        [sizes, left, right] => (sizes, left, right),
+        _ => return Err(malformed),
     };
     let sizes: Option<Vec<u16>> = sizes.split(|&byte| byte == b',').map(number_word).collect();
     Ok((sizes.ok_or(malformed)?, left, right))

@@ -201,8 +201,9 @@ impl Parser<'_> {
             _ => return Err(self.unexpected()),
         };
         self.next += 1;
-        let Some(Token::Number(value)) = self.peek() else {
-            return Err(self.unexpected());
+        let value = match self.peek() {
+            Some(Token::Number(value)) => value,
+            _ => return Err(self.unexpected()),
         };
         self.next += 1;
         Ok(self.nodes.push(act, field, value))

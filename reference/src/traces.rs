@@ -38,8 +38,9 @@ pub fn check(
 
 /// Is the trace one of the policy's from the entering packet?
 fn has_trace(packets: &Packets, policy: &Policy, entering: usize, trace: &[u16]) -> bool {
-    let Some((&last, recorded)) = trace.split_last() else {
-        return false;
+    let (&last, recorded) = match trace.split_last() {
+        Some(parts) => parts,
+        None => return false,
     };
     let mut automaton = Automaton::new(packets, policy);
     let mut step = Step::new(packets);

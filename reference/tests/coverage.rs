@@ -105,25 +105,13 @@ fn large_cases_run() {
 }
 
 #[test]
-fn the_same_seed_gives_the_same_vectors() {
-    let lines = || {
+fn the_same_seed_gives_the_same_cases() {
+    let cases = || {
         let mut random = Random::new(5);
-        let cases: Vec<String> = (0..200)
-            .map(|_| case(&mut random, Extent::Small).vector())
-            .collect();
+        let cases: Vec<Case> = (0..200).map(|_| case(&mut random, Extent::Small)).collect();
         cases
     };
-    assert_eq!(lines(), lines());
-}
-
-#[test]
-fn vectors_say_all_there_is() {
-    let mut random = Random::new(6);
-    let at_random = (0..2000).map(|_| case(&mut random, Extent::Small));
-    for case in fixed::cases().into_iter().chain(at_random) {
-        let line = case.clone().vector();
-        assert_eq!(Case::parse(&line), Some(case));
-    }
+    assert_eq!(cases(), cases());
 }
 
 #[test]

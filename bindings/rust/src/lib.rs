@@ -70,8 +70,9 @@ impl Error for Refusal {}
 
 /// The numbers of an answer that is no refusal.
 fn accepted(answer: Numbers) -> Result<Numbers, Refusal> {
-    let [9, number, side, place, ..] = answer else {
-        return Ok(answer);
+    let (number, side, place) = match answer {
+        [9, number, side, place, ..] => (number, side, place),
+        _ => return Ok(answer),
     };
     let side = match side {
         1 => Some(Side::Left),

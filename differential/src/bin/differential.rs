@@ -1,9 +1,10 @@
 //! Holds the verified library against the second implementation: the same calls on the same lists, then the eight numbers
-//! and everything that the lists hold are compared.
+//! and everything that the lists hold are compared. The same for the built program: the same input, then the output bytes.
 //!
 //! `differential [--seed SEED] [--seconds SECONDS] [--cases COUNT]` runs the fixed cases, the pairs that cost much, then
 //! random cases until their time or count is up. Case i is made from the seed SEED + i, so that `--seed` with the number printed and
-//! `--cases 1` runs a case again. The first line has the seed; it fails at the end if any two answers differ.
+//! `--cases 1` runs a case again. The first line has the seed; it fails at the end if any two answers differ. A run of the
+//! program is a process: random inputs are skipped while these have had more than a quarter of the time.
 
 use std::collections::BTreeMap;
 use std::env;
@@ -11,10 +12,12 @@ use std::process::ExitCode;
 use std::thread;
 use std::time::{Duration, Instant, SystemTime, UNIX_EPOCH};
 
+use differential::program::Program;
 use netkat::lists::Numbers;
 use netkat_reference::case::Case;
 use netkat_reference::generate::{case, fixed, heavy, Extent};
 use netkat_reference::policy::MOST_NODES;
+use netkat_reference::program;
 use netkat_reference::random::Random;
 use netkat_reference::search::{Lists, LEAST_WORK, MOST_ROWS};
 use netkat_reference::text;
@@ -49,11 +52,12 @@ fn options() -> Option<Options> {
 }
 
 /// How often each call gave each answer, and what was not the same.
-#[derive(Default)]
 struct Tally {
+    program: Program,
     answers: BTreeMap<(&'static str, String), u64>,
-    skipped: BTreeMap<&'static str, u64>,
     different: usize,
+    /// Inputs of the program that were not run.
+    skipped: u64,
 }
 
 /// An answer's kind: its first number, with a refusal's or a rejection's second.
@@ -65,29 +69,75 @@ fn kind(answer: Numbers) -> String {
     }
 }
 
+/// The same of an output: its first word, with a refusal's number.
+fn output_kind(output: &[u8]) -> String {
+    let output = String::from_utf8_lossy(output);
+    let mut fields = output.split(',');
+    match (fields.next(), fields.next()) {
+        (Some("refused"), Some(number)) => format!("refused by {number}"),
+        (verdict, _) => verdict.unwrap_or_default().to_string(),
+    }
+}
+
+/// An output for people: its first line and its length.
+fn shown(output: &[u8]) -> String {
+    let first = output.split(|&byte| byte == b'\n').next();
+    let first = String::from_utf8_lossy(first.unwrap_or_default());
+    format!("{first:?}, {} bytes", output.len())
+}
+
 impl Tally {
     fn compare(&mut self, origin: &str, before: &Case) {
+        match before {
+            Case::Program { input, .. } => self.compare_program(origin, before, input),
+            _ => self.compare_call(origin, before),
+        }
+    }
+
+    fn compare_call(&mut self, origin: &str, before: &Case) {
         let mut here = before.clone();
-        let Some(answer) = differential::run(&mut here) else {
-            *self.skipped.entry(before.name()).or_default() += 1;
-            return;
-        };
+        let answer = differential::run(&mut here).expect("a call of the C interface");
         let mut there = before.clone();
         let expected = there.run();
-        *self
-            .answers
-            .entry((before.name(), kind(expected)))
-            .or_default() += 1;
-        if answer == expected && here == there {
-            return;
+        self.count(before, kind(expected));
+        if answer != expected || here != there {
+            self.differ(
+                origin,
+                before,
+                &format!("library {answer:?}, {:x?}", here.checksums()),
+                &format!("{expected:?}, {:x?}", there.checksums()),
+            );
         }
+    }
+
+    fn compare_program(&mut self, origin: &str, before: &Case, input: &[u8]) {
+        let expected = program::run(input);
+        self.count(before, output_kind(&expected));
+        let said = match self.program.run(input) {
+            Ok(output) if output == expected => return,
+            Ok(output) => shown(&output),
+            Err(error) => error.to_string(),
+        };
+        self.differ(
+            origin,
+            before,
+            &format!("program {said}"),
+            &shown(&expected),
+        );
+    }
+
+    fn count(&mut self, case: &Case, answer: String) {
+        *self.answers.entry((case.name(), answer)).or_default() += 1;
+    }
+
+    fn differ(&mut self, origin: &str, before: &Case, here: &str, there: &str) {
         self.different += 1;
         if self.different > MOST_SHOWN {
             return;
         }
         println!("DIFFERENT at {origin}: {}", before.name());
-        println!("  library {answer:?}, {:x?}", here.checksums());
-        println!("  second  {expected:?}, {:x?}", there.checksums());
+        println!("  {here}");
+        println!("  second  {there}");
         println!("  {}|{}", before.name(), before.inputs().join("|"));
     }
 
@@ -96,10 +146,16 @@ impl Tally {
     }
 }
 
-/// The pairs that cost much, with lists of full length.
+/// The pairs that cost much, with lists of full length, and the same as inputs of the program.
 fn heavy_cases() -> Vec<Case> {
     let mut cases = Vec::new();
     for pair in heavy::pairs() {
+        let sizes: Vec<String> = pair.sizes.iter().map(u16::to_string).collect();
+        let input = format!("{}\n{}\n{}\n", sizes.join(","), pair.left, pair.right);
+        cases.push(Case::Program {
+            input: input.into_bytes(),
+            output: Vec::new(),
+        });
         let left = text::nodes(pair.left.as_bytes(), MOST_NODES);
         let right = text::nodes(pair.right.as_bytes(), MOST_NODES);
         if let (Ok(left), Ok(right)) = (left, right) {
@@ -114,8 +170,13 @@ fn heavy_cases() -> Vec<Case> {
     cases
 }
 
-fn compare_all(options: &Options) -> Tally {
-    let mut tally = Tally::default();
+fn compare_all(options: &Options, program: Program) -> Tally {
+    let mut tally = Tally {
+        program,
+        answers: BTreeMap::new(),
+        different: 0,
+        skipped: 0,
+    };
     for (at, case) in fixed::cases().iter().enumerate() {
         tally.compare(&format!("fixed case {at}"), case);
     }
@@ -123,6 +184,7 @@ fn compare_all(options: &Options) -> Tally {
         tally.compare(&format!("heavy pair {at}"), case);
     }
     let begun = Instant::now();
+    let mut processes = Duration::ZERO;
     let mut at = 0;
     while at < options.cases && begun.elapsed() < options.time {
         let seed = options.seed.wrapping_add(at);
@@ -130,35 +192,55 @@ fn compare_all(options: &Options) -> Tally {
             0 => Extent::Large,
             _ => Extent::Small,
         };
-        tally.compare(
-            &format!("seed {seed}"),
-            &case(&mut Random::new(seed), extent),
-        );
+        let case = case(&mut Random::new(seed), extent);
+        let origin = format!("seed {seed}");
         at += 1;
+        if matches!(case, Case::Program { .. }) {
+            let before = begun.elapsed();
+            if processes <= before / 4 {
+                tally.compare(&origin, &case);
+                processes += begun.elapsed() - before;
+            } else {
+                tally.skipped += 1;
+            }
+        } else {
+            tally.compare(&origin, &case);
+        }
     }
     tally
 }
 
 fn main() -> ExitCode {
-    let Some(options) = options() else {
-        eprintln!("usage: differential [--seed SEED] [--seconds SECONDS] [--cases COUNT]");
-        return ExitCode::FAILURE;
+    let options = match options() {
+        Some(options) => options,
+        None => {
+            eprintln!("usage: differential [--seed SEED] [--seconds SECONDS] [--cases COUNT]");
+            return ExitCode::FAILURE;
+        }
+    };
+    let program = match Program::find() {
+        Ok(program) => program,
+        Err(error) => {
+            eprintln!("differential: no program to run: {error}");
+            return ExitCode::FAILURE;
+        }
     };
     println!("seed {}", options.seed);
     // no more stack than the C interface asks for
     let worker = thread::Builder::new()
         .stack_size(netkat::STACK)
-        .spawn(move || compare_all(&options));
-    let Ok(Ok(tally)) = worker.map(thread::JoinHandle::join) else {
-        eprintln!("differential: the comparison broke off");
-        return ExitCode::FAILURE;
+        .spawn(move || compare_all(&options, program));
+    let tally = match worker.map(thread::JoinHandle::join) {
+        Ok(Ok(tally)) => tally,
+        _ => {
+            eprintln!("differential: the comparison broke off");
+            return ExitCode::FAILURE;
+        }
     };
     for ((name, answer), count) in &tally.answers {
         println!("{name:8} {answer:20} {count}");
     }
-    for (name, count) in &tally.skipped {
-        println!("{name:8} not in the C interface {count}");
-    }
+    println!("program  skipped              {}", tally.skipped);
     println!("{} compared, {} different", tally.total(), tally.different);
     if tally.different == 0 && tally.total() > 0 {
         ExitCode::SUCCESS

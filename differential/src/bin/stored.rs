@@ -256,7 +256,7 @@ fn main() -> ExitCode {
     for (name, text) in [("stdin", &stored.given), ("stdout", &stored.expected)] {
         let path = folder.join(name);
         let good = if check {
-            fs::read(&path).is_ok_and(|held| held == text.as_bytes())
+            fs::read(&path).map_or(false, |held| held == text.as_bytes())
         } else {
             fs::write(&path, text).is_ok()
         };

@@ -491,8 +491,9 @@ fn tamper(random: &mut Random, rows: &mut Vec<Row>) {
 
 /// A trace of a policy from a packet: at random on to a marked packet, or out.
 fn walk(random: &mut Random, packets: &Packets, lists: &OwnedLists, entering: usize) -> Vec<u16> {
-    let Ok(policy) = policy::single(packets, lists.lists()) else {
-        return Vec::new();
+    let policy = match policy::single(packets, lists.lists()) {
+        Ok(policy) => policy,
+        Err(_) => return Vec::new(),
     };
     let mut automaton = Automaton::new(packets, &policy);
     let mut step = Step::new(packets);
@@ -590,10 +591,25 @@ fn program(random: &mut Random, extent: Extent) -> Case {
         let length = 32_768 + random.below(2);
         input.resize(length.max(input.len()), b' ');
     }
+    if random.one_in(6) {
+        widen(random, &mut input);
+    }
     Case::Program {
         input,
         output: Vec::new(),
     }
+}
+
+/// Puts blanks before the left text. A program may read blocks of 4,096 bytes: the input often ends next to a block's end.
+fn widen(random: &mut Random, input: &mut Vec<u8>) {
+    let length = match random.below(2) {
+        0 => 4_096 * random.between(1, 8) + random.below(3) - 1,
+        _ => random.between(4_097, 32_768),
+    };
+    let first_end = input.iter().position(|&byte| byte == b'\n');
+    let at = first_end.map_or(0, |end| end + 1);
+    let blanks = length.saturating_sub(input.len());
+    input.splice(at..at, vec![b' '; blanks]);
 }
 
 /// A sizes line, mostly malformed.

@@ -431,6 +431,10 @@ fn inputs() -> Vec<String> {
     inputs.push(format!("2\n{}\nid", dups(32, "+")));
     inputs.push(format!("1024\n{0}\n{0}", dups(3, ";")));
     inputs.push(format!("1024\n{0}\n{0}", dups(4, ";")));
+    // a text that ends next to the end of a block of 4,096 bytes
+    for width in [4_084, 4_085, 4_086, 8_181] {
+        inputs.push(format!("2\n{:>width$}\ndup;f0=0", "f0=0;dup"));
+    }
     inputs.push(format!("{:<32768}", "2\nid\nid"));
     inputs.push(format!("{:<32769}", "2\nid\nid"));
     inputs
