@@ -261,8 +261,8 @@ What is known of the causes, from how the two are built and from profiles of som
 - The second implementation compiles a policy to a graph once and remembers what each remainder does at each packet; a
   state's step is then a union of remembered ones. The library works each step out anew from the nodes, and keeps nothing
   but the rows and their index. This should tell most where many rows share few remainders and packets, as in the groups
-  rows and evidence, and least where each step is new to both, as in nondet. On many rows about two thirds of the library's
-  time go into sets on their way through the nodes; on many dups about four fifths go into marking next, packet by packet.
+  rows and evidence, and least where each step is new to both, as in nondet. In a profile of many rows seven tenths of
+  the library's time go into sets on their way through the nodes; of many dups, nine tenths into marking next, packet by packet.
 - In a table the second implementation handles repeats of a row once, the library each of them.
 - The second implementation's index is seeded at random. The library's is fixed, so a stranger can choose rows that share a
   bucket. Each packet has buckets of its own, which bounds the harm: to look up all next rows of one row walks each row of
