@@ -10,7 +10,7 @@ use Rattle.packet.specs.declared.Tested.{Tested}
 use Rattle.packet.specs.declared.Tested.the-variants.{Passed, Refused as Stopped}
 use Rattle.packet.specs.Sizes.{product}
 use Rattle.packet.proofs.Stages.{firstOf-next, firstOf-passed, firstOf-last}
-use Rattle.policy.specs.Answers.{pairTests}
+use Rattle.policy.specs.Tests.{pairTests}
 use Rattle.policy.specs.NodeLists.{NodeLists}
 use Rattle.system.specs.RowOrder.{held}
 use Rattle.pair.specs.Sides.{Side, left, right, policies}
@@ -19,11 +19,12 @@ use Rattle.pair.specs.Search.{SearchAnswer, equal, columnsOf, heldColumns}
 use Rattle.pair.specs.TraceCheck.{only}
 use Rattle.pair.proofs.Lawful.{legal-pair}
 use Rattle.pair.proofs.Verdicts.{equal-same}
-use Rattle.rows.specs.Lent.{lentTests}
-use Rattle.rows.specs.Written.{written}
-use Rattle.search.specs.declared.Verdict.{Verdict}
-use Rattle.search.specs.declared.Verdict.the-variants.{Equal}
-use Rattle.search.specs.Call.{tellingVerdict, verdictOf, traceAfter, Lent, filled, verdictAfter, lentAfter, searchTests, answerHere, rowsHere, searchVerdict, searchLeaves, Searched}
+use Rattle.lent.specs.Lent.{lentTests}
+use Rattle.lent.specs.Written.{written}
+use Rattle.verdict.specs.declared.Verdict.{Verdict}
+use Rattle.verdict.specs.declared.Verdict.the-variants.{Equal}
+use Rattle.verdict.specs.Verdicts.{tellingVerdict, verdictOf, traceAfter}
+use Rattle.search.specs.Call.{Lent, filled, verdictAfter, lentAfter, searchTests, answerHere, rowsHere, searchVerdict, searchLeaves, Searched}
 use Rattle.search.proofs.Answering.{equal-of, telling-of, accepts}
 use Rattle.evidence.specs.declared.Evidence.the-variants.{Accepted}
 use Rattle.evidence.specs.Calls.{evidenceCall}

@@ -8,7 +8,8 @@ use Rattle.packet.specs.Sizes.{product, badCount, zeroSize, productOver, fields
 use Rattle.packet.specs.Refusals.{refusal, refusedAt, atPlace, firstOf}
 use Rattle.policy.specs.NodeLists.{nodeCount, nodeOf, nodeAt, children, one, isDup, dupsBelow, grow, treeAt, policyOf}
 use Rattle.policy.specs.Legality.{badLengths, badKind, badField, used, wrongEntries, badEntries, someNotBelow, badChild, occurrences, timesChild, notOnce, maxDups, tooManyDups, cause, policiesStage}
-use Rattle.policy.specs.Answers.{sided, policyTests, pairTests, policyAnswer, pairAnswer, policyLegality, pairLegality}
+use Rattle.policy.specs.Tests.{sided, policyTests, pairTests}
+use Rattle.legality.specs.Answers.{policyAnswer, pairAnswer, policyLegality, pairLegality}
 use Rattle.policy.specs.NodesOfTree.{entry, actionEntry, treeSize, entriesFrom, listsOf, nodesOf}
 use Rattle.packet_set.specs.Bits.{bit, maskOf, onlyBits}
 use Rattle.automaton.specs.State.{anyBelow, setOf, union, takes, image, rounds, passedOn, flow, enter, outputSet, next, outputMask, nextMask}
@@ -18,11 +19,11 @@ use Rattle.pair.specs.Pair.{outputAt, nextAt, sameStates, bothZero, inOneOutput
 use Rattle.pair.specs.Search.{lastOf, sideOf, reported, searchAnswer, refusalOf, columnsOf, heldColumns}
 use Rattle.pair.specs.Rules.{andThen, brokenAt, present, breaksA, breaksB, breaksD, checkRow, checkRows, checkRules}
 use Rattle.pair.specs.Evidence.{evidenceAnswer}
-use Rattle.text.specs.Bytes.{isBlank, isLetter, isDigit, inWord}
-use Rattle.text.specs.Tokens.{fieldNames, sameWord, allDigits, decimal, leadingZero, isNumber, numberToken, fieldToken, fieldNamed, wordToken, singleMark, doubleMark, beginsDouble, markToken, wordOf, frontToken, isBad, restOfToken, placedFrom, tokensFrom, tokens}
-use Rattle.text.specs.Grammar.{constantPolicy, fieldAction}
-use Rattle.text.specs.Reading.{nothing, joinSequence, joinSum, upTo, whole, start, close, step, finish, readOn}
-use Rattle.text.specs.Answer.{badPlace, openAfter, deepPlace, stopPlace, treeRead, tooMany, answered, outcome as reading, textTree, tested, answerTo}
+use Rattle.grammar.specs.Bytes.{isBlank, isLetter, isDigit, inWord}
+use Rattle.grammar.specs.Tokens.{fieldNames, sameWord, allDigits, decimal, leadingZero, isNumber, numberToken, fieldToken, fieldNamed, wordToken, singleMark, doubleMark, beginsDouble, markToken, wordOf, frontToken, isBad, restOfToken, placedFrom, tokensFrom, tokens}
+use Rattle.grammar.specs.Grammar.{constantPolicy, fieldAction}
+use Rattle.grammar.specs.Reading.{nothing, joinSequence, joinSum, upTo, whole, start, close, step, finish, readOn}
+use Rattle.grammar.specs.Answer.{badPlace, openAfter, deepPlace, stopPlace, treeRead, tooMany, answered, outcome as reading, textTree, tested, answerTo}
 use Rattle.cases.specs.Cases.{Case, bytes, nodes, lent, answerToText, asked, whereRead, outcome, given, dups, nested, cases}
 
 pub all-as-stated : map outcome cases ≡ map (λ (c : Case). c .stated) cases

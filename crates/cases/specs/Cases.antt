@@ -8,20 +8,20 @@ use lib.ListN.{replicate}
 use Rattle.packet.specs.declared.Refusal.{Refusal}
 use Rattle.packet.specs.Refusals.{refusal}
 use Rattle.policy.specs.NodeLists.{NodeLists}
-use Rattle.policy.specs.Answers.{policyLegality, pairLegality}
-use Rattle.policy.specs.declared.legality.PairAnswer.{PairAnswer}
-use Rattle.policy.specs.declared.legality.PairAnswer.the-variants.{Legal, Refused as PairRefused}
-use Rattle.policy.specs.declared.legality.PolicyAnswer.{PolicyAnswer}
-use Rattle.policy.specs.declared.legality.PolicyAnswer.the-variants.{Legal as LegalAlone, Refused as AloneRefused}
+use Rattle.legality.specs.Answers.{policyLegality, pairLegality}
+use Rattle.legality.specs.declared.PairAnswer.{PairAnswer}
+use Rattle.legality.specs.declared.PairAnswer.the-variants.{Legal, Refused as PairRefused}
+use Rattle.legality.specs.declared.PolicyAnswer.{PolicyAnswer}
+use Rattle.legality.specs.declared.PolicyAnswer.the-variants.{Legal as LegalAlone, Refused as AloneRefused}
 use Rattle.policy.specs.NodesOfTree.{nodesOf}
 use Rattle.pair.specs.Sides.{left, right, policies}
 use Rattle.pair.specs.Search.{SearchAnswer, equal, different, rowsFull, Columns, searchAnswer, refusalOf, heldColumns}
 use Rattle.pair.specs.Rules.{Checked, accepted, ruleD}
 use Rattle.pair.specs.Evidence.{evidenceAnswer}
-use Rattle.text.specs.Tokens.{fieldNames}
-use Rattle.text.specs.Answer.{textTree, answerTo}
-use Rattle.text.specs.declared.Answer.{Answer}
-use Rattle.text.specs.declared.Answer.the-variants.{Nodes, Refused as Unread}
+use Rattle.grammar.specs.Tokens.{fieldNames}
+use Rattle.grammar.specs.Answer.{textTree, answerTo}
+use Rattle.grammar.specs.declared.Answer.{Answer}
+use Rattle.grammar.specs.declared.Answer.the-variants.{Nodes, Refused as Unread}
 
 -- the bytes of an ASCII text
 unfoldable pub bytes : String → List ℕ

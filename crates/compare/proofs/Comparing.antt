@@ -17,7 +17,7 @@ use Rattle.packet_set.specs.Members.{member, wordsFor, lowestIn, lowestAnswer, 
 use Rattle.packet_set.specs.declared.Lowest.{Lowest}
 use Rattle.packet_set.specs.declared.Lowest.the-variants.{At, Nothing}
 use Rattle.packet_set.proofs.Digits.{bit-high}
-use Rattle.packet_set.proofs.Walk.{lowest-in-only, lowest-as}
+use Rattle.packet_set.proofs.Walk.{lowest-in-only, lowest-as, found-at, found-none}
 use Rattle.packet_set.proofs.Words.{words-hold, words-within, member-exclusive-or}
 use Rattle.automaton.specs.State.{outputMask, nextMask}
 use Rattle.automaton.proofs.Laws.{outputMask-fits}
@@ -29,7 +29,6 @@ use Rattle.pair.specs.Pair.{outputAt, nextAt, inOneOutput, pairSystem}
 use Rattle.pair.specs.Search.{sideOf}
 use Rattle.evaluator.specs.Evaluation.{treeOf}
 use Rattle.evaluator.specs.Steps.{Prepared, StepReady, Stepped}
-use Rattle.evaluator.proofs.Acts.{found-at, found-none}
 use Rattle.compare.specs.declared.Compared.{Compared}
 use Rattle.compare.specs.declared.Compared.the-variants.{Same}
 use Rattle.compare.specs.Comparison.{differsAt, comparedOf, comparedSets, rowOf, answerAt, CompareReady, ComparedRow}

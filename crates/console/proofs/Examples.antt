@@ -11,7 +11,7 @@ use Rattle.packet.specs.Sizes.{product, badCount, zeroSize, productOver, fields
 use Rattle.packet.specs.Refusals.{refusal, refusedAt, atPlace, firstOf}
 use Rattle.policy.specs.NodeLists.{nodeCount, nodeOf, nodeAt, children, one, isDup, dupsBelow, grow, treeAt, policyOf}
 use Rattle.policy.specs.Legality.{badLengths, badKind, badField, used, wrongEntries, badEntries, someNotBelow, badChild, occurrences, timesChild, notOnce, maxDups, tooManyDups, cause, policiesStage}
-use Rattle.policy.specs.Answers.{sided}
+use Rattle.policy.specs.Tests.{sided}
 use Rattle.policy.specs.NodesOfTree.{entry, actionEntry, treeSize, entriesFrom, listsOf, nodesOf}
 use Rattle.packet_set.specs.Bits.{bit, maskOf, onlyBits}
 use Rattle.automaton.specs.State.{anyBelow, setOf, union, takes, image, rounds, passedOn, flow, enter, outputSet, next, outputMask, nextMask}
@@ -19,12 +19,12 @@ use Rattle.system.specs.RowOrder.{starts, sameRow, listed, append, appendNext, 
 use Rattle.pair.specs.Sides.{at, onBoth}
 use Rattle.pair.specs.Pair.{outputAt, nextAt, sameStates, bothZero, inOneOutput, bitsOfDups}
 use Rattle.pair.specs.Search.{lastOf, sideOf, reported, searchAnswer, columnsOf, heldColumns}
-use Rattle.rows.specs.Lent.{misfit, rowsMisfit, listsStage}
-use Rattle.text.specs.Bytes.{isBlank, isLetter, isDigit, inWord}
-use Rattle.text.specs.Tokens.{fieldNames, sameWord, allDigits, decimal, leadingZero, isNumber, numberToken, fieldToken, fieldNamed, wordToken, singleMark, doubleMark, beginsDouble, markToken, wordOf, frontToken, isBad, restOfToken, placedFrom, tokensFrom, tokens}
-use Rattle.text.specs.Grammar.{constantPolicy, fieldAction}
-use Rattle.text.specs.Reading.{nothing, joinSequence, joinSum, upTo, whole, start, close, step, finish, readOn}
-use Rattle.text.specs.Answer.{badPlace, openAfter, deepPlace, stopPlace, treeRead, tooMany, outcome, textTree, tested}
+use Rattle.lent.specs.Lent.{misfit, rowsMisfit, listsStage}
+use Rattle.grammar.specs.Bytes.{isBlank, isLetter, isDigit, inWord}
+use Rattle.grammar.specs.Tokens.{fieldNames, sameWord, allDigits, decimal, leadingZero, isNumber, numberToken, fieldToken, fieldNamed, wordToken, singleMark, doubleMark, beginsDouble, markToken, wordOf, frontToken, isBad, restOfToken, placedFrom, tokensFrom, tokens}
+use Rattle.grammar.specs.Grammar.{constantPolicy, fieldAction}
+use Rattle.grammar.specs.Reading.{nothing, joinSequence, joinSum, upTo, whole, start, close, step, finish, readOn}
+use Rattle.grammar.specs.Answer.{badPlace, openAfter, deepPlace, stopPlace, treeRead, tooMany, outcome, textTree, tested}
 use Rattle.texts.specs.Call.{textNodes, textStage, textsTests}
 use Rattle.console.specs.Lines.{beginsLF, isCR, onto, linesOf}
 use Rattle.console.specs.Input.{splitByCommas, isSize, allSizes, sizesOf, askedOf, askedByLines, asked}

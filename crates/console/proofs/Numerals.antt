@@ -8,7 +8,7 @@ use mathlib.Core.List.{List, [], _∷_, _++_}
 use mathlib.Core.Path.{_≡_, refl, _∙_, ap}
 use lib.Dec.{ltb}
 use borrow.Author.Tests.{lt-ltb, le-ltb}
-use Rattle.text.specs.Tokens.{decimal}
+use Rattle.grammar.specs.Tokens.{decimal}
 use Rattle.console.specs.Output.{digitsUpTo, numeral}
 
 decimal-last : (n : ℕ) (xs : List ℕ) (b : ℕ) → decimal n (xs ++ (b ∷ [])) ≡ decimal n xs * 10 + (b - 48)

@@ -12,7 +12,7 @@ use Rattle.packet.specs.declared.Tested.{Tested}
 use Rattle.packet.specs.declared.Tested.the-variants.{Passed, Refused as Stopped}
 use Rattle.packet.specs.Refusals.{refusal}
 use Rattle.packet.proofs.Stages.{firstOf-passed}
-use Rattle.policy.specs.Answers.{sided}
+use Rattle.policy.specs.Tests.{sided}
 use Rattle.policy.specs.Each.{Each}
 use Rattle.policy.specs.Legality.{Legal}
 use Rattle.policy.proofs.LegalityLaws.{stage-passes}
@@ -23,11 +23,12 @@ use Rattle.pair.specs.Search.{SearchAnswer, Columns, equal, different, rowsFull
 use Rattle.pair.proofs.Lawful.{legal-pair}
 use Rattle.pair.proofs.Verdicts as verdicts
 use Rattle.pair.proofs.Verdicts.{equal-same, searched, is-telling}
-use Rattle.rows.specs.Written.{written}
-use Rattle.rows.proofs.Written.{length-written}
-use Rattle.search.specs.declared.Verdict.{Verdict}
-use Rattle.search.specs.declared.Verdict.the-variants.{Equal}
-use Rattle.search.specs.Call.{Lent, tellingVerdict, filled, verdictOf, verdictAfter, lentAfter, traceAfter}
+use Rattle.lent.specs.Written.{written}
+use Rattle.lent.proofs.Written.{length-written}
+use Rattle.verdict.specs.declared.Verdict.{Verdict}
+use Rattle.verdict.specs.declared.Verdict.the-variants.{Equal}
+use Rattle.verdict.specs.Verdicts.{tellingVerdict, verdictOf, traceAfter}
+use Rattle.search.specs.Call.{Lent, filled, verdictAfter, lentAfter}
 use Rattle.texts.specs.Call.{textNodes, textPolicies, textsTests, textsAnswer, textsRows, textsVerdict, textsLeaves, TextsSearched}
 use Rattle.console.specs.declared.lines.Three.{Three}
 use Rattle.console.specs.declared.sizes.Sizes.{Sizes}

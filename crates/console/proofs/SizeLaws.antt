@@ -10,9 +10,9 @@ use lib.ListN.{length, getD, take, drop, set, length-set, length-take, drop-of-l
 use lib.Seq.{append-snoc, drop-cons, take-suc-set}
 use borrow.Author.Tests.{eq-eqb, ne-eqb, le-leb, lt-leb, leb-true, ltb-true, ltb-false}
 use Rattle.packet.proofs.Tests.{and-true}
-use Rattle.text.specs.Bytes.{isDigit}
-use Rattle.text.specs.Tokens.{allDigits, decimal, leadingZero, isNumber}
-use Rattle.text.specs.Inner.{numberFrom}
+use Rattle.grammar.specs.Bytes.{isDigit}
+use Rattle.grammar.specs.Tokens.{allDigits, decimal, leadingZero, isNumber}
+use Rattle.tokens.specs.Inner.{numberFrom}
 use Rattle.console.specs.Lines.{onto}
 use Rattle.console.specs.Input.{splitByCommas, isSize, allSizes, sizesOf}
 use Rattle.console.specs.Inner.{part, PartFrom, sizeOf, readAs, SizesRead}

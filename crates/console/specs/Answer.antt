@@ -7,10 +7,10 @@ use Rattle.packet.specs.Refusals.{refusal}
 use Rattle.policy.specs.Meaning.{SameTracesBelow}
 use Rattle.pair.specs.Sides.{Side}
 use Rattle.pair.specs.Search.{Distinguishes}
-use Rattle.rows.specs.Written.{written}
+use Rattle.lent.specs.Written.{written}
 use Rattle.search.specs.Call.{Lent, lent}
-use Rattle.text.specs.Tokens.{fieldNames}
-use Rattle.text.specs.Answer.{textTree}
+use Rattle.grammar.specs.Tokens.{fieldNames}
+use Rattle.grammar.specs.Answer.{textTree}
 use Rattle.texts.specs.Call.{textPolicies, textsTests, textsAnswer, textsRows}
 use Rattle.console.specs.Input.{Asked, malformed, compare, asked}
 use Rattle.console.specs.Inner.{Wrote}

@@ -5,9 +5,9 @@ use mathlib.Core.List.{List, [], _∷_, _++_}
 use mathlib.Core.Path.{_≡_}
 use lib.Dec.{eqb}
 use lib.ListN.{length, take, drop}
-use Rattle.text.specs.Tokens.{decimal}
-use Rattle.search.specs.declared.Verdict.{Verdict}
-use Rattle.search.specs.declared.Verdict.the-variants.{Equal, Left, Right, Full, Refused}
+use Rattle.grammar.specs.Tokens.{decimal}
+use Rattle.verdict.specs.declared.Verdict.{Verdict}
+use Rattle.verdict.specs.declared.Verdict.the-variants.{Equal, Left, Right, Full, Refused}
 use Rattle.console.specs.Lines.{isCR, linesOf}
 use Rattle.console.specs.Input.{splitByCommas, isSize, allSizes, sizesOf, malformed, askedByLines}
 use Rattle.console.specs.Output.{wordEqual, wordLeft, wordRight, verdictLine, rowLines, traceLines, refusalLine}

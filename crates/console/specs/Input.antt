@@ -4,7 +4,7 @@ use mathlib.Core.Bool.{Bool, true, false, _&&_, not}
 use mathlib.Core.List.{List, [], _∷_, map}
 use lib.Dec.{ltb, eqb}
 use lib.ListN.{length}
-use Rattle.text.specs.Tokens.{decimal, isNumber}
+use Rattle.grammar.specs.Tokens.{decimal, isNumber}
 use Rattle.console.specs.Lines.{onto, linesOf}
 
 -- the parts between the commas: one more than there are commas

@@ -14,8 +14,8 @@ ghost use Rattle.console.specs.Answer.{Printed, Answered};
 ghost use Rattle.packet.specs.Refusals.{refusal};
 use lines::Three;
 use packet::Refusal;
-use search::Verdict;
 use sizes::Sizes;
+use verdict::Verdict;
 
 // A refusal's line.
 fn refused(out: &mut [u8], r: Refusal) -> usize

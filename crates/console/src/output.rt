@@ -64,7 +64,7 @@ fn number_line(out: &mut [u8], at: usize, a: u64, b: u64, c: u64) -> usize
     rest(out, end, b, c)
 }
 
-// The first line.
+// Inner: the first line.
 pub fn verdict(out: &mut [u8], word: &[u8], b: u64, c: u64) -> usize
     requires { ⌜ length (now word) + 44 ≤ length (now out) ⌝ }
     ensures { λ r. ⌜ Wrote (now (out .entry)) (now (out .exit)) 0 r (verdictLine (now (word .entry)) b c) ⌝ }
@@ -86,7 +86,7 @@ fn wide32(x: u32) -> u64
     x as u64
 }
 
-// The rows. A row's line has at most 29 bytes; the line being written wants room for 64.
+// Inner: the rows. A row's line has at most 29 bytes; the line being written wants room for 64.
 pub fn rows(out: &mut [u8], from: usize, packets: &[u16], lefts: &[u32], rights: &[u32]) -> usize
     requires { ⌜ (length (now lefts) ≡ length (now packets)) × (length (now rights) ≡ length (now packets)) × (from + 29 * length (now packets) + 64 ≤ length (now out)) ⌝ }
     ensures { λ r. ⌜ Wrote (now (out .entry)) (now (out .exit)) from r (rowLines (now (packets .entry)) (now (lefts .entry)) (now (rights .entry))) ⌝ }
@@ -116,7 +116,7 @@ fn last_flag(place: usize, n: usize) -> u64
     0
 }
 
-// The packets of a trace. Place and packet are below 65,536, so that a line has no more bytes than a row's.
+// Inner: the packets of a trace. Place and packet are below 65,536, so that a line has no more bytes than a row's.
 pub fn trace(out: &mut [u8], from: usize, packets: &[u16]) -> usize
     requires { ⌜ (length (now packets) < 65536) × (from + 29 * length (now packets) + 64 ≤ length (now out)) ⌝ }
     ensures { λ r. ⌜ Wrote (now (out .entry)) (now (out .exit)) from r (traceLines 0 (now (packets .entry))) ⌝ }

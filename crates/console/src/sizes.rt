@@ -3,9 +3,9 @@ ghost use mathlib.Core.Path.{_≡_};
 ghost use mathlib.Core.Bool.{true};
 ghost use Prim.Native.Nat.{_-_, _≤_};
 ghost use lib.ListN.{length};
-ghost use Rattle.text.specs.Bytes.{isDigit};
-ghost use Rattle.text.specs.Tokens.{leadingZero};
-ghost use Rattle.text.specs.Inner.{numberFrom};
+ghost use Rattle.grammar.specs.Bytes.{isDigit};
+ghost use Rattle.grammar.specs.Tokens.{leadingZero};
+ghost use Rattle.tokens.specs.Inner.{numberFrom};
 ghost use Rattle.console.specs.Inner.{PartFrom, sizeOf, SizesRead};
 
 // How many sizes have been read.

@@ -19,7 +19,7 @@ use Rattle.policy.proofs.LabelLaws.{dups-more}
 use Rattle.policy.proofs.Trees.{children-below}
 use Rattle.policy.proofs.VisitLaws.{in-tree-le}
 use Rattle.packet_set.specs.Bits.{bit}
-use Rattle.packet_set.specs.Members.{member, wordsFor}
+use Rattle.packet_set.specs.Members.{member, wordsFor, Members, Within}
 use Rattle.packet_set.proofs.Digits.{bits-same, bit-of-zero}
 use Rattle.packet_set.proofs.Words.{words-hold, words-within}
 use Rattle.packet_set.proofs.Work.{member-slot}
@@ -30,10 +30,12 @@ use Rattle.automaton.proofs.Sets.{below, same-set, passedOn-iff, passedOn-fits}
 use Rattle.automaton.proofs.Flow.{enter-fits}
 use Rattle.automaton.proofs.Laws.{nextMask-lt, nextMask-bit}
 use Rattle.automaton.proofs.Trees.{tree-evaluable}
-use Rattle.evaluator.specs.Evaluation.{Members, Within, or, packetsOf, Below, treeOf, slots, Settled, Evaluated, Ready}
-use Rattle.evaluator.specs.Steps.{NumberedDup, Entered, Gathered, GatherReady, Cleared, StepReady, Stepped}
+use Rattle.actions.specs.Actions.{packetsOf, Below}
+use Rattle.slots.specs.Slots.{slots, Entered, Gathered, GatherReady, Cleared}
+use Rattle.actions.proofs.Packets.{packets-fit, packets-in, packets-out}
+use Rattle.evaluator.specs.Evaluation.{or, treeOf, Settled, Evaluated, Ready}
+use Rattle.evaluator.specs.Steps.{NumberedDup, StepReady, Stepped}
 use Rattle.evaluator.proofs.Settling.{or-elim, tree-of, all-out, all-in, settled-map}
-use Rattle.evaluator.proofs.Passing.{packets-fit, packets-in, packets-out}
 use Rattle.evaluator.proofs.Entering.{slot-within}
 use Rattle.evaluator.proofs.Stepping.{dup-counted}
 

@@ -21,16 +21,18 @@ use Rattle.policy.specs.Visits.{InTree}
 use Rattle.policy.proofs.Trees.{children-below, two-below, one-below}
 use Rattle.policy.proofs.VisitLaws.{in-tree-le, in-tree-self, in-tree-left, in-tree-right, in-tree-one}
 use Rattle.packet_set.specs.Bits.{bit}
-use Rattle.packet_set.specs.Members.{member, emptySet, unionOf, withPacket, lowestIn, isNone, isEmpty}
+use Rattle.packet_set.specs.Members.{member, emptySet, unionOf, withPacket, lowestIn, isNone, isEmpty, Members, Within}
 use Rattle.packet_set.proofs.Digits.{bit-of-zero, bits-below}
 use Rattle.packet_set.proofs.Words.{member-union, member-empty, member-with, length-union}
 use Rattle.packet_set.proofs.Walk.{FoundIn, lowest-in-is, empty-members}
 use Rattle.automaton.specs.Remainder.{HasDup}
 use Rattle.automaton.proofs.Tests.{either, both, true-T, T-false, eqb-true}
-use Rattle.evaluator.specs.Evaluation.{Members, Within, or, Below, treeOf, slots, Passes, Evaluated, Took, Ready}
-use Rattle.evaluator.specs.Actions.{Image, Acting}
+use Rattle.actions.specs.Actions.{Below, Image, Acting}
+use Rattle.slots.specs.Slots.{slots, Took}
+use Rattle.actions.proofs.Packets.{below-within, packets-fit}
+use Rattle.evaluator.specs.Evaluation.{or, treeOf, Passes, Evaluated, Ready}
 use Rattle.evaluator.proofs.Settling.{or-left, or-elim}
-use Rattle.evaluator.proofs.Passing.{TakesIn, Live, Apart, below-within, below-flow, packets-fit, tree-at, fields, skips, drops, lets, acts, passes-on, sums, seqs}
+use Rattle.evaluator.proofs.Passing.{TakesIn, Live, Apart, below-flow, tree-at, fields, skips, drops, lets, acts, passes-on, sums, seqs}
 use Rattle.evaluator.proofs.Looping.{Rounds, rounds-start, rounds-turn, rounds-end, rounds-below}
 use Rattle.evaluator.proofs.Entering.{few-words, slot-room, within-words, ready-child, live-marks, live-dup, took-length, took-elsewhere, takes-in, apart-slots, union-beyond, is-new}
 

@@ -20,10 +20,13 @@ use Rattle.automaton.specs.State.{Marks, PacketSet, flow, enter}
 use Rattle.automaton.proofs.Tests.{either, both}
 use Rattle.automaton.proofs.Sets.{Fits}
 use Rattle.automaton.proofs.Flow.{flow-fits}
-use Rattle.evaluator.specs.Evaluation.{Members, Within, or, packetsOf, Below, treeOf, Settled, leftOf, Passes}
+use Rattle.packet_set.specs.Members.{Members, Within}
+use Rattle.actions.specs.Actions.{packetsOf, Below}
+use Rattle.actions.proofs.Packets.{packets-fit, packets-in, packets-out, packets-map}
+use Rattle.evaluator.specs.Evaluation.{or, treeOf, Settled, leftOf, Passes}
 use Rattle.evaluator.proofs.Images.{flow-more, enter-more, star-holds, star-closed}
 use Rattle.evaluator.proofs.Settling.{or-left, or-right, or-elim, or-map, tree-of, settled-map}
-use Rattle.evaluator.proofs.Passing.{TakesIn, Live, Apart, packets-fit, packets-in, packets-out, packets-map, fields, tree-at, dup-slots, below-flow}
+use Rattle.evaluator.proofs.Passing.{TakesIn, Live, Apart, fields, tree-at, dup-slots, below-flow}
 
 -- the marks passed on so far
 abbrev pub passed : Marks → Marks → Marks → Marks

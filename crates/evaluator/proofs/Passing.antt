@@ -1,6 +1,6 @@
 -- A packet set through a node of each kind, from what its children do.
 use Prim.Native.Nat.{ℕ, suc, _<_}
-use mathlib.Core.Bool.{Bool, true, false, not, cond}
+use mathlib.Core.Bool.{Bool, true, false, cond}
 use mathlib.Core.List.{List, [], _∷_}
 use mathlib.Core.Logic.{inl, inr}
 use mathlib.Core.Path.{_≡_, refl, sym, ap, _∙_, subst}
@@ -19,11 +19,14 @@ use Rattle.policy.proofs.Trees.{children-below, two-below, tree-fields}
 use Rattle.policy.proofs.VisitLaws.{in-tree-le, in-tree-self, apart}
 use Rattle.packet_set.specs.Bits.{bit}
 use Rattle.automaton.specs.Remainder.{HasDup}
-use Rattle.automaton.specs.State.{Marks, PacketSet, setOf, takes, image, passedOn, flow, enter}
+use Rattle.automaton.specs.State.{Marks, PacketSet, takes, image, flow, enter}
 use Rattle.automaton.proofs.Tests.{both, eqb-true, same-test}
-use Rattle.automaton.proofs.Sets.{Fits, below, setOf-fits, setOf-iff, union-iff, passedOn-iff}
+use Rattle.automaton.proofs.Sets.{Fits, below, union-iff, passedOn-iff}
 use Rattle.automaton.proofs.Flow.{flow-fits, enter-fits}
-use Rattle.evaluator.specs.Evaluation.{Members, Within, or, packetsOf, Below, treeOf, Settled, leftOf, rightOf, Passes}
+use Rattle.packet_set.specs.Members.{Members, Within}
+use Rattle.actions.specs.Actions.{packetsOf, Below}
+use Rattle.actions.proofs.Packets.{packets-fit, packets-in, packets-out, packets-map}
+use Rattle.evaluator.specs.Evaluation.{or, treeOf, Settled, leftOf, rightOf, Passes}
 use Rattle.evaluator.proofs.Images.{flow-more, enter-more}
 use Rattle.evaluator.proofs.Settling.{or-left, or-right, or-elim, or-map, tree-grow, tree-of, settled-map}
 
@@ -45,26 +48,6 @@ abbrev pub Apart : NodeLists → ℕ → (ℕ → Members) → (ℕ → Members)
 Apart L c S S′ = (j : ℕ) → (InTree L c j → ⊥) → (γ : ℕ) → S j γ ≡ S′ j γ
 
 module _ (sizes : List ℕ) where
-  pub packets-fit : (X : Members) → Fits sizes (packetsOf sizes X)
-  unfolding packetsOf
-  packets-fit X = setOf-fits sizes X
-
-  pub packets-in : (X : Members) → Below sizes X → Within X (bit (packetsOf sizes X))
-  unfolding packetsOf Below
-  packets-in X b γ t = setOf-iff sizes X γ .1 (b γ t, t)
-
-  pub packets-out : (X : Members) → Within (bit (packetsOf sizes X)) X
-  unfolding packetsOf
-  packets-out X γ t = setOf-iff sizes X γ .0 t .1
-
-  pub packets-map : (X Y : Members) → Within X Y → Within (bit (packetsOf sizes X)) (bit (packetsOf sizes Y))
-  unfolding packetsOf
-  packets-map X Y f γ t = let r = setOf-iff sizes X γ .0 t in setOf-iff sizes Y γ .1 (r .0, f γ (r .1))
-
-  pub below-within : (X Y : Members) → Within X Y → Below sizes Y → Below sizes X
-  unfolding Below
-  below-within X Y f b γ t = b γ (f γ t)
-
   -- what flows out is below N
   pub below-flow : (m : Marks) (β : ℕ) (p : Policy) (Z : PacketSet) → Fits sizes Z → (X : Members) → Within X (bit (flow sizes m β p Z)) → Below sizes X
   unfolding Below

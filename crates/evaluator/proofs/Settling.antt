@@ -22,7 +22,8 @@ use Rattle.automaton.specs.State.{Marks, PacketSet, takes, anyBelow, image, rou
 use Rattle.automaton.proofs.Tests.{either, both}
 use Rattle.automaton.proofs.Sets.{Fits, union-iff, setOf-iff, anyBelow-iff, passedOn-iff, rounds-fits, round-iff}
 use Rattle.automaton.proofs.Flow.{flow-fits, enter-fits}
-use Rattle.evaluator.specs.Evaluation.{Members, Within, or, treeOf, leftOf, rightOf, Settled}
+use Rattle.packet_set.specs.Members.{Members, Within}
+use Rattle.evaluator.specs.Evaluation.{or, treeOf, leftOf, rightOf, Settled}
 
 -- ---- unions of members
 

@@ -1,11 +1,11 @@
 -- A packet set through a node, with a record of what has entered each node so far.
 use Prim.Native.Nat.{ℕ, suc, _/_, _%_, _<_, _≤_}
-use mathlib.Core.Bool.{Bool, _||_}
+use mathlib.Core.Bool.{_||_}
 use mathlib.Core.List.{List}
 use mathlib.Core.Logic.{_↔_}
 use mathlib.Core.Path.{_≡_}
 use lib.Dec.{T}
-use lib.ListN.{length, getD, take}
+use lib.ListN.{length, getD}
 use Rattle.packet.specs.Sizes.{product, LegalSizes}
 use Rattle.policy.specs.declared.Node.{Node}
 use Rattle.policy.specs.declared.Node.the-variants.{Drop, Id, Field, Dup, Sum, Seq, Star}
@@ -14,30 +14,15 @@ use Rattle.policy.specs.Tree.{Policy, drop, id, field, dup, sum, seq, star}
 use Rattle.policy.specs.Legality.{WellFormed}
 use Rattle.policy.specs.Visits.{InTree}
 use Rattle.packet_set.specs.Bits.{bit}
-use Rattle.packet_set.specs.Members.{member, wordsFor, unionOf, differenceOf}
-use Rattle.packet_set.specs.Slots.{slotAt, withSlot}
+use Rattle.packet_set.specs.Members.{Members, Within, member, wordsFor}
 use Rattle.automaton.specs.Remainder.{HasDup}
-use Rattle.automaton.specs.State.{Marks, PacketSet, setOf, takes, flow, enter}
-
--- a set by its members
-abbrev pub Members : Type 0
-Members = ℕ → Bool
-
--- the members of X are members of Y
-abbrev pub Within : Members → Members → Type 0
-Within X Y = (γ : ℕ) → T (X γ) → T (Y γ)
+use Rattle.automaton.specs.State.{Marks, takes, flow, enter}
+use Rattle.actions.specs.Actions.{packetsOf, Below}
+use Rattle.slots.specs.Slots.{slots}
 
 -- the union
 abbrev pub or : Members → Members → Members
 or X Y γ = X γ || Y γ
-
--- the number whose bits are the packets of a set
-unfoldable pub packetsOf : List ℕ → Members → PacketSet
-packetsOf sizes X = setOf sizes X
-
--- all members are below N
-unfoldable pub Below : List ℕ → Members → Type 0
-Below sizes X = (γ : ℕ) → T (X γ) → γ < product sizes
 
 -- the tree of node n
 unfoldable pub treeOf : NodeLists → ℕ → Policy
@@ -65,10 +50,6 @@ rightOf (Star c) = 0
 -- the masks of the dups in the tree of each node
 unfoldable pub DupMasks : NodeLists → List ℕ → Type 0
 DupMasks L masks = (n : ℕ) → n < nodeCount L → (i : ℕ) → T (bit (getD masks n 0) i) ↔ HasDup (treeOf L n) i
-
--- what has entered each node: slot n of the work list
-unfoldable pub slots : ℕ → List ℕ → ℕ → Members
-slots k work n = member (slotAt k n work)
 
 -- All that has entered node n, whose tree is p, has gone on: what came out is in R, given that the marked dups have passed on β.
 -- What comes out of the first part of a sequence has entered the second; what comes out of the body of a star has entered the star.
@@ -105,13 +86,6 @@ pub record Passes (sizes : List ℕ) (L : NodeLists) (β : ℕ) (p : Policy) (n 
 pub record Evaluated (sizes : List ℕ) (L : NodeLists) (k β n marks : ℕ) (X work r work′ : List ℕ) : Type 0 where
   pub passes : Passes sizes L β (treeOf L n) n (bit marks) (member X) (slots k work) (member r) (slots k work′)
   pub elsewhere : (i : ℕ) → (InTree L n (i / 32) → i % 32 < k → ⊥) → getD work′ i 0 ≡ getD work i 0
-
--- X is recorded in slot n: what was not there before is new
-pub record Took (k n : ℕ) (work X new work′ : List ℕ) : Type 0 where
-  pub fresh : new ≡ differenceOf k X (slotAt k n work)
-  pub stored : work′ ≡ withSlot k n work (unionOf k (slotAt k n work) X)
-  pub wide : length X ≡ 32
-  pub long : length new ≡ 32
 
 -- what the evaluator asks: legal sizes, well-formed lists and a node of them, k words for N packets, β and X below N, room for the slots
 pub record Ready (sizes : List ℕ) (L : NodeLists) (k β n : ℕ) (masks X work : List ℕ) : Type 0 where

@@ -1,11 +1,8 @@
 -- One step of a state: the work around the evaluator.
-use Prim.Native.Nat.{ℕ, zero, suc, _+_, _*_, _/_, _%_, _<_, _≤_}
-use mathlib.Core.Bool.{cond}
+use Prim.Native.Nat.{ℕ, zero, suc, _<_, _≤_}
 use mathlib.Core.List.{List}
-use mathlib.Core.Logic.{_↔_}
 use mathlib.Core.Path.{_≡_}
 use lib.Bits.{bitOr}
-use lib.Dec.{T}
 use lib.ListN.{length, getD}
 use Rattle.packet.specs.Sizes.{product, LegalSizes}
 use Rattle.policy.specs.declared.Node.{Node}
@@ -15,7 +12,7 @@ use Rattle.policy.specs.NodeLists.{NodeLists, nodeCount, nodeAt, dupsBelow}
 use Rattle.packet_set.specs.Bits.{bit, marked}
 use Rattle.packet_set.specs.Members.{member}
 use Rattle.automaton.specs.State.{outputMask, nextMask}
-use Rattle.evaluator.specs.Evaluation.{DupMasks, Below, treeOf, slots}
+use Rattle.evaluator.specs.Evaluation.{DupMasks, treeOf}
 
 -- the mask of the dups in the tree of a node, from the masks of its children; `label` is the number of a dup node
 unfoldable pub nodeMask : List ℕ → ℕ → Node → ℕ
@@ -41,11 +38,6 @@ KidsBelow n (Star c) = c < n
 unfoldable pub Formed : NodeLists → Type 0
 Formed L = (sizes : List ℕ) × WellFormed sizes L
 
--- bit `label` of the entry is marked for each member of the set
-pub record Marked (k label : ℕ) (X next next′ : List ℕ) : Type 0 where
-  pub inside : (γ : ℕ) → γ < 32 * k → getD next′ γ 0 ≡ cond (member X γ) (marked (getD next γ 0) label) (getD next γ 0)
-  pub beyond : (γ : ℕ) → 32 * k ≤ γ → getD next′ γ 0 ≡ getD next γ 0
-
 -- node v, one of the first n, is the dup with number i
 pub record NumberedDup (L : NodeLists) (n i v : ℕ) : Type 0 where
   pub within : v < n
@@ -63,37 +55,6 @@ pub record Prepared (L : NodeLists) (masks places : List ℕ) : Type 0 where
   pub dups : DupMasks L masks
   pub masked : nodeCount L ≤ length masks
   pub placed : DupPlaces L (nodeCount L) (length places) places
-
--- γ has entered the dup with number i, one of those at the first n places
-pub record Entered (places : List ℕ) (k n : ℕ) (work : List ℕ) (γ i : ℕ) : Type 0 where
-  pub place : ℕ
-  pub within : place < n
-  pub label : i ≡ suc place
-  pub entered : T (slots k work (getD places place 0) γ)
-
--- the entries below N mark the dups at the first n places that have been entered; the others are as they were
-pub record Gathered (places : List ℕ) (k N n : ℕ) (work next next′ : List ℕ) : Type 0 where
-  pub inside : (γ i : ℕ) → γ < N → T (bit (getD next′ γ 0) i) ↔ Entered places k n work γ i
-  pub beyond : (γ : ℕ) → N ≤ γ → getD next′ γ 0 ≡ getD next γ 0
-
--- the entries from m to before n are 0, the others as they were
-pub record Zeroed (m n : ℕ) (list list′ : List ℕ) : Type 0 where
-  pub inside : (i : ℕ) → m ≤ i → i < n → getD list′ i 0 ≡ 0
-  pub beyond : (i : ℕ) → (m ≤ i → i < n → ⊥) → getD list′ i 0 ≡ getD list i 0
-
--- what gathering asks: only packets below N have entered the dups
-pub record GatherReady (places : List ℕ) (k N : ℕ) (work next : List ℕ) : Type 0 where
-  pub few : k ≤ 32
-  pub labels : length places < 32
-  pub slotRoom : (i : ℕ) → i < length places → 32 * getD places i 0 + k ≤ length work
-  pub words : N ≤ 32 * k
-  pub room : N ≤ length next
-  pub below : (i : ℕ) → i < length places → (γ : ℕ) → T (slots k work (getD places i 0) γ) → γ < N
-
--- the first k words of the first n slots are 0, and all else is as it was
-pub record Cleared (k n : ℕ) (work work′ : List ℕ) : Type 0 where
-  pub inside : (i : ℕ) → i / 32 < n → i % 32 < k → getD work′ i 0 ≡ 0
-  pub beyond : (i : ℕ) → (i / 32 < n → i % 32 < k → ⊥) → getD work′ i 0 ≡ getD work i 0
 
 -- what a step asks
 pub record StepReady (sizes : List ℕ) (L : NodeLists) (masks places : List ℕ) (count root β : ℕ) (next work : List ℕ) : Type 0 where

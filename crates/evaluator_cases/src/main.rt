@@ -1,9 +1,9 @@
 // Runs the steps of its input through the evaluator: the sizes, a policy's kinds, first and second entries, each list after
 // its length, then a state and a packet. It writes the packets of the output, and each packet with the state next there.
+use legality::PolicyAnswer;
 use packet::Counted;
 use packet_set::Lowest;
 use packet_set::PacketSet;
-use policy::legality::PolicyAnswer;
 
 fn output(set: PacketSet) {
     let mut from: u16 = 0;
@@ -40,8 +40,7 @@ fn states(next: &[u32]) {
 }
 
 fn step(sizes: &[u16], kind: &[u8], first: &[u16], second: &[u16], state: u32, packet: u16) {
-    let PolicyAnswer::Legal(_) = policy::legality::policy_legality(sizes, kind, first, second)
-    else {
+    let PolicyAnswer::Legal(_) = legality::policy_legality(sizes, kind, first, second) else {
         io::write_all(1, b"refused\n");
         return;
     };

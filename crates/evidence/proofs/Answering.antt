@@ -19,14 +19,15 @@ use Rattle.packet.proofs.Legal.{passed-legal}
 use Rattle.packet.proofs.Sizes.{count-packets, count-refused}
 use Rattle.packet.proofs.Tests.{or-false}
 use Rattle.packet.proofs.Stages.{firstOf-last, firstOf-refused, firstOf-next, firstOf-passed, refusedAt-passed, atPlace-none}
-use Rattle.policy.specs.declared.legality.PairAnswer.{PairAnswer}
-use Rattle.policy.specs.declared.legality.PairAnswer.the-variants.{Legal as LegalPair, Refused as PairRefused}
+use Rattle.legality.specs.declared.PairAnswer.{PairAnswer}
+use Rattle.legality.specs.declared.PairAnswer.the-variants.{Legal as LegalPair, Refused as PairRefused}
 use Rattle.policy.specs.Each.{Each}
 use Rattle.policy.specs.NodeLists.{NodeLists, nodeCount, dupsBelow, policyOf}
 use Rattle.policy.specs.Legality.{policiesStage}
-use Rattle.policy.specs.Answers.{sided, pairTests, pairAnswer, pairStage}
+use Rattle.policy.specs.Tests.{sided, pairTests}
+use Rattle.legality.specs.Answers.{pairAnswer, pairStage}
 use Rattle.policy.specs.Meaning.{SameTracesBelow}
-use Rattle.policy.proofs.AnswerLaws.{legal-pair-stage}
+use Rattle.legality.proofs.AnswerLaws.{legal-pair-stage}
 use Rattle.policy.proofs.LegalityLaws.{stage-passes}
 use Rattle.system.specs.System.{System}
 use Rattle.system.specs.RowOrder.{Entry, finished, turn, run, full, equal as allHandled, held}
@@ -39,7 +40,7 @@ use Rattle.pair.specs.Rules.{Checked, accepted, ruleA, ruleB, ruleC, ruleD, Jud
 use Rattle.pair.specs.Evidence.{tableOf, evidenceAnswer, RowRules}
 use Rattle.pair.proofs.Lawful.{EvaluablePair, legal-pair}
 use Rattle.pair.proofs.Evidence.{evidence-judged, accepted-same, evidence-iff, search-accepted, row-order-accepted}
-use Rattle.rows.specs.Lent.{misfit, rowsMisfit, listsStage, lentTests}
+use Rattle.lent.specs.Lent.{misfit, rowsMisfit, listsStage, lentTests}
 use Rattle.evidence.specs.declared.Evidence.{Evidence}
 use Rattle.evidence.specs.declared.Evidence.the-variants.{Accepted, RuleA, RuleB, RuleC, RuleD, Refused as NotChecked}
 use Rattle.evidence.specs.Calls.{reported, evidenceOf, workAfter, evidenceTests, evidenceCall, HoldRowOrder, CheckedRows}

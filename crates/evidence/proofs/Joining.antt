@@ -23,7 +23,7 @@ use Rattle.pair.specs.Pair.{bothZero, bitsOfDups, pairSystem}
 use Rattle.pair.specs.Rules.{Table, present, breaksA, breaksB}
 use Rattle.pair.specs.Evidence.{tableOf}
 use Rattle.index.specs.Columns.{Small, rowAt, sameStates, sameRow, listedBelow}
-use Rattle.evidence.specs.Presence.{maskRow, fits, zeroStates, inColumns, strays, startMissing, nextMissing}
+use Rattle.row_rules.specs.Presence.{maskRow, fits, zeroStates, inColumns, strays, startMissing, nextMissing}
 
 -- tests that agree below n find the same
 pub lowest-agree : (test other : ℕ → Bool) (n m : ℕ) → n ≡ m → ((i : ℕ) → i < m → test i ≡ other i) → lowest test n ≡ lowest other m

@@ -1,4 +1,3 @@
-pub mod Looking
 pub mod Joining
 pub mod Stepping
 pub mod Answering

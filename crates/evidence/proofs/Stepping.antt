@@ -32,9 +32,9 @@ use Rattle.evidence.specs.declared.Evidence.{Evidence}
 use Rattle.evidence.specs.declared.Evidence.the-variants.{Accepted, RuleA, RuleB, RuleC, RuleD}
 use Rattle.evidence.specs.declared.RowAnswer.{RowAnswer}
 use Rattle.evidence.specs.declared.RowAnswer.the-variants.{Keeps, Outputs, Next}
-use Rattle.evidence.specs.declared.Spot.{Spot}
-use Rattle.evidence.specs.declared.Spot.the-variants.{At, Nowhere}
-use Rattle.evidence.specs.Presence.{spotOf, strays, startMissing, nextMissing}
+use Rattle.row_rules.specs.declared.Spot.{Spot}
+use Rattle.row_rules.specs.declared.Spot.the-variants.{At, Nowhere}
+use Rattle.row_rules.specs.Presence.{spotOf, strays, startMissing, nextMissing}
 use Rattle.evidence.specs.Calls.{reported}
 use Rattle.evidence.specs.Steps.{rowTold, Lent, Cleared, Ready, RowChecked, RowsChecked, StartsChecked, TableChecked}
 use Rattle.evidence.proofs.Joining.{lowest-agree, lowest-stray, packets-small, lowest-start, missing-is}

@@ -7,7 +7,7 @@ use lib.ListN.{length, replicate}
 use Rattle.packet.specs.declared.Tested.{Tested}
 use Rattle.packet.specs.declared.Tested.the-variants.{Passed, Refused}
 use Rattle.policy.specs.NodeLists.{NodeLists, policyOf}
-use Rattle.policy.specs.Answers.{pairTests}
+use Rattle.policy.specs.Tests.{pairTests}
 use Rattle.policy.specs.Meaning.{SameTracesBelow}
 use Rattle.system.specs.RowOrder.{NeedsMore}
 use Rattle.pair.specs.Sides.{policies}
@@ -15,7 +15,7 @@ use Rattle.pair.specs.Pair.{pairSystem}
 use Rattle.pair.specs.Search.{heldColumns}
 use Rattle.pair.specs.Rules.{Checked, accepted, ruleA, ruleB, ruleC, ruleD, Judged}
 use Rattle.pair.specs.Evidence.{tableOf, evidenceAnswer, RowRules}
-use Rattle.rows.specs.Lent.{listsStage, lentTests}
+use Rattle.lent.specs.Lent.{listsStage, lentTests}
 use Rattle.evidence.specs.declared.Evidence.{Evidence}
 use Rattle.evidence.specs.declared.Evidence.the-variants.{Accepted, RuleA, RuleB, RuleC, RuleD, Refused as NotChecked}
 

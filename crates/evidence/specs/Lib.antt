@@ -1,3 +1,2 @@
-pub mod Presence
 pub mod Calls
 pub mod Steps

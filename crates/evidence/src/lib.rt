@@ -1,23 +1,19 @@
 // The evidence checker (document 01, "Row rules for evidence"): do rows that anybody made show that two policies are equal?
 ghost use mathlib.Core.Path.{_≡_};
-ghost use Prim.Native.Nat.{_<_, _≤_};
-ghost use lib.ListN.{length, getD};
-ghost use Rattle.packet.specs.Lowest.{lowest};
+ghost use Prim.Native.Nat.{_<_};
+ghost use lib.ListN.{length};
 ghost use Rattle.policy.specs.AsLists.{asLists};
 ghost use Rattle.policy.specs.NodeLists.{dupsBelow, nodeCount};
-ghost use Rattle.index.specs.Columns.{Table};
-ghost use Rattle.index.specs.Index.{Indexed};
 ghost use Rattle.compare.specs.Comparison.{BothPrepared};
-ghost use Rattle.evidence.specs.Presence.{spotOf, fits, zeroStates, strays, startMissing, nextMissing};
 ghost use Rattle.evidence.specs.Calls.{CheckedRows};
 ghost use Rattle.evidence.specs.Steps.{Lent, Cleared, Ready, RowChecked, RowsChecked, StartsChecked, TableChecked};
 use compare::Compared;
 use index::Mask;
-use index::Row;
+use legality::PairAnswer;
 use packet::Counted;
 use packet::Refusal;
 use packet::Tested;
-use policy::legality::PairAnswer;
+use row_rules::Spot;
 
 // Accepted; or the broken rule with its spot: (a) row, (b) packet, (c) row, (d) row and packet; or a refusal.
 pub enum Evidence {
@@ -29,184 +25,11 @@ pub enum Evidence {
     Refused(Refusal),
 }
 
-// The lowest spot at which a rule is broken.
-pub enum Spot {
-    At(u16),
-    Nowhere,
-}
-
-// A row keeps (c) and (d), breaks (c), or breaks (d) at a packet.
+// A row keeps (c) and (d), breaks (c), or breaks (d) at a packet. Inner.
 pub enum RowAnswer {
     Keeps,
     Outputs,
     Next(u16),
-}
-
-fn wide(x: u16) -> usize
-    ensures { λ r. ⌜ r ≡ x ⌝ }
-{
-    x as usize
-}
-
-// Rule (a) at one row.
-fn row_fits(row: Row, count: u16, left_dups: u32, right_dups: u32) -> bool
-    requires { ⌜ («left_dups» < 32) × («right_dups» < 32) ⌝ }
-    ensures { λ r. ⌜ r ≡ fits count «left_dups» «right_dups» (row .packet) (getD (row .states) 0 0) (getD (row .states) 1 0) ⌝ }
-{
-    if count <= row.packet {
-        return false;
-    }
-    let states = row.states;
-    if !packet_set::in_range(states[0], left_dups) {
-        return false;
-    }
-    packet_set::in_range(states[1], right_dups)
-}
-
-// Rule (a): the lowest row that breaks it.
-fn first_stray(
-    packets: &[u16],
-    lefts: &[Mask],
-    rights: &[Mask],
-    count: u16,
-    left_dups: u32,
-    right_dups: u32,
-) -> Spot
-    requires { ⌜ Table (now packets) (now lefts) (now rights) ⌝ }
-    requires { ⌜ length (now packets) ≤ 65535 ⌝ }
-    requires { ⌜ («left_dups» < 32) × («right_dups» < 32) ⌝ }
-    ensures { λ r. ⌜ spotOf r ≡ lowest (strays (now (packets .entry)) (now (lefts .entry)) (now (rights .entry)) count «left_dups» «right_dups») (length (now (packets .entry))) ⌝ }
-{
-    let mut i = 0;
-    while i < packets.len() {
-        if !row_fits(
-            index::row_at(packets, lefts, rights, i),
-            count,
-            left_dups,
-            right_dups,
-        ) {
-            return Spot::At(i as u16);
-        }
-        i += 1;
-    }
-    Spot::Nowhere
-}
-
-// Rule (b): the lowest packet whose starting row is missing. Rows are looked up in the search's index.
-fn first_start_missing(
-    packets: &[u16],
-    lefts: &[Mask],
-    rights: &[Mask],
-    count: u16,
-    heads: &[u16],
-    links: &[u16],
-) -> Spot
-    requires { ⌜ Indexed (now packets) (now lefts) (now rights) count (length (now packets)) (now heads) (now links) ⌝ }
-    ensures { λ r. ⌜ spotOf r ≡ lowest (startMissing (now (packets .entry)) (now (lefts .entry)) (now (rights .entry))) count ⌝ }
-{
-    let mut alpha: u16 = 0;
-    while alpha < count {
-        let row = Row {
-            packet: alpha,
-            states: [1, 1],
-        };
-        if !index::find(
-            packets,
-            lefts,
-            rights,
-            packets.len(),
-            count,
-            heads,
-            links,
-            row,
-        ) {
-            return Spot::At(alpha);
-        }
-        alpha += 1;
-    }
-    Spot::Nowhere
-}
-
-fn zero_states(left: Mask, right: Mask) -> bool
-    ensures { λ r. ⌜ r ≡ zeroStates left right ⌝ }
-{
-    if left != 0 {
-        return false;
-    }
-    right == 0
-}
-
-// Rule (d) at one packet: the next row has a state that is not 0 and is missing.
-fn next_missing(
-    packets: &[u16],
-    lefts: &[Mask],
-    rights: &[Mask],
-    count: u16,
-    heads: &[u16],
-    links: &[u16],
-    packet: u16,
-    left: Mask,
-    right: Mask,
-) -> bool
-    requires { ⌜ Indexed (now packets) (now lefts) (now rights) count (length (now packets)) (now heads) (now links) ⌝ }
-    requires { ⌜ packet < count ⌝ }
-    ensures { λ r. ⌜ r ≡ nextMissing (now (packets .entry)) (now (lefts .entry)) (now (rights .entry)) packet left right ⌝ }
-{
-    if zero_states(left, right) {
-        return false;
-    }
-    let row = Row {
-        packet,
-        states: [left, right],
-    };
-    !index::find(
-        packets,
-        lefts,
-        rights,
-        packets.len(),
-        count,
-        heads,
-        links,
-        row,
-    )
-}
-
-// Rule (d) at a row, from its next states: the lowest packet whose next row is missing.
-// In the index no two packets share a chain, so this walks the table at most once, however hostile its rows; where chains are
-// short, a packet takes a fixed time.
-fn first_next_missing(
-    packets: &[u16],
-    lefts: &[Mask],
-    rights: &[Mask],
-    count: u16,
-    heads: &[u16],
-    links: &[u16],
-    next_left: &[Mask],
-    next_right: &[Mask],
-) -> Spot
-    requires { ⌜ Indexed (now packets) (now lefts) (now rights) count (length (now packets)) (now heads) (now links) ⌝ }
-    requires { ⌜ (count ≤ length (now «next_left»)) × (count ≤ length (now «next_right»)) ⌝ }
-    ensures { λ r. ⌜ spotOf r ≡ lowest (λ γ. nextMissing (now (packets .entry)) (now (lefts .entry)) (now (rights .entry)) γ (getD (now («next_left» .entry)) γ 0) (getD (now («next_right» .entry)) γ 0)) count ⌝ }
-{
-    let mut gamma: u16 = 0;
-    while gamma < count {
-        let i = wide(gamma);
-        if next_missing(
-            packets,
-            lefts,
-            rights,
-            count,
-            heads,
-            links,
-            gamma,
-            next_left[i],
-            next_right[i],
-        ) {
-            return Spot::At(gamma);
-        }
-        gamma += 1;
-    }
-    Spot::Nowhere
 }
 
 // One row: (c), then (d).
@@ -262,7 +85,7 @@ fn row_checked(
     match compared {
         Compared::Left(_) => RowAnswer::Outputs,
         Compared::Right(_) => RowAnswer::Outputs,
-        Compared::Same => match first_next_missing(
+        Compared::Same => match row_rules::first_next_missing(
             packets,
             lefts,
             rights,
@@ -368,7 +191,7 @@ fn starts_checked(
     let mut heads = [0u16; 65536];
     let mut links = [0u16; 65536];
     index::index_all(packets, lefts, rights, count, &mut heads, &mut links);
-    match first_start_missing(packets, lefts, rights, count, &heads, &links) {
+    match row_rules::first_start_missing(packets, lefts, rights, count, &heads, &links) {
         Spot::At(alpha) => Evidence::RuleB(alpha),
         Spot::Nowhere => rows_checked(
             sizes,
@@ -410,8 +233,8 @@ fn table_checked(
     requires { ⌜ («left_dups» ≡ dupsBelow (asLists (now «left_kind») (now «left_first») (now «left_second»)) (nodeCount (asLists (now «left_kind») (now «left_first») (now «left_second»)))) × («right_dups» ≡ dupsBelow (asLists (now «right_kind») (now «right_first») (now «right_second»)) (nodeCount (asLists (now «right_kind») (now «right_first») (now «right_second»)))) ⌝ }
     ensures { λ r. ⌜ TableChecked (now (sizes .entry)) (asLists (now («left_kind» .entry)) (now («left_first» .entry)) (now («left_second» .entry))) (asLists (now («right_kind» .entry)) (now («right_first» .entry)) (now («right_second» .entry))) (now (packets .entry)) (now (lefts .entry)) (now (rights .entry)) (now (work .entry)) r (now (work .exit)) ⌝ }
 {
-    rows::clear(work);
-    match first_stray(
+    lent::clear(work);
+    match row_rules::first_stray(
         packets,
         lefts,
         rights,
@@ -457,7 +280,7 @@ pub fn check(
         Tested::Refused(r) => Evidence::Refused(r),
         Tested::Passed => match packet::packet_count(sizes) {
             Counted::Refused(r) => Evidence::Refused(r),
-            Counted::Packets(count) => match policy::legality::pair_stage(
+            Counted::Packets(count) => match legality::pair_stage(
                 sizes,
                 left_kind,
                 left_first,
@@ -468,7 +291,7 @@ pub fn check(
             ) {
                 PairAnswer::Refused(r) => Evidence::Refused(r),
                 PairAnswer::Legal(left_dups, right_dups) => {
-                    match rows::evidence_lists(
+                    match lent::evidence_lists(
                         packets.len(),
                         lefts.len(),
                         rights.len(),

@@ -3,9 +3,9 @@ use Prim.Native.Nat.{ℕ}
 use mathlib.Core.List.{List}
 use mathlib.Core.Path.{_≡_, ap, subst, _∙_}
 use Rattle.policy.specs.NodeLists.{NodeLists}
-use Rattle.text.specs.declared.Answer.{Answer}
-use Rattle.text.specs.Answer.{TextRead}
-use Rattle.search.specs.declared.Verdict.{Verdict}
+use Rattle.grammar.specs.declared.Answer.{Answer}
+use Rattle.grammar.specs.Answer.{TextRead}
+use Rattle.verdict.specs.declared.Verdict.{Verdict}
 use Rattle.search.specs.Call.{Lent, Searched}
 use Rattle.evidence.specs.declared.Evidence.{Evidence}
 use Rattle.evidence.specs.Calls.{CheckedRows}

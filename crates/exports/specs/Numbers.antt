@@ -7,12 +7,12 @@ use Rattle.turning.specs.declared.Values.{Values}
 use Rattle.turning.specs.declared.Values.the-variants.{Written, Refused as ValuesRefused}
 use Rattle.turning.specs.declared.Number.{Number}
 use Rattle.turning.specs.declared.Number.the-variants.{Packet, Refused as NumberRefused}
-use Rattle.policy.specs.declared.legality.PolicyAnswer.{PolicyAnswer}
-use Rattle.policy.specs.declared.legality.PolicyAnswer.the-variants.{Legal, Refused as PolicyRefused}
-use Rattle.text.specs.declared.Answer.{Answer}
-use Rattle.text.specs.declared.Answer.the-variants.{Nodes, Refused as TextRefused}
-use Rattle.search.specs.declared.Verdict.{Verdict}
-use Rattle.search.specs.declared.Verdict.the-variants.{Equal, Left, Right, Full, Refused as SearchRefused}
+use Rattle.legality.specs.declared.PolicyAnswer.{PolicyAnswer}
+use Rattle.legality.specs.declared.PolicyAnswer.the-variants.{Legal, Refused as PolicyRefused}
+use Rattle.grammar.specs.declared.Answer.{Answer}
+use Rattle.grammar.specs.declared.Answer.the-variants.{Nodes, Refused as TextRefused}
+use Rattle.verdict.specs.declared.Verdict.{Verdict}
+use Rattle.verdict.specs.declared.Verdict.the-variants.{Equal, Left, Right, Full, Refused as SearchRefused}
 use Rattle.evidence.specs.declared.Evidence.{Evidence}
 use Rattle.evidence.specs.declared.Evidence.the-variants.{Accepted, RuleA, RuleB, RuleC, RuleD, Refused as EvidenceRefused}
 use Rattle.traces.specs.declared.TraceChecked.{TraceChecked}

@@ -5,8 +5,8 @@ use mathlib.Core.List.{List}
 use mathlib.Core.Path.{_≡_}
 use lib.ListN.{length}
 use Rattle.policy.specs.NodeLists.{NodeLists}
-use Rattle.text.specs.Tokens.{fieldNames}
-use Rattle.text.specs.Answer.{TextRead, answerTo, shortest}
+use Rattle.grammar.specs.Tokens.{fieldNames}
+use Rattle.grammar.specs.Answer.{TextRead, answerTo, shortest}
 use Rattle.search.specs.Call.{Lent, Searched, searchVerdict}
 use Rattle.evidence.specs.Calls.{CheckedRows, evidenceCall}
 use Rattle.traces.specs.Checking.{Checked, traceCall}

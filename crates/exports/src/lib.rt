@@ -5,7 +5,7 @@ ghost use mathlib.Core.Path.{_≡_};
 ghost use lib.ListN.{length};
 ghost use Rattle.packet.specs.Packets.{numberOf};
 ghost use Rattle.policy.specs.AsLists.{asLists};
-ghost use Rattle.policy.specs.Answers.{policyLegality};
+ghost use Rattle.legality.specs.Answers.{policyLegality};
 ghost use Rattle.turning.specs.Turning.{valuesTests, valuesAnswer, valuesLeft, numberTests, numberAnswer};
 ghost use Rattle.search.specs.Call.{lent};
 ghost use Rattle.exports.specs.Numbers.{valuesNumbers, numberNumbers, policyNumbers};
@@ -44,7 +44,7 @@ pub extern "C" fn netkat_policy(
 )
     ensures { λ _. ⌜ now (answer .exit) ≡ policyNumbers (policyLegality (now (sizes .entry)) (asLists (now (kind .entry)) (now (first .entry)) (now (second .entry)))) ⌝ }
 {
-    *answer = numbers::of_policy(policy::legality::policy_legality(sizes, kind, first, second));
+    *answer = numbers::of_policy(legality::policy_legality(sizes, kind, first, second));
 }
 
 // One text read.

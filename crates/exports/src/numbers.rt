@@ -2,13 +2,13 @@
 ghost use mathlib.Core.Path.{_≡_};
 ghost use Rattle.exports.specs.Numbers.{eight, refusedNumbers, valuesNumbers, numberNumbers, policyNumbers, textNumbers, verdictNumbers, evidenceNumbers, traceNumbers};
 use evidence::Evidence;
+use grammar::Answer;
+use legality::PolicyAnswer;
 use packet::Refusal;
-use policy::legality::PolicyAnswer;
-use search::Verdict;
-use text::Answer;
 use traces::TraceChecked;
 use turning::Number;
 use turning::Values;
+use verdict::Verdict;
 
 fn numbers(a: u64, b: u64, c: u64, d: u64) -> [u64; 8]
     ensures { λ r. ⌜ r ≡ eight a b c d ⌝ }

@@ -13,6 +13,7 @@ bytes-kept {old} {new} {xs} {len} {n} h W =
     let front = length-take-le len old h in
     record {
       within = omega (arith, W .ends, ap length (W .holds), length-append (take len old ++ xs) (drop n old), length-append (take len old) xs, front);
+      grows = λ _. omega (arith, W .ends);
       before = λ _. ap (take len) (W .holds ∙ append-assoc (take len old) xs (drop n old)) ∙ take-at (take len old) (xs ++ drop n old) len front;
     }
 

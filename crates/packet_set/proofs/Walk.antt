@@ -1,6 +1,6 @@
 -- Laws of the lowest member of a set, from any packet on. Assumes nothing.
 use Prim.Native.Nat.{ℕ, _+_, _*_, _/_, _%_, _^_, _-_, _≤_, _<_}
-use mathlib.Core.Path.{_≡_, refl, sym, ap, _∙_}
+use mathlib.Core.Path.{_≡_, refl, sym, ap, _∙_, subst}
 use mathlib.Core.Bool.{Bool, true, false, _&&_, true≢false}
 use mathlib.Core.List.{List}
 use mathlib.Core.Option.{Option, none, some}
@@ -189,6 +189,27 @@ pub nothing-answer : (o : Option ℕ) → isNothing (lowestAnswer o) ≡ isNone 
 unfolding lowestAnswer
 nothing-answer none = refl
 nothing-answer (some γ) = refl
+
+pub at-same : {α γ : ℕ} → At α ≡ At γ → α ≡ γ
+at-same {α} {γ} e = cc
+
+-- what a walk finds
+module _ (k from : ℕ) (s : List ℕ) (r : Lowest) (e : r ≡ lowestAnswer (lowestIn k from s)) where
+  pub found-at : (α : ℕ) → r ≡ At α → LowestIn k from s α
+  unfolding lowestAnswer
+  found-at α h = go (lowestIn k from s) (lowest-in-is k from s) (sym e ∙ h)
+    where
+      go : (o : Option ℕ) → FoundIn k from s o → lowestAnswer o ≡ At α → LowestIn k from s α
+      go none f q = absurd (let y : _≡_ {A = ℕ} 0 1 = cc in omega arith)
+      go (some β) f q = subst (LowestIn k from s) (at-same q) f
+
+  pub found-none : r ≡ Nothing → (β : ℕ) → from ≤ β → β < 32 * k → member s β ≡ false
+  unfolding lowestAnswer
+  found-none h = go (lowestIn k from s) (lowest-in-is k from s) (sym e ∙ h)
+    where
+      go : (o : Option ℕ) → FoundIn k from s o → lowestAnswer o ≡ Nothing → (β : ℕ) → from ≤ β → β < 32 * k → member s β ≡ false
+      go none f q = f
+      go (some β) f q = absurd (let y : _≡_ {A = ℕ} 0 1 = cc in omega arith)
 
 -- two sets with the same members: their exclusive or is empty
 module _ (k : ℕ) (a b : List ℕ) (long : k ≤ length a) where

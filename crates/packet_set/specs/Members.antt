@@ -5,7 +5,7 @@ use mathlib.Core.Bool.{Bool, true, false, _&&_}
 use mathlib.Core.List.{List, [], _∷_}
 use mathlib.Core.Option.{Option, none, some}
 use lib.ListN.{getD, set, replicate}
-use lib.Dec.{leb}
+use lib.Dec.{T, leb}
 use lib.Bits.{bitOr, bitAnd, bitXor}
 use Rattle.packet_set.specs.Bits.{bit, marked}
 use Rattle.packet.specs.Lowest.{lowest}
@@ -62,3 +62,11 @@ isNone (some γ) = false
 -- no packet is in the first k words
 unfoldable pub isEmpty : ℕ → List ℕ → Bool
 isEmpty k s = isNone (lowestIn k 0 s)
+
+-- a set by its members
+abbrev pub Members : Type 0
+Members = ℕ → Bool
+
+-- the members of X are members of Y
+abbrev pub Within : Members → Members → Type 0
+Within X Y = (γ : ℕ) → T (X γ) → T (Y γ)

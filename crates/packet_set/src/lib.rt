@@ -1,4 +1,4 @@
-// Sets of packets as 32 words of 32 bits, masks, and the slots of the work list. All functions here are inner.
+// Sets of packets as 32 words of 32 bits, and masks. All functions here are inner.
 ghost use mathlib.Core.Path.{_≡_};
 ghost use Prim.Native.Nat.{_+_, _*_, _<_, _≤_};
 ghost use lib.ListN.{length};

@@ -12,6 +12,3 @@ pub mod LegalityLaws
 pub mod Postfix
 pub mod Nodes
 pub mod ReadLaws
-pub mod CauseLaws
-pub mod CountLaws
-pub mod AnswerLaws

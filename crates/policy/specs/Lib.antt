@@ -2,11 +2,10 @@ pub mod Tree
 pub mod Meaning
 pub mod NodeLists
 pub mod Legality
+pub mod Tests
 pub mod NodesOfTree
 pub mod Each
 pub mod Visits
 pub mod Transport
 pub mod Folds
 pub mod AsLists
-pub mod Counting
-pub mod Answers

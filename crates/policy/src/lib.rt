@@ -1,6 +1,5 @@
 // Policies as node lists (document 01, "Policies").
 
-pub mod legality;
 pub mod lent;
 
 // A test or a change of one field, with the field's number and the value.

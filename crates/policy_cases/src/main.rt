@@ -1,7 +1,7 @@
-// Runs the cases of its input through the public calls of `policy`: 1 or 2 (how many policies), the sizes, then of each
+// Runs the cases of its input through the public calls of `legality`: 1 or 2 (how many policies), the sizes, then of each
 // policy the kinds, the first and the second entries; each list after its length. It writes each answer.
-use policy::legality::PairAnswer;
-use policy::legality::PolicyAnswer;
+use legality::PairAnswer;
+use legality::PolicyAnswer;
 
 fn show_one(answer: PolicyAnswer) {
     match answer {
@@ -41,7 +41,7 @@ fn one(input: &[u8], sizes: &[u16], from: usize) -> usize {
     let f = firsts.count;
     let second = seconds.numbers;
     let s = seconds.count;
-    show_one(policy::legality::policy_legality(sizes, &kind[..k], &first[..f], &second[..s]));
+    show_one(legality::policy_legality(sizes, &kind[..k], &first[..f], &second[..s]));
     seconds.at
 }
 
@@ -64,7 +64,7 @@ fn two(input: &[u8], sizes: &[u16], from: usize) -> usize {
     let rf = right_firsts.count;
     let right_second = right_seconds.numbers;
     let rs = right_seconds.count;
-    show_two(policy::legality::pair_legality(
+    show_two(legality::pair_legality(
         sizes,
         &kind[..k],
         &first[..f],

@@ -24,11 +24,11 @@ use Rattle.index.specs.Columns.{rowAt}
 use Rattle.index.specs.Appending.{Lists}
 use Rattle.index.specs.Entries.{Masks, rowOf}
 use Rattle.index.proofs.Entries.{column, entries-at}
-use Rattle.rows.specs.Written.{written}
+use Rattle.lent.specs.Written.{written}
 use Rattle.rows.specs.Standing.{answerFor, Standing, Continues, pairMasks, Started}
-use Rattle.rows.specs.Lines.{lineDepth, linePath, lineStart, Rooted}
+use Rattle.lines.specs.Lines.{lineDepth, linePath, lineStart, Rooted}
 use Rattle.rows.proofs.Standing.{stands-length, drop-later}
-use Rattle.rows.proofs.Lines.{climb-rise}
+use Rattle.lines.proofs.Lines.{climb-rise}
 
 -- a list whose first entries are xs and that is as it was beyond
 written-from : (X old xs : List ℕ) (n : ℕ) → xs ≡ take n X → length xs ≡ n → drop n X ≡ drop n old → X ≡ written xs old

@@ -1,4 +1,1 @@
-pub mod Written
-pub mod Lent
 pub mod Standing
-pub mod Lines

@@ -22,16 +22,18 @@ use Rattle.pair.proofs.Lawful.{EvaluablePair, legal-pair}
 use Rattle.pair.proofs.Verdicts as verdicts
 use Rattle.index.specs.Appending.{Lists, lists}
 use Rattle.index.proofs.Growth.{indexed-none}
-use Rattle.rows.specs.Lent.{listsStage, rowsMisfit, lentTests}
-use Rattle.rows.specs.Written.{written}
+use Rattle.lent.specs.Lent.{listsStage, rowsMisfit, lentTests}
+use Rattle.lent.specs.Written.{written}
 use Rattle.rows.proofs.Searching.{holds}
-use Rattle.rows.proofs.Testing.{tests-passed, lists-passed, row-list-fits, rows-few}
-use Rattle.search.specs.declared.Stop.{Stop}
-use Rattle.search.specs.declared.Verdict.{Verdict}
-use Rattle.search.specs.declared.Verdict.the-variants.{Equal, Full, Refused}
+use Rattle.lent.proofs.Testing.{tests-passed, lists-passed, row-list-fits, rows-few}
+use Rattle.verdict.specs.declared.Stop.{Stop}
+use Rattle.verdict.specs.declared.Verdict.{Verdict}
+use Rattle.verdict.specs.declared.Verdict.the-variants.{Equal, Full, Refused}
 use Rattle.compare.specs.Comparison.{BothPrepared}
-use Rattle.search.specs.Ending.{endedAnswer, RowsReady, RowsRun}
-use Rattle.search.specs.Call.{tellingVerdict, verdictOf, traceAfter, Told, Lent, lent, filled, verdictAfter, lentAfter, searchTests, answerHere, rowsHere, searchVerdict, searchLeaves, Telling, Searched, Accepted, SearchDone}
+use Rattle.verdict.specs.Ending.{endedAnswer}
+use Rattle.verdict.specs.Verdicts.{tellingVerdict, verdictOf, traceAfter, Told}
+use Rattle.search.specs.Rows.{RowsReady, RowsRun}
+use Rattle.search.specs.Call.{Lent, lent, filled, verdictAfter, lentAfter, searchTests, answerHere, rowsHere, searchVerdict, searchLeaves, Telling, Searched, Accepted, SearchDone}
 
 zero≢one : _≡_ {A = ℕ} 0 1 → ⊥
 zero≢one z = omega arith

@@ -1,4 +1,2 @@
-pub mod Stepping
 pub mod Rounds
-pub mod Reporting
 pub mod Answering

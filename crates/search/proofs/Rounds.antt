@@ -1,5 +1,5 @@
 -- The row order round after round: how it starts, goes on and ends. Assumes nothing.
-use Prim.Native.Nat.{ℕ, suc, _+_, _-_, _<_, _≤_}
+use Prim.Native.Nat.{ℕ, suc, _+_, _<_, _≤_}
 use mathlib.Core.Bool.{Bool, true, false, cond}
 use mathlib.Core.List.{List, [], _∷_, _++_}
 use mathlib.Core.Path.{_≡_, refl, sym, ap, ap₂, _∙_, subst}
@@ -29,12 +29,13 @@ use Rattle.rows.specs.Standing.{Standing, pairMasks, Started}
 use Rattle.rows.proofs.Standing.{stands-length}
 use Rattle.rows.proofs.Growing.{SameLengths, lengths-then}
 use Rattle.rows.proofs.Searching.{Running, IsFull, stands-then, entry-at, rooted, path-line, entering-line, search-begins, start-full, search-goes, search-fills, search-ends, search-tells}
-use Rattle.search.specs.declared.Ended.{Ended}
-use Rattle.search.specs.declared.Ended.the-variants.{Done, Full}
-use Rattle.search.specs.declared.Handled.{Handled}
-use Rattle.search.specs.declared.Handled.the-variants.{Open, Stopped}
-use Rattle.search.specs.Step.{tellingAt, goesOn, runAt, afterRow, stepAnswer, stepRows, RowHandled, StepReady}
-use Rattle.search.specs.Ending.{CanRead, tellingAnswer, answerAtEnd, endedAnswer, ReadableAt, Readable, RowsReady, RowsRun}
+use Rattle.verdict.specs.declared.Ended.{Ended}
+use Rattle.verdict.specs.declared.Ended.the-variants.{Done, Full}
+use Rattle.round.specs.declared.Handled.{Handled}
+use Rattle.round.specs.declared.Handled.the-variants.{Open, Stopped}
+use Rattle.round.specs.Step.{goesOn, runAt, afterRow, stepAnswer, stepRows, RowHandled, StepReady}
+use Rattle.verdict.specs.Ending.{tellingAt, CanRead, tellingAnswer, answerAtEnd, endedAnswer, ReadableAt, Readable}
+use Rattle.search.specs.Rows.{RowsReady, RowsRun}
 
 module _ (sizes : List ℕ) (L R : NodeLists) where
   abbrev S : System

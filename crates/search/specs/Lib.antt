@@ -1,3 +1,2 @@
-pub mod Step
-pub mod Ending
+pub mod Rows
 pub mod Call

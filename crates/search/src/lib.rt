@@ -1,142 +1,16 @@
 // The search for a telling trace through the row order (document 01, "States and rows").
 ghost use mathlib.Core.Path.{_≡_};
-ghost use mathlib.Core.Bool.{cond};
-ghost use lib.ListN.{length};
 ghost use Rattle.policy.specs.AsLists.{asLists};
-ghost use Rattle.pair.specs.Sides.{left, right, policies};
 ghost use Rattle.index.specs.Appending.{lists};
-ghost use Rattle.search.specs.Step.{goesOn, RowHandled, StepReady};
-ghost use Rattle.search.specs.Ending.{CanRead, Readable, tellingAnswer, endedAnswer, RowsReady, RowsRun};
-ghost use Rattle.search.specs.Call.{Told, lent, Accepted, SearchDone, Searched};
-use compare::Compared;
+ghost use Rattle.search.specs.Rows.{RowsReady, RowsRun};
+ghost use Rattle.search.specs.Call.{lent, Accepted, SearchDone, Searched};
 use index::Appended;
 use index::Mask;
 use packet::Counted;
-use packet::Refusal;
-
-// How the row order ends.
-pub enum Ended {
-    // all rows are handled, so many
-    Done(usize),
-    // a row tells: the lowest packet that the left policy alone has in its output, or the right
-    Left(u16),
-    Right(u16),
-    // a row must be appended and the lent lists are full
-    Full,
-}
-
-// What a step of the search answers.
-pub enum Handled {
-    // there are rows to handle among so many listed
-    Open(usize),
-    Stopped(Ended),
-}
-
-// Where the row order has ended: the row being handled, and how many rows were listed before its turn; both 0 where the starting rows don't fit. Inner.
-pub struct Stop {
-    pub row: usize,
-    pub listed: usize,
-    pub ended: Ended,
-}
-
-// What the search answers.
-pub enum Verdict {
-    // the row count
-    Equal(usize),
-    // the policy that has the trace: the trace's length and the entering packet
-    Left(usize, u16),
-    Right(usize, u16),
-    // refusal 11
-    Full(Refusal),
-    // any other refusal
-    Refused(Refusal),
-}
-
-// Inner: whether all rows are handled.
-fn goes_on(handled: usize, listed: usize) -> Handled
-    ensures { λ r. ⌜ r ≡ goesOn handled listed ⌝ }
-{
-    if handled < listed {
-        return Handled::Open(listed);
-    }
-    Handled::Stopped(Ended::Done(listed))
-}
-
-// Inner: handles row `handled` of the `listed` rows: two evaluations and a lookup for each successor; a lookup walks the rows of one bucket of the
-// index. The two lists for next are the step's own: what they hold after it is left open.
-pub fn handle(
-    sizes: &[u16],
-    count: u16,
-    left_kind: &[u8],
-    left_first: &[u16],
-    left_second: &[u16],
-    left_masks: &[u32],
-    left_places: &[u16],
-    right_kind: &[u8],
-    right_first: &[u16],
-    right_second: &[u16],
-    right_masks: &[u32],
-    right_places: &[u16],
-    packets: &mut [u16],
-    lefts: &mut [Mask],
-    rights: &mut [Mask],
-    parents: &mut [u16],
-    heads: &mut [u16],
-    links: &mut [u16],
-    handled: usize,
-    listed: usize,
-    next_left: &mut [u32],
-    next_right: &mut [u32],
-    work: &mut [u32],
-) -> Handled
-    requires { ⌜ StepReady (now sizes) (asLists (now «left_kind») (now «left_first») (now «left_second»)) (asLists (now «right_kind») (now «right_first») (now «right_second»)) (now «left_masks») (now «left_places») (now «right_masks») (now «right_places») (lists (now packets) (now lefts) (now rights) (now parents) (now heads) (now links)) count listed handled (now «next_left») (now «next_right») (now work) ⌝ }
-    ensures handles { λ r. ⌜ RowHandled (now (sizes .entry)) (policies (asLists (now («left_kind» .entry)) (now («left_first» .entry)) (now («left_second» .entry))) (asLists (now («right_kind» .entry)) (now («right_first» .entry)) (now («right_second» .entry)))) (lists (now (packets .entry)) (now (lefts .entry)) (now (rights .entry)) (now (parents .entry)) (now (heads .entry)) (now (links .entry))) (lists (now (packets .exit)) (now (lefts .exit)) (now (rights .exit)) (now (parents .exit)) (now (heads .exit)) (now (links .exit))) count listed handled r ⌝ }
-    ensures kept { λ _. ⌜ now (work .exit) ≡ now (work .entry) ⌝ }
-{
-    let row = index::row_at(packets, lefts, rights, handled);
-    let states = row.states;
-    match compare::compare(
-        sizes,
-        count,
-        left_kind,
-        left_first,
-        left_second,
-        left_masks,
-        left_places,
-        right_kind,
-        right_first,
-        right_second,
-        right_masks,
-        right_places,
-        row.packet,
-        states[0],
-        states[1],
-        next_left,
-        next_right,
-        work,
-    ) {
-        Compared::Left(gamma) => Handled::Stopped(Ended::Left(gamma)),
-        Compared::Right(gamma) => Handled::Stopped(Ended::Right(gamma)),
-        Compared::Same => {
-            let Appended::Rows(n) = rows::append_next(
-                packets,
-                lefts,
-                rights,
-                parents,
-                listed,
-                count,
-                heads,
-                links,
-                handled as u16,
-                next_left,
-                next_right,
-            ) else {
-                return Handled::Stopped(Ended::Full);
-            };
-            goes_on(handled + 1, n)
-        }
-    }
-}
+use round::Handled;
+use verdict::Ended;
+use verdict::Stop;
+use verdict::Verdict;
 
 // Inner: starts the row order and handles row after row until it ends. heads and links are 0.
 fn run(
@@ -177,7 +51,7 @@ fn run(
     let mut listed = started;
     let mut handled = 0;
     loop {
-        match handle(
+        match round::handle(
             sizes,
             count,
             left_kind,
@@ -217,53 +91,6 @@ fn run(
     }
 }
 
-// Inner: the trace that ends at the row with the packet `last` is written, if there is room.
-fn tell(
-    packets: &[u16],
-    parents: &[u16],
-    listed: usize,
-    row: usize,
-    left_has: bool,
-    last: u16,
-    trace: &mut [u16],
-) -> Verdict
-    requires { ⌜ CanRead (now packets) (now parents) row listed ⌝ }
-    ensures { λ r. ⌜ Told (tellingAnswer (length (now (trace .entry))) (now (packets .entry)) (now (parents .entry)) row (cond «left_has» left right) last) (now (trace .entry)) r (now (trace .exit)) ⌝ }
-{
-    let needed = rows::trace_length(parents, listed, row);
-    if trace.len() < needed {
-        return Verdict::Refused(Refusal {
-            number: 12,
-            side: 0,
-            place: needed as u64,
-        });
-    }
-    rows::write_trace(packets, parents, listed, row, last, trace);
-    let alpha = rows::entering(packets, parents, listed, row);
-    if left_has {
-        return Verdict::Left(needed, alpha);
-    }
-    Verdict::Right(needed, alpha)
-}
-
-// Inner: the verdict where the row order has ended, and the trace.
-fn conclude(packets: &[u16], parents: &[u16], stop: Stop, trace: &mut [u16]) -> Verdict
-    requires { ⌜ Readable (now packets) (now parents) stop ⌝ }
-    ensures { λ r. ⌜ Told (endedAnswer (length (now (packets .entry))) (length (now (trace .entry))) (now (packets .entry)) (now (parents .entry)) stop) (now (trace .entry)) r (now (trace .exit)) ⌝ }
-{
-    let ended = stop.ended;
-    match ended {
-        Ended::Done(rows) => Verdict::Equal(rows),
-        Ended::Left(last) => tell(packets, parents, stop.listed, stop.row, true, last, trace),
-        Ended::Right(last) => tell(packets, parents, stop.listed, stop.row, false, last, trace),
-        Ended::Full => Verdict::Full(Refusal {
-            number: 11,
-            side: 0,
-            place: packets.len() as u64,
-        }),
-    }
-}
-
 // Inner: the search where no cause of 1 to 10 holds.
 fn search_accepted(
     sizes: &[u16],
@@ -284,7 +111,7 @@ fn search_accepted(
     requires { ⌜ Accepted (now sizes) (asLists (now «left_kind») (now «left_first») (now «left_second»)) (asLists (now «right_kind») (now «right_first») (now «right_second»)) count (lent (now packets) (now lefts) (now rights) (now parents) (now trace) (now work)) ⌝ }
     ensures { λ r. ⌜ SearchDone (now (sizes .entry)) (asLists (now («left_kind» .entry)) (now («left_first» .entry)) (now («left_second» .entry))) (asLists (now («right_kind» .entry)) (now («right_first» .entry)) (now («right_second» .entry))) (lent (now (packets .entry)) (now (lefts .entry)) (now (rights .entry)) (now (parents .entry)) (now (trace .entry)) (now (work .entry))) r (lent (now (packets .exit)) (now (lefts .exit)) (now (rights .exit)) (now (parents .exit)) (now (trace .exit)) (now (work .exit))) ⌝ }
 {
-    rows::clear(work);
+    lent::clear(work);
     let mut left_masks = [0u32; 512];
     let mut left_places = [0u16; 32];
     let left_dups = evaluator::prepare(
@@ -330,7 +157,7 @@ fn search_accepted(
         &mut next_right,
         work,
     );
-    conclude(packets, parents, stop, trace)
+    verdict::conclude(packets, parents, stop, trace)
 }
 
 // Whether two policies have the same traces from every packet: equal, or a shortest trace that one of them alone has, written to the trace list.
@@ -352,14 +179,14 @@ pub fn search(
 ) -> Verdict
     ensures { λ r. ⌜ Searched (now (sizes .entry)) (asLists (now («left_kind» .entry)) (now («left_first» .entry)) (now («left_second» .entry))) (asLists (now («right_kind» .entry)) (now («right_first» .entry)) (now («right_second» .entry))) (lent (now (packets .entry)) (now (lefts .entry)) (now (rights .entry)) (now (parents .entry)) (now (trace .entry)) (now (work .entry))) r (lent (now (packets .exit)) (now (lefts .exit)) (now (rights .exit)) (now (parents .exit)) (now (trace .exit)) (now (work .exit))) ⌝ }
 {
-    let lists = rows::search_lists(
+    let lists = lent::search_lists(
         packets.len(),
         lefts.len(),
         rights.len(),
         parents.len(),
         work.len(),
     );
-    match rows::lent_tests(
+    match lent::lent_tests(
         sizes,
         left_kind,
         left_first,

@@ -3,7 +3,7 @@
 // trace and work lists. Before the call entry i of each list is i mod 251 plus 2,001. It writes the answer; the first rows and
 // packets of the trace, of lists up to eight long; and of each list, to the last entry of the array it is a part of, one
 // number worked out of all entries.
-use search::Verdict;
+use verdict::Verdict;
 ghost use mathlib.Core.Path.{_≡_};
 ghost use Prim.Native.Nat.{_<_, _≤_};
 ghost use lib.ListN.{length};

@@ -1,13 +1,4 @@
-mod Examples
-pub mod Below
-pub mod ByteLaws
-pub mod WordLaws
-pub mod TokenLaws
-pub mod TokensLeft
-pub mod ReadLaws
 pub mod PutLaws
 pub mod StepLaws
 pub mod LoopLaws
-pub mod AnswerLaws
-pub mod GrammarLaws
-pub mod NodeLaws
+pub mod StageLaws

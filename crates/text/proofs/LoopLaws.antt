@@ -8,13 +8,14 @@ use mathlib.Core.Path.{_≡_, refl, sym, _∙_, ap}
 use lib.ListN.{length}
 use Rattle.policy.specs.NodeLists.{NodeLists}
 use Rattle.policy.specs.NodesOfTree.{entry}
-use Rattle.text.specs.Tokens.{tokensFrom, fieldNames}
-use Rattle.text.specs.Kinds.{kindAt}
-use Rattle.text.specs.Inner.{Level, item, starred, joined, sequence, added, sum, Entered, lists, putEntry, Ready, TokenFrom, LeafDone, Joined, Got, Done}
-use Rattle.text.specs.declared.tokens.Token as Found
+use Rattle.grammar.specs.Tokens.{tokensFrom, fieldNames}
+use Rattle.grammar.specs.Kinds.{kindAt}
+use Rattle.tokens.specs.Inner.{TokenFrom}
+use Rattle.text.specs.Inner.{Level, item, starred, joined, sequence, added, sum, Entered, lists, putEntry, Ready, LeafDone, Joined, Got, Done}
+use Rattle.tokens.specs.declared.Token as Found
 use Rattle.text.specs.declared.Step as Stepped
 use Rattle.text.specs.declared.Leaf as Leaves
-use Rattle.text.proofs.TokensLeft.{no-more, fewer-next}
+use Rattle.tokens.proofs.TokensLeft.{no-more, fewer-next}
 use Rattle.text.proofs.PutLaws.{size-pos}
 use Rattle.text.proofs.StepLaws.{leaf-item, star-turn, star-ends, sequence-starts, sequence-ends, sum-starts, sum-ends, done-got, done-stopped, done-as}
 
@@ -92,8 +93,8 @@ module _ (text : List ℕ) (room : ℕ) where
   sequence-fails o d = done-stopped text room o (d .stopped o)
 
   pub sum-entry : {at nodes : ℕ} {L L₁ : NodeLists} {s : Stepped.Step} → Done sequence text at nodes room L s L₁ → Done added text at nodes room L s L₁
-  unfolding Entered Rattle.text.specs.Reading.nothing
-  sum-entry d = done-as text room d (λ g. sum-starts text room g) (λ b h. ap (λ (x : Rattle.text.specs.Reading.Before). x .sequenced) h)
+  unfolding Entered Rattle.grammar.specs.Reading.nothing
+  sum-entry d = done-as text room d (λ g. sum-starts text room g) (λ b h. ap (λ (x : Rattle.grammar.specs.Reading.Before). x .sequenced) h)
 
   pub sum-exit : {at nodes : ℕ} {L L₁ : NodeLists} {s : Stepped.Step} → s .ok ≡ true → (kindAt (tokensFrom fieldNames text (s .at)) ≡ 6 → ⊥) → Done added text at nodes room L s L₁ → Done sum text at nodes room L s L₁
   sum-exit o h d = done-got text room o (sum-ends text room (d .got o) h)

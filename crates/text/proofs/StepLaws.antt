@@ -10,15 +10,16 @@ use Rattle.policy.specs.Tree.{Policy}
 use Rattle.policy.specs.Tree
 use Rattle.policy.specs.NodeLists.{NodeLists}
 use Rattle.policy.specs.NodesOfTree.{Entry, entry, actionEntry, treeSize, entriesFrom}
-use Rattle.text.specs.Tokens.{Placed, Constant, Comparison, dropped, passed, recorded, equals, differs, assigned, tokensFrom, fieldNames}
-use Rattle.text.specs.Kinds.{kindAt, constantKind, comparisonKind}
-use Rattle.text.specs.Grammar.{constantPolicy, fieldAction}
-use Rattle.text.specs.Reading.{Before, nothing, joinSequence, joinSum, upTo, whole, wants, named, compared, has, stop, readOn}
-use Rattle.text.specs.Inner.{Level, item, starred, joined, sequence, added, sum, Entered, Past, putEntry, putAll, TokenFrom, GotLeaf, LeafDone, Closed, Joined, Got, Done}
-use Rattle.text.specs.declared.tokens.Token as Found
+use Rattle.grammar.specs.Tokens.{Placed, Constant, Comparison, dropped, passed, recorded, equals, differs, assigned, tokensFrom, fieldNames}
+use Rattle.grammar.specs.Kinds.{kindAt, constantKind, comparisonKind}
+use Rattle.grammar.specs.Grammar.{constantPolicy, fieldAction}
+use Rattle.grammar.specs.Reading.{Before, nothing, joinSequence, joinSum, upTo, whole, wants, named, compared, has, stop, readOn}
+use Rattle.tokens.specs.Inner.{TokenFrom}
+use Rattle.text.specs.Inner.{Level, item, starred, joined, sequence, added, sum, Entered, Past, putEntry, putAll, GotLeaf, LeafDone, Closed, Joined, Got, Done}
+use Rattle.tokens.specs.declared.Token as Found
 use Rattle.text.specs.declared.Step as Stepped
 use Rattle.text.specs.declared.Leaf as Leaves
-use Rattle.text.proofs.ReadLaws.{constant-at, comparison-at, constant-small, comparison-small, wants-stops, named-stops, compared-stops, at-constant, at-field, at-comparison, at-number, at-opening, at-asterisk, at-semicolon, at-plus, at-closing, open-stops, collapse-sequence, collapse-sum}
+use Rattle.grammar.proofs.ReadLaws.{constant-at, comparison-at, constant-small, comparison-small, wants-stops, named-stops, compared-stops, at-constant, at-field, at-comparison, at-number, at-opening, at-asterisk, at-semicolon, at-plus, at-closing, open-stops, collapse-sequence, collapse-sum}
 use Rattle.text.proofs.PutLaws.{put-star, put-join, joinedEntries}
 
 constant-size : (c : Constant) → treeSize (constantPolicy c) ≡ 1

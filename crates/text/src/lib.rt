@@ -1,12 +1,7 @@
-// The text reader (document 01, "Text").
-// Kinds of tokens: 0 bad, 1 the end, 2 constant, 3 field, 4 number, 5 comparison, 6 +, 7 ;, 8 *, 9 (, 10 ).
+// The text reader (document 01, "Text"). Its tokens and their kinds are those of `tokens`.
+use grammar::Answer;
 use packet::Refusal;
 use packet::Tested;
-
-mod bytes;
-mod tokens;
-mod words;
-
 ghost use mathlib.Core.Path.{_≡_};
 ghost use mathlib.Core.Bool.{true, false};
 ghost use Prim.Native.Nat.{_+_, _^_, _≤_, _<_, min};
@@ -14,17 +9,11 @@ ghost use lib.ListN.{length};
 ghost use mathlib.Core.List.{[], _∷_};
 ghost use Rattle.packet.specs.Refusals.{refusal, refusedAt, firstOf};
 ghost use Rattle.policy.specs.NodesOfTree.{entry, treeSize};
-ghost use Rattle.text.specs.Tokens.{tokens, tokensFrom, fieldNames};
-ghost use Rattle.text.specs.Answer.{badPlace, deepPlace, stopPlace, tooMany, answered, outcome, textTree, answerTo, TextRead};
-ghost use Rattle.text.specs.Kinds.{kindAt};
+ghost use Rattle.grammar.specs.Tokens.{tokens, tokensFrom, fieldNames};
+ghost use Rattle.grammar.specs.Answer.{badPlace, deepPlace, stopPlace, tooMany, answered, outcome, textTree, answerTo, TextRead};
+ghost use Rattle.grammar.specs.Kinds.{kindAt, openAfterKind};
 ghost use Rattle.text.specs.Inner;
-ghost use Rattle.text.specs.Inner.{LeafDone, Closed, Joined, lists, putEntry, Ready, Done, openAfterKind, Ended, Counted};
-
-// What reading a text says: the number of its nodes, or a refusal.
-pub enum Answer {
-    Nodes(usize),
-    Refused(Refusal),
-}
+ghost use Rattle.text.specs.Inner.{LeafDone, Closed, Joined, lists, putEntry, Ready, Done, Ended, Counted};
 
 // Where a reader stands: whether it has read what it reads, the byte up to which, or at which it stopped, and the nodes so far.
 struct Step {

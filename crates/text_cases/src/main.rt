@@ -1,7 +1,7 @@
 // Runs the cases of its input through the public call of `text`. A case is the lengths of the three lent lists, the number
 // of parts of the text, and for each part how often it stands there, its length and its bytes. Every entry of the lists is 7
 // before the call; the answer is written with all three lists.
-use text::Answer;
+use grammar::Answer;
 
 fn wide8(x: u8) -> u64 {
     x as u64

@@ -11,11 +11,11 @@ use Rattle.packet.specs.declared.Tested.the-variants.{Passed, Refused as Stoppe
 use Rattle.policy.specs.AsLists.{asLists}
 use Rattle.policy.specs.NodesOfTree.{Entry, treeSize, entriesFrom, listsOf, nodesOf}
 use Rattle.policy.proofs.Nodes.{entries-length}
-use Rattle.text.specs.declared.Answer.{Answer}
-use Rattle.text.specs.declared.Answer.the-variants.{Nodes, Refused}
-use Rattle.text.specs.Tokens.{fieldNames}
-use Rattle.text.specs.Answer.{answered, textTree, answerTo, written, leftBy, shortest, TextRead}
-use Rattle.text.proofs.AnswerLaws.{few-enough, count-parts}
+use Rattle.grammar.specs.declared.Answer.{Answer}
+use Rattle.grammar.specs.declared.Answer.the-variants.{Nodes, Refused}
+use Rattle.grammar.specs.Tokens.{fieldNames}
+use Rattle.grammar.specs.Answer.{answered, textTree, answerTo, written, leftBy, shortest, TextRead}
+use Rattle.grammar.proofs.AnswerLaws.{few-enough, count-parts}
 use Rattle.texts.specs.Call.{textNodes, textStage}
 
 -- the front of an array of 512 entries

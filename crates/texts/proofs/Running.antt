@@ -11,7 +11,7 @@ use Rattle.packet.specs.declared.Tested.the-variants.{Passed, Refused as Stoppe
 use Rattle.packet.specs.Refusals.{firstOf}
 use Rattle.packet.specs.Sizes.{fieldsStage, productStage, product}
 use Rattle.packet.proofs.Stages.{firstOf-next, firstOf-last, firstOf-refused, firstOf-passed}
-use Rattle.policy.specs.Answers.{sided}
+use Rattle.policy.specs.Tests.{sided}
 use Rattle.policy.specs.Legality.{policiesStage}
 use Rattle.policy.specs.Meaning.{Traces, numbered, SameTraces, SameTracesBelow}
 use Rattle.policy.specs.NodeLists.{NodeLists, policyOf}
@@ -19,13 +19,14 @@ use Rattle.policy.specs.NodesOfTree.{treeSize}
 use Rattle.pair.specs.Sides.{Side, left, right, other, at, policies}
 use Rattle.pair.specs.Pair.{SideTraces}
 use Rattle.pair.specs.Search.{Distinguishes}
-use Rattle.rows.specs.Lent.{listsStage, lentTests}
-use Rattle.text.specs.Tokens.{fieldNames}
-use Rattle.text.specs.Answer.{textTree}
-use Rattle.text.proofs.NodeLaws.{text-traces}
-use Rattle.search.specs.declared.Verdict.{Verdict}
-use Rattle.search.specs.declared.Verdict.the-variants.{Equal, Full, Refused}
-use Rattle.search.specs.Call.{Lent, tellingVerdict, verdictAfter, lentAfter, searchTests, searchVerdict, searchLeaves, Searched}
+use Rattle.lent.specs.Lent.{listsStage, lentTests}
+use Rattle.grammar.specs.Tokens.{fieldNames}
+use Rattle.grammar.specs.Answer.{textTree}
+use Rattle.grammar.proofs.NodeLaws.{text-traces}
+use Rattle.verdict.specs.declared.Verdict.{Verdict}
+use Rattle.verdict.specs.declared.Verdict.the-variants.{Equal, Full, Refused}
+use Rattle.verdict.specs.Verdicts.{tellingVerdict}
+use Rattle.search.specs.Call.{Lent, verdictAfter, lentAfter, searchTests, searchVerdict, searchLeaves, Searched}
 use Rattle.texts.specs.Call.{textNodes, textStage, textPolicies, textsTests, textsAnswer, textsRows, textsVerdict, textsLeaves, TextsSearched, Ran}
 use Rattle.texts.proofs.Reading.{stage-answer}
 

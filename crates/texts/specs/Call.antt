@@ -9,7 +9,7 @@ use Rattle.packet.specs.declared.Tested.{Tested}
 use Rattle.packet.specs.declared.Tested.the-variants.{Passed, Refused as Stopped}
 use Rattle.packet.specs.Refusals.{refusal, firstOf}
 use Rattle.packet.specs.Sizes.{fieldsStage, productStage}
-use Rattle.policy.specs.Answers.{sided}
+use Rattle.policy.specs.Tests.{sided}
 use Rattle.policy.specs.Legality.{policiesStage}
 use Rattle.policy.specs.Meaning.{SameTracesBelow}
 use Rattle.policy.specs.NodeLists.{NodeLists, nodeCount, dupsBelow}
@@ -18,12 +18,13 @@ use Rattle.system.specs.RowOrder.{NeedsMore}
 use Rattle.pair.specs.Sides.{Side, Pair, Labelled, policies}
 use Rattle.pair.specs.Pair.{pairSystem}
 use Rattle.pair.specs.Search.{SearchAnswer, Columns, Distinguishes}
-use Rattle.rows.specs.Lent.{listsStage}
-use Rattle.text.specs.Tokens.{fieldNames}
-use Rattle.text.specs.Answer.{textTree, tested}
-use Rattle.search.specs.declared.Verdict.{Verdict}
-use Rattle.search.specs.declared.Verdict.the-variants.{Equal, Full, Refused}
-use Rattle.search.specs.Call.{Lent, tellingVerdict, verdictAfter, lentAfter, answerHere, rowsHere, Searched}
+use Rattle.lent.specs.Lent.{listsStage}
+use Rattle.grammar.specs.Tokens.{fieldNames}
+use Rattle.grammar.specs.Answer.{textTree, tested}
+use Rattle.verdict.specs.declared.Verdict.{Verdict}
+use Rattle.verdict.specs.declared.Verdict.the-variants.{Equal, Full, Refused}
+use Rattle.verdict.specs.Verdicts.{tellingVerdict}
+use Rattle.search.specs.Call.{Lent, verdictAfter, lentAfter, answerHere, rowsHere, Searched}
 
 -- the nodes of a text
 unfoldable pub textNodes : List ℕ → NodeLists

@@ -6,11 +6,11 @@ ghost use Rattle.packet.specs.Sizes.{fieldsStage, productStage};
 ghost use Rattle.policy.specs.AsLists.{asLists};
 ghost use Rattle.search.specs.Call.{lent};
 ghost use Rattle.texts.specs.Call.{textNodes, textStage, Ran, TextsSearched};
+use grammar::Answer;
 use index::Mask;
 use packet::Counted;
 use packet::Tested;
-use search::Verdict;
-use text::Answer;
+use verdict::Verdict;
 
 // Causes 1 to 3.
 fn sizes_stage(sizes: &[u16]) -> Tested

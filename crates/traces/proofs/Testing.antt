@@ -16,13 +16,13 @@ use Rattle.packet.specs.Refusals.{refusedAt}
 use Rattle.packet.specs.Sizes.{product, counted, LegalSizes}
 use Rattle.packet.proofs.Lowest.{lowest-none, none-lowest, lowest-more, lowest-found}
 use Rattle.packet.proofs.Stages.{firstOf-last, firstOf-refused, firstOf-next, firstOf-passed, refusedAt-passed}
-use Rattle.policy.specs.Answers.{pairTests}
+use Rattle.policy.specs.Tests.{pairTests}
 use Rattle.policy.specs.Legality.{Legal}
 use Rattle.policy.specs.NodeLists.{NodeLists}
-use Rattle.rows.specs.Lent as rows
-use Rattle.rows.specs.Lent.{listsStage}
-use Rattle.rows.proofs.Testing as rows-laws
-use Rattle.rows.proofs.Testing.{tests-passed, lists-passed, work-passes}
+use Rattle.lent.specs.Lent as rows
+use Rattle.lent.specs.Lent.{listsStage}
+use Rattle.lent.proofs.Testing as rows-laws
+use Rattle.lent.proofs.Testing.{tests-passed, lists-passed, work-passes}
 use Rattle.traces.specs.Checking.{badPacket, packetsStage, lentTests, traceTests}
 
 -- ---- cause 13, as a loop over the trace finds it

@@ -17,8 +17,8 @@ use Rattle.policy.specs.NodeLists.{NodeLists, nodeCount, dupsBelow, policyOf}
 use Rattle.automaton.specs.State.{hasTrace}
 use Rattle.pair.specs.Sides.{left, right, policies}
 use Rattle.pair.specs.TraceCheck.{TraceAnswer, only, both, neither, has, traceAnswer}
-use Rattle.rows.specs.Lent as rows
-use Rattle.rows.specs.Lent.{listsStage}
+use Rattle.lent.specs.Lent as rows
+use Rattle.lent.specs.Lent.{listsStage}
 use Rattle.traces.specs.declared.TraceChecked.{TraceChecked}
 use Rattle.traces.specs.declared.TraceChecked.the-variants.{Left, Right, Both, Neither, Refused as CheckRefused}
 

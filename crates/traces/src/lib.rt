@@ -52,7 +52,7 @@ fn lent_stage(
 ) -> Counted
     ensures { λ r. ⌜ r ≡ counted (lentTests (now (sizes .entry)) (asLists (now («left_kind» .entry)) (now («left_first» .entry)) (now («left_second» .entry))) (asLists (now («right_kind» .entry)) (now («right_first» .entry)) (now («right_second» .entry))) work) (product (now (sizes .entry))) ⌝ }
 {
-    rows::lent_tests(
+    lent::lent_tests(
         sizes,
         left_kind,
         left_first,
@@ -60,7 +60,7 @@ fn lent_stage(
         right_kind,
         right_first,
         right_second,
-        rows::work_list(work),
+        lent::work_list(work),
     )
 }
 
@@ -164,7 +164,7 @@ pub fn check(
     ) {
         Counted::Refused(r) => TraceChecked::Refused(r),
         Counted::Packets(count) => {
-            rows::clear(work);
+            lent::clear(work);
             match packet::refused_at(13, 0, lowest_bad(count, entering, trace)) {
                 Tested::Refused(r) => TraceChecked::Refused(r),
                 Tested::Passed => {

@@ -17,8 +17,8 @@ use borrow.Fn.PlainCycle.{Measures, is, falls, and}
 use Rattle.evaluator.proofs.through.Reads as through
 use Rattle.evaluator.proofs.through.Kinds as through-kinds
 use Rattle.evaluator.proofs.+through.Lts-through as through-lts
-use Rattle.evaluator.proofs.image.Reads as image-reads
-use Rattle.evaluator.proofs.take_in.Reads as take-in-reads
+use Rattle.actions.proofs.image.Reads as image-reads
+use Rattle.slots.proofs.take_in.Reads as take-in-reads
 use Rattle.packet_set.proofs.insert.Reads as insert-reads
 use Rattle.packet_set.proofs.is_empty.Reads as is-empty-reads
 use Rattle.packet_set.proofs.union.Reads as union-reads

@@ -9,7 +9,7 @@ use lib.ListN.{getD-replicate}
 use lib.Seq.{length-take-le}
 use Rattle.packet.proofs.Sizes.{count-packets}
 use Rattle.policy.specs.NodeLists.{nodeCount}
-use Rattle.policy.proofs.AnswerLaws.{legal-answer}
+use Rattle.legality.proofs.AnswerLaws.{legal-answer}
 use Rattle.evaluator.specs.Steps.{Formed}
 use Rattle.evaluator_cases.proofs.step.Statement.{statement}
 use Rattle.evaluator_cases.proofs.step.Tie as tie

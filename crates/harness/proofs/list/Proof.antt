@@ -1,4 +1,4 @@
--- `show::list` ends: each turn passes one number.
+-- `harness::list` ends: each turn passes one number.
 -- Assumes nothing.
 use borrow.Author.Needs.{needs}
 use Prim.Native.Nat.{_≤_, _-_}

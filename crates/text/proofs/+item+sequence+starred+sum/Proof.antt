@@ -5,10 +5,10 @@ use native.Mathlib.Nat.{le-refl, le-of-lt}
 use native.Mathlib.Omega.{arith}
 use mathlib.Core.Path.{_∙_}
 use lib.ListN.{length}
-use Rattle.text.specs.Tokens.{tokensFrom, fieldNames}
+use Rattle.grammar.specs.Tokens.{tokensFrom, fieldNames}
 use Rattle.text.specs.Inner as level
 use Rattle.text.proofs.StepLaws.{kind-not, opened, sequence-next, sum-next}
-use Rattle.text.proofs.TokensLeft.{fewer-next}
+use Rattle.tokens.proofs.TokensLeft.{fewer-next}
 use Rattle.text.proofs.LoopLaws.{Kept, left, kept-none, onward, nodes-pos, ready-open, ready-next, item-leaf, item-stops, star-next, star-exit, star-fails, sequence-entry, sequence-exit, sequence-fails, sum-entry, sum-exit, sum-fails, star-less, join-less, join-ready}
 use borrow.Fn.Kinds.{In}
 use borrow.Fn.PlainCycle.{Measures, is, falls, and}
@@ -29,7 +29,7 @@ use Rattle.text.proofs.join.Reads as join-reads
 use Rattle.text.proofs.leaf_item.Reads as leaf-item-reads
 use Rattle.text.proofs.put.Reads as put-reads
 use Rattle.text.proofs.put_parent.Reads as put-parent-reads
-use Rattle.text.proofs.tokens.token_from.Reads as token-from-reads
+use Rattle.tokens.proofs.token_from.Reads as token-from-reads
 use Rattle.text.proofs.+item+sequence+starred+sum.{statement}
 use Rattle.text.proofs.+item+sequence+starred+sum.Tie.{close}
 

@@ -1,6 +1,6 @@
 -- `count` meets its contract.
 use borrow.Author.Needs.{needs}
-use Rattle.text.proofs.AnswerLaws.{counted}
+use Rattle.text.proofs.StageLaws.{counted}
 use Rattle.text.proofs.count.Statement.{statement}
 use Rattle.text.proofs.count.Tie as tie
 

@@ -4,11 +4,11 @@ use Prim.Native.Nat.{_≤_, _-_}
 use mathlib.Core.Path.{_≡_, refl, sym, _∙_, ap}
 use native.Mathlib.Omega.{arith}
 use lib.ListN.{length}
-use Rattle.text.specs.Tokens.{tokens, tokensFrom, fieldNames}
-use Rattle.text.specs.Answer.{deepPlace}
-use Rattle.text.specs.Inner.{openAfterKind}
+use Rattle.grammar.specs.Tokens.{tokens, tokensFrom, fieldNames}
+use Rattle.grammar.specs.Answer.{deepPlace}
+use Rattle.grammar.specs.Kinds.{openAfterKind}
 use Rattle.text.proofs.StepLaws.{kind-at, kind-not}
-use Rattle.text.proofs.AnswerLaws.{deep-end, deep-here, deep-on, stage-passes, stage-refuses}
+use Rattle.grammar.proofs.AnswerLaws.{deep-end, deep-here, deep-on, stage-passes, stage-refuses}
 use Rattle.text.proofs.depth_stage.Statement.{statement}
 use Rattle.text.proofs.depth_stage.Tie as tie
 

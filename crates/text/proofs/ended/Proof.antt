@@ -1,5 +1,5 @@
 -- `ended` meets its contract.
-use Rattle.text.proofs.AnswerLaws.{ended-over, ended-more, ended-failed}
+use Rattle.text.proofs.StageLaws.{ended-over, ended-more, ended-failed}
 use Rattle.text.proofs.ended.Statement.{statement}
 use Rattle.text.proofs.ended.Tie as tie
 

@@ -3,7 +3,7 @@ use borrow.Author.Needs.{needs}
 use Prim.Native.Nat.{pred}
 use mathlib.Core.Path.{sym, ap}
 use native.Mathlib.Numerals.{sub-one}
-use Rattle.text.proofs.AnswerLaws.{after-opening, after-closing, after-other}
+use Rattle.grammar.proofs.AnswerLaws.{after-opening, after-closing, after-other}
 use Rattle.text.proofs.open_after.Statement.{statement}
 use Rattle.text.proofs.open_after.Tie as tie
 

@@ -1,6 +1,7 @@
 -- `read` meets its contract.
 use borrow.Author.Needs.{needs}
-use Rattle.text.proofs.AnswerLaws.{read-ready, read-done, read-refused}
+use Rattle.grammar.proofs.AnswerLaws.{read-refused}
+use Rattle.text.proofs.StageLaws.{read-ready, read-done}
 use Rattle.text.proofs.read.Statement.{statement}
 use Rattle.text.proofs.read.Tie as tie
 

@@ -1,7 +1,7 @@
 -- `size_stage` meets its contract.
 use borrow.Author.Needs.{needs}
 use native.Mathlib.Omega.{arith}
-use Rattle.text.proofs.AnswerLaws.{sized-stop, sized-over, sized-nodes}
+use Rattle.grammar.proofs.AnswerLaws.{sized-stop, sized-over, sized-nodes}
 use Rattle.text.proofs.size_stage.Statement.{statement}
 use Rattle.text.proofs.size_stage.Tie as tie
 

@@ -1,7 +1,7 @@
 -- `test` meets its contract.
 use borrow.Author.Needs.{needs}
 use mathlib.Core.Path.{sym, _∙_}
-use Rattle.text.proofs.AnswerLaws.{first-refuses, second-refuses, rest-answers}
+use Rattle.grammar.proofs.AnswerLaws.{first-refuses, second-refuses, rest-answers}
 use Rattle.text.proofs.test.Statement.{statement}
 use Rattle.text.proofs.test.Tie as tie
 

@@ -4,11 +4,11 @@ use Prim.Native.Nat.{_≤_, _-_}
 use mathlib.Core.Path.{_≡_, refl, sym, _∙_, ap}
 use native.Mathlib.Omega.{arith}
 use lib.ListN.{length}
-use Rattle.text.specs.Tokens.{tokens, tokensFrom, fieldNames}
-use Rattle.text.specs.Answer.{badPlace}
+use Rattle.grammar.specs.Tokens.{tokens, tokensFrom, fieldNames}
+use Rattle.grammar.specs.Answer.{badPlace}
 use Rattle.text.proofs.StepLaws.{kind-at, kind-not}
 use Rattle.text.proofs.LoopLaws.{onward}
-use Rattle.text.proofs.AnswerLaws.{bad-end, bad-here, bad-on, stage-passes, stage-refuses}
+use Rattle.grammar.proofs.AnswerLaws.{bad-end, bad-here, bad-on, stage-passes, stage-refuses}
 use Rattle.text.proofs.token_stage.Statement.{statement}
 use Rattle.text.proofs.token_stage.Tie as tie
 

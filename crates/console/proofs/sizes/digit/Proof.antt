@@ -1,7 +1,7 @@
 -- `sizes::digit` meets its contract.
 use borrow.Author.Needs.{needs}
 use native.Mathlib.Omega.{arith}
-use Rattle.text.proofs.WordLaws.{digit-low}
+use Rattle.tokens.proofs.WordLaws.{digit-low}
 use Rattle.console.proofs.sizes.digit.Statement.{statement}
 use Rattle.console.proofs.sizes.digit.Tie as tie
 

@@ -1,7 +1,7 @@
 -- `sizes::leading_zero` meets its contract.
 use borrow.Author.Needs.{needs}
 use mathlib.Core.Path.{sym}
-use Rattle.text.proofs.WordLaws.{leading-short, leading-long}
+use Rattle.tokens.proofs.WordLaws.{leading-short, leading-long}
 use Rattle.console.proofs.sizes.leading_zero.Statement.{statement}
 use Rattle.console.proofs.sizes.leading_zero.Tie as tie
 

@@ -8,9 +8,9 @@ use native.Mathlib.Numerals.{add-one}
 use borrow.Author.Tests.{not-true, not-false}
 use lib.ListN.{length, getD, drop, drop-of-length-le}
 use lib.Seq.{drop-cons}
-use Rattle.text.specs.Bytes.{isDigit}
-use Rattle.text.specs.Inner.{numberFrom}
-use Rattle.text.proofs.WordLaws.{number-none, number-more, number-not, number-large, digit-high}
+use Rattle.grammar.specs.Bytes.{isDigit}
+use Rattle.tokens.specs.Inner.{numberFrom}
+use Rattle.tokens.proofs.WordLaws.{number-none, number-more, number-not, number-large, digit-high}
 use Rattle.console.proofs.sizes.number_from.Statement.{statement}
 use Rattle.console.proofs.sizes.number_from.Tie as tie
 

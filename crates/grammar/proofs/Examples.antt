@@ -1,0 +1,81 @@
+-- The definitions at small texts, by computation.
+use Prim.Native.Nat.{ℕ}
+use mathlib.Core.List.{List, [], _∷_}
+use mathlib.Core.Path.{_≡_, refl}
+use lib.ListN.{replicate}
+use Rattle.packet.specs.Lowest.{lowest, orAt}
+use Rattle.packet.specs.Refusals.{refusal, refusedAt, firstOf}
+use Rattle.policy.specs.Tree.{drop, id, dup, sum, seq, star}
+use Rattle.policy.specs.Tree
+use Rattle.policy.specs.NodesOfTree.{treeSize}
+use Rattle.policy.specs.declared.FieldAction.the-variants.{Equals}
+use Rattle.grammar.specs.declared.Answer.{Answer}
+use Rattle.grammar.specs.declared.Answer.the-variants.{Nodes, Refused}
+use Rattle.grammar.specs.Bytes.{isBlank, isLetter, isDigit, inWord}
+use Rattle.grammar.specs.Tokens.{sameWord, allDigits, decimal, leadingZero, isNumber, numberToken, fieldToken, fieldNamed, wordToken, singleMark, doubleMark, beginsDouble, markToken, wordOf, frontToken, isBad, restOfToken, placedFrom, tokensFrom, tokens, fieldNames}
+use Rattle.grammar.specs.Grammar.{constantPolicy, fieldAction}
+use Rattle.grammar.specs.Reading.{Outcome, tree, nothing, joinSequence, joinSum, upTo, whole, start, close, step, finish, readOn}
+use Rattle.grammar.specs.Answer.{badPlace, openAfter, deepPlace, stopPlace, treeRead, tooMany, answered, outcome, textTree, tested, answerTo}
+
+-- a text's reading and answer, which compute where these two are opened
+unfoldable pub readingOf : List ℕ → Outcome
+unfolding outcome tokens tokensFrom placedFrom restOfToken isBad frontToken wordOf markToken beginsDouble doubleMark singleMark wordToken fieldNamed fieldToken numberToken isNumber leadingZero decimal allDigits sameWord isBlank isLetter isDigit inWord fieldNames lowest orAt constantPolicy fieldAction nothing joinSequence joinSum upTo whole start close step finish readOn
+readingOf text = outcome fieldNames text
+
+unfoldable pub answerOf : List ℕ → ℕ → Answer
+unfolding readingOf badPlace openAfter deepPlace stopPlace treeRead tooMany answered textTree tested answerTo refusedAt firstOf treeSize
+answerOf text room = answerTo fieldNames text room
+
+-- f0=0;dup
+p2 : readingOf (102 ∷ 48 ∷ 61 ∷ 48 ∷ 59 ∷ 100 ∷ 117 ∷ 112 ∷ []) ≡ tree (seq (Tree.field (Equals 0 0)) (dup 0))
+unfolding readingOf
+p2 = refl
+
+-- id+dup;dup*
+p5 : readingOf (105 ∷ 100 ∷ 43 ∷ 100 ∷ 117 ∷ 112 ∷ 59 ∷ 100 ∷ 117 ∷ 112 ∷ 42 ∷ []) ≡ tree (sum id (seq (dup 0) (star (dup 0))))
+unfolding readingOf
+p5 = refl
+
+-- id;drop;id joins to the left
+left : readingOf (105 ∷ 100 ∷ 59 ∷ 100 ∷ 114 ∷ 111 ∷ 112 ∷ 59 ∷ 105 ∷ 100 ∷ []) ≡ tree (seq (seq id drop) id)
+unfolding readingOf
+left = refl
+
+-- f0 ! = 0
+broken : answerOf (102 ∷ 48 ∷ 32 ∷ 33 ∷ 32 ∷ 61 ∷ 32 ∷ 48 ∷ []) 9 ≡ Refused (refusal 14 0 3)
+unfolding answerOf refusal
+broken = refl
+
+-- f7<-65535 reads, and needs one entry
+assignment : answerOf (102 ∷ 55 ∷ 60 ∷ 45 ∷ 54 ∷ 53 ∷ 53 ∷ 51 ∷ 53 ∷ []) 1 ≡ Nodes 1
+unfolding answerOf
+assignment = refl
+
+-- 65536, 00, f8
+large : answerOf (54 ∷ 53 ∷ 53 ∷ 51 ∷ 54 ∷ []) 1 ≡ Refused (refusal 14 0 0)
+unfolding answerOf refusal
+large = refl
+
+zeros : answerOf (48 ∷ 48 ∷ []) 1 ≡ Refused (refusal 14 0 0)
+unfolding answerOf refusal
+zeros = refl
+
+-- ))) and then 65 (
+deep : answerOf (41 ∷ 41 ∷ 41 ∷ replicate 65 40) 1 ≡ Refused (refusal 15 0 67)
+unfolding answerOf refusal
+deep = refl
+
+-- )))
+closed : answerOf (41 ∷ 41 ∷ 41 ∷ []) 1 ≡ Refused (refusal 16 0 0)
+unfolding answerOf refusal
+closed = refl
+
+-- blanks alone: the end
+blanks : answerOf (32 ∷ 9 ∷ 32 ∷ []) 1 ≡ Refused (refusal 16 0 3)
+unfolding answerOf refusal
+blanks = refl
+
+-- (id)*;dup with room for three nodes
+full : answerOf (40 ∷ 105 ∷ 100 ∷ 41 ∷ 42 ∷ 59 ∷ 100 ∷ 117 ∷ 112 ∷ []) 3 ≡ Refused (refusal 17 0 4)
+unfolding answerOf refusal
+full = refl

@@ -1,0 +1,5 @@
+mod Examples
+pub mod ReadLaws
+pub mod AnswerLaws
+pub mod GrammarLaws
+pub mod NodeLaws

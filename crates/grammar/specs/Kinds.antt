@@ -1,0 +1,78 @@
+-- The numbers by which the reader knows classes of bytes and kinds of tokens.
+use Prim.Native.Nat.{ℕ, zero, suc, pred}
+use mathlib.Core.Bool.{cond}
+use mathlib.Core.List.{List, [], _∷_}
+use lib.Dec.{eqb}
+use Rattle.grammar.specs.Bytes.{isBlank, isLetter, isDigit}
+use Rattle.grammar.specs.Tokens.{Token, Placed, Constant, Comparison, dropped, passed, recorded, equals, differs, assigned, constant, field, number, comparison, plus, semicolon, asterisk, opening, closing, bad, singleMark, beginsDouble}
+
+-- 1 is the end of the text
+unfoldable pub kindOf : Token → ℕ
+kindOf bad = 0
+kindOf (constant c) = 2
+kindOf (field f) = 3
+kindOf (number n) = 4
+kindOf (comparison c) = 5
+kindOf plus = 6
+kindOf semicolon = 7
+kindOf asterisk = 8
+kindOf opening = 9
+kindOf closing = 10
+
+-- the kind of the node that a constant is
+unfoldable pub constantKind : Constant → ℕ
+constantKind dropped = 0
+constantKind passed = 1
+constantKind recorded = 5
+
+-- the kind of the node that a comparison makes
+unfoldable pub comparisonKind : Comparison → ℕ
+comparisonKind equals = 2
+comparisonKind differs = 3
+comparisonKind assigned = 4
+
+unfoldable pub valueOf : Token → ℕ
+valueOf bad = 0
+valueOf (constant c) = constantKind c
+valueOf (field f) = f
+valueOf (number n) = n
+valueOf (comparison c) = comparisonKind c
+valueOf plus = 0
+valueOf semicolon = 0
+valueOf asterisk = 0
+valueOf opening = 0
+valueOf closing = 0
+
+-- the class of a byte: 0 starts no token, 1 blank, 2 letter, 3 digit, 4 begins a mark of two bytes, else the mark that it is
+unfoldable pub classOf : ℕ → ℕ
+classOf b = cond (isBlank b) 1 (cond (isLetter b) 2 (cond (isDigit b) 3 (cond (beginsDouble b) 4 (kindOf (singleMark b)))))
+
+-- the classes of n bytes from one on
+unfoldable pub classesFrom : ℕ → ℕ → List ℕ
+classesFrom b zero = []
+classesFrom b (suc n) = classOf b ∷ classesFrom (suc b) n
+
+-- the table of 256 entries
+unfoldable pub classTable : List ℕ
+classTable = classesFrom 0 256
+
+-- the token at the front of the tokens that are left: its kind, value and place, and the tokens after it
+unfoldable pub kindAt : List Placed → ℕ
+kindAt [] = 1
+kindAt (t ∷ ts) = kindOf (t .token)
+
+unfoldable pub valueAt : List Placed → ℕ
+valueAt [] = 0
+valueAt (t ∷ ts) = valueOf (t .token)
+
+unfoldable pub placeAt : ℕ → List Placed → ℕ
+placeAt end [] = end
+placeAt end (t ∷ ts) = t .start
+
+unfoldable pub afterFront : List Placed → List Placed
+afterFront [] = []
+afterFront (t ∷ ts) = ts
+
+-- how many parentheses are open after a token of a kind
+unfoldable pub openAfterKind : ℕ → ℕ → ℕ
+openAfterKind n k = cond (eqb k 9) (suc n) (cond (eqb k 10) (pred n) n)

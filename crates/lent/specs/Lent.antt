@@ -1,0 +1,31 @@
+-- Causes 1 to 10 for two policies and what else is lent. Stage "lists": cause 10, "row lists (packet, left, right, parent) unequal or over 65,535, or work list under 16,384 32-bit numbers", over the lists' lengths.
+use mathlib.Core.Bool.{Bool, false, _||_, not}
+use mathlib.Core.List.{List, [], _∷_}
+use Prim.Native.Nat.{ℕ}
+use lib.Dec.{eqb, ltb}
+use Rattle.packet.specs.declared.Tested.{Tested}
+use Rattle.packet.specs.Refusals.{refusedAt, atZero, firstOf}
+use Rattle.packet.specs.Sizes.{fieldsStage, productStage}
+use Rattle.policy.specs.Tests.{sided}
+use Rattle.policy.specs.Legality.{policiesStage}
+use Rattle.policy.specs.NodeLists.{NodeLists}
+
+-- a row list has another length than the first, or is over 65,535
+unfoldable pub misfit : ℕ → List ℕ → Bool
+misfit n [] = ltb 65535 n
+misfit n (m ∷ ms) =
+    let later = misfit n ms in
+    not (eqb m n) || later
+
+-- row lists of these lengths don't serve; with no row list at all, nothing is wrong with them
+unfoldable pub rowsMisfit : List ℕ → Bool
+rowsMisfit [] = false
+rowsMisfit (n ∷ ms) = misfit n ms
+
+-- the stage, over the lengths of the row lists and of the work list
+unfoldable pub listsStage : List ℕ → ℕ → Tested
+listsStage rows work = refusedAt 10 0 (atZero (rowsMisfit rows || ltb work 16384))
+
+-- causes 1 to 10 in the order tested, the last stage being that of the lists
+unfoldable pub lentTests : List ℕ → NodeLists → NodeLists → Tested → Tested
+lentTests sizes L R lists = firstOf (fieldsStage sizes ∷ productStage sizes ∷ policiesStage sizes (sided 1 L ∷ sided 2 R ∷ []) ∷ lists ∷ [])

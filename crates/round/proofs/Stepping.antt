@@ -1,0 +1,147 @@
+-- One row is handled: what its comparison and its successors give. Assumes nothing.
+use Prim.Native.Nat.{ℕ, _+_, _<_, _≤_}
+use mathlib.Core.Bool.{Bool, true, false, cond}
+use mathlib.Core.List.{List}
+use mathlib.Core.Path.{_≡_, refl, sym, ap, _∙_, subst}
+use native.Mathlib.Omega.{arith}
+use lib.Dec.{ltb}
+use borrow.Author.Tests.{lt-ltb, le-ltb}
+use lib.ListN.{length, getD}
+use Rattle.policy.specs.NodeLists.{NodeLists}
+use Rattle.system.specs.System.{System}
+use Rattle.system.specs.RowOrder.{Run, turn, telling, handling, current}
+use Rattle.system.specs.RowOrder as order
+use Rattle.pair.specs.Sides.{Side, Pair, Labelled, policies}
+use Rattle.pair.specs.Pair.{pairSystem}
+use Rattle.pair.specs.Search.{sideOf}
+use Rattle.pair.proofs.Lawful.{legal-pair, lawful}
+use Rattle.index.specs.declared.Appended.{Appended}
+use Rattle.index.specs.declared.Appended.the-variants.{Rows, Full as FullUp}
+use Rattle.index.specs.declared.Row.{Row}
+use Rattle.index.specs.Columns.{rowAt}
+use Rattle.index.specs.Appending.{Lists}
+use Rattle.index.specs.Index.{Indexed}
+use Rattle.index.specs.Entries.{Masks}
+use Rattle.index.proofs.Entries.{entries-at}
+use Rattle.rows.specs.Standing.{answerFor, Standing, Continues, pairMasks, Nexts, NextAppended}
+use Rattle.rows.proofs.Standing.{stands-none, stands-length}
+use Rattle.compare.specs.declared.Compared.{Compared}
+use Rattle.compare.specs.declared.Compared.the-variants.{Same}
+use Rattle.compare.specs.Comparison.{differsAt, rowOf, answerAt, CompareReady, ComparedRow}
+use Rattle.compare.proofs.Telling.{differs-lowest, same-turn, differs-turn}
+use Rattle.round.specs.declared.Handled.{Handled}
+use Rattle.round.specs.declared.Handled.the-variants.{Open, Stopped}
+use Rattle.verdict.specs.declared.Ended.the-variants.{Done, Full}
+use Rattle.verdict.specs.Ending.{tellingAt}
+use Rattle.round.specs.Step.{goesOn, runAt, afterRow, stepAnswer, stepRows, RowHandled, StepReady}
+
+pub goes-open : (h n : ℕ) → h < n → Open n ≡ goesOn h n
+unfolding goesOn
+goes-open h n l = sym (ap (λ b. cond b (Open n) (Stopped (Done n))) (lt-ltb h n l))
+
+pub goes-done : (h n : ℕ) → n ≤ h → Stopped (Done n) ≡ goesOn h n
+unfolding goesOn
+goes-done h n l = sym (ap (λ b. cond b (Open n) (Stopped (Done n))) (le-ltb h n l))
+
+module _ (sizes : List ℕ) (ps : Pair Labelled) (lent : ℕ) (x : Run (pairSystem sizes ps)) where
+  full-after : FullUp ≡ answerFor lent (length (x .rows)) → Stopped Full ≡ afterRow sizes ps lent x
+  unfolding answerFor afterRow
+  full-after e = go (ltb lent (length (x .rows))) e
+    where
+      go : (b : Bool) → FullUp ≡ cond b FullUp (Rows (length (x .rows))) → Stopped Full ≡ cond b (Stopped Full) (goesOn (x .handled) (length (x .rows)))
+      go true e = refl
+      go false e = absurd (let z : _≡_ {A = ℕ} 0 1 = cc in omega arith)
+
+  rows-after : (m : ℕ) → Rows m ≡ answerFor lent (length (x .rows)) → goesOn (x .handled) m ≡ afterRow sizes ps lent x
+  unfolding answerFor afterRow
+  rows-after m e = go (ltb lent (length (x .rows))) e
+    where
+      go : (b : Bool) → Rows m ≡ cond b FullUp (Rows (length (x .rows))) → goesOn (x .handled) m ≡ cond b (Stopped Full) (goesOn (x .handled) (length (x .rows)))
+      go true e = absurd (let z : _≡_ {A = ℕ} 0 1 = cc in omega arith)
+      go false e = let same : m ≡ length (x .rows) = cc in ap (goesOn (x .handled)) same
+
+module _ {sizes : List ℕ} {L R : NodeLists} {masksL placesL masksR placesR : List ℕ} {y : Lists} {count n h : ℕ} {nextL nextR work : List ℕ} (P : StepReady sizes L R masksL placesL masksR placesR y count n h nextL nextR work) where
+  abbrev S : System
+  S = pairSystem sizes (policies L R)
+
+  abbrev M : Masks (pairSystem sizes (policies L R))
+  M = pairMasks sizes (policies L R)
+
+  abbrev x : Run (pairSystem sizes (policies L R))
+  x = runAt sizes (policies L R) y n h
+
+  pub compare-ready : (r : Row) → r ≡ rowAt (y .packets) (y .left) (y .right) h → CompareReady sizes L R masksL placesL masksR placesR count (r .packet) nextL nextR work
+  compare-ready r is =
+      record {
+        legal = P .legal;
+        left-legal = P .left-legal;
+        right-legal = P .right-legal;
+        prepared = P .prepared;
+        packets = P .packets;
+        packet = omega (arith, P .small, P .packets, ap (λ q. q .packet) is);
+        left-room = omega (arith, P .left-room, P .packets);
+        right-room = omega (arith, P .right-room, P .packets);
+        long = P .long;
+        zero = P .zero;
+      }
+
+  -- what appending the successors asks
+  pub next-ready : (a b : ℕ) → a ≡ length nextL → b ≡ length nextR
+      → Indexed (y .packets) (y .left) (y .right) count n (y .heads) (y .links) × ((length (y .parents) ≡ length (y .packets)) × ((count ≤ a) × (count ≤ b)))
+  next-ready a b l r = (P .indexed, (P .parents, (omega (arith, P .left-room), omega (arith, P .right-room))))
+
+  -- rows have 16-bit numbers
+  pub row-fits : h < 65535
+  row-fits = omega (arith, P .row, P .indexed .within, P .indexed .numbered)
+
+  stands : Standing S M y y count n (x .rows)
+  stands = stands-none S M y count n (P .indexed)
+
+  left-over : x .handled < length (x .rows)
+  left-over = omega (arith, P .row, stands-length S M stands)
+
+  module _ {r : Row} (is : r ≡ rowAt (y .packets) (y .left) (y .right) h) {answer : Compared} {nextL′ nextR′ work′ : List ℕ}
+      (C : ComparedRow sizes L R (rowOf sizes L R (r .packet) (getD (r .states) 0 0) (getD (r .states) 1 0)) nextL nextR work answer nextL′ nextR′ work′) where
+    row-is : current S x ≡ rowOf sizes L R (r .packet) (getD (r .states) 0 0) (getD (r .states) 1 0)
+    row-is = ap (λ e. e .row) (entries-at S M _ _ n h (P .row)) ∙ ap (λ (q : Row). rowOf sizes L R (q .packet) (getD (q .states) 0 0) (getD (q .states) 1 0)) (sym is)
+
+    answer-is : answer ≡ answerAt sizes L R (current S x)
+    answer-is = C .answers ∙ ap (answerAt sizes L R) (sym row-is)
+
+    -- the row tells
+    pub row-tells : (s : Side) (γ : ℕ) → answer ≡ differsAt s γ → RowHandled sizes (policies L R) y y count n h (Stopped (tellingAt s γ))
+    unfolding stepAnswer stepRows
+    row-tells s γ e =
+        let told : turn S x ≡ telling γ = differs-turn sizes L R x left-over s γ (sym answer-is ∙ e) in
+        let side : sideOf sizes (policies L R) (current S x) γ ≡ s = differs-lowest sizes L R (current S x) s γ (sym answer-is ∙ e) .1 in
+        record {
+          answers = ap (λ t. Stopped (tellingAt t γ)) (sym side) ∙ sym (rw (told, stepAnswer));
+          standing = subst (λ es. Standing S M y y count (length es) es) (sym (rw (told, stepRows))) (subst (λ k. Standing S M y y count k (x .rows)) (sym (stands-length S M stands)) stands);
+        }
+
+    nexts : Nexts sizes (policies L R) (current S x) nextL′ nextR′
+    nexts = subst (λ r. Nexts sizes (policies L R) r nextL′ nextR′) (sym row-is) (record { left-next = C .left-next; right-next = C .right-next })
+
+    -- the outputs are the same, and the successors are appended
+    module _ (e : answer ≡ Same) {z : Lists} {a : Appended} (A : NextAppended y z count n h nextL′ nextR′ a) where
+      goes : turn S x ≡ handling
+      goes = same-turn sizes L R x left-over (sym answer-is ∙ e)
+
+      continues : Continues S M y z count (order.handle S x .rows) a
+      unfolding order.handle
+      continues = A .appended sizes (policies L R) (lawful sizes (policies L R) (legal-pair sizes L R (P .left-legal) (P .right-legal))) (sym (P .packets)) (current S x) nexts
+
+      handled-standing : Standing S M y z count (length (stepRows sizes (policies L R) (length (y .packets)) x)) (stepRows sizes (policies L R) (length (y .packets)) x)
+      unfolding stepRows
+      handled-standing = subst (λ es. Standing S M y z count (length es) es) (sym (rw (goes, stepRows))) (continues .standing)
+
+      step-is : stepAnswer sizes (policies L R) (length (y .packets)) x ≡ afterRow sizes (policies L R) (length (y .packets)) (order.handle S x)
+      unfolding stepAnswer
+      step-is = rw (goes, stepAnswer)
+
+      pub row-fills : a ≡ FullUp → RowHandled sizes (policies L R) y z count n h (Stopped Full)
+      row-fills f = record { answers = full-after _ _ _ _ (sym f ∙ continues .answers) ∙ sym step-is; standing = handled-standing }
+
+      pub row-goes : (m : ℕ) → a ≡ Rows m → (r : Handled) → r ≡ goesOn (h + 1) m → RowHandled sizes (policies L R) y z count n h r
+      unfolding order.handle
+      row-goes m f r g = record { answers = g ∙ ap (λ i. goesOn i m) (omega arith) ∙ rows-after sizes (policies L R) (length (y .packets)) (order.handle S x) m (sym f ∙ continues .answers) ∙ sym step-is; standing = handled-standing }

@@ -1,0 +1,75 @@
+-- One step of the search: one row is handled (document 01, "States and rows").
+use Prim.Native.Nat.{ℕ, _<_, _≤_}
+use mathlib.Core.Bool.{cond}
+use mathlib.Core.List.{List}
+use mathlib.Core.Path.{_≡_}
+use lib.Dec.{ltb}
+use lib.ListN.{length, getD, take}
+use Rattle.packet.specs.Sizes.{product, LegalSizes}
+use Rattle.policy.specs.Legality.{Legal}
+use Rattle.policy.specs.NodeLists.{NodeLists}
+use Rattle.system.specs.RowOrder.{Entry, Run, finished, telling, handling, turn, current}
+use Rattle.system.specs.RowOrder as order
+use Rattle.pair.specs.Sides.{Pair, Labelled}
+use Rattle.pair.specs.Pair.{pairSystem}
+use Rattle.pair.specs.Search.{sideOf}
+use Rattle.index.specs.Appending.{Lists}
+use Rattle.index.specs.Index.{Indexed}
+use Rattle.rows.specs.Standing.{rowsIn, Standing, pairMasks}
+use Rattle.compare.specs.Comparison.{BothPrepared}
+use Rattle.verdict.specs.declared.Ended.the-variants.{Done, Full}
+use Rattle.verdict.specs.Ending.{tellingAt}
+use Rattle.round.specs.declared.Handled.{Handled}
+use Rattle.round.specs.declared.Handled.the-variants.{Open, Stopped}
+
+-- of n listed rows h are handled: open or done
+unfoldable pub goesOn : ℕ → ℕ → Handled
+goesOn h n = cond (ltb h n) (Open n) (Stopped (Done n))
+
+module _ (sizes : List ℕ) (ps : Pair Labelled) where
+  -- the run that the columns stand for: the first n rows, h of them handled
+  abbrev pub runAt : Lists → ℕ → ℕ → Run (pairSystem sizes ps)
+  runAt y n h = record { rows = rowsIn (pairSystem sizes ps) (pairMasks sizes ps) y n; handled = h }
+
+  -- a row has been handled: full if there are more rows than were lent
+  unfoldable pub afterRow : ℕ → Run (pairSystem sizes ps) → Handled
+  afterRow lent x = cond (ltb lent (length (x .rows))) (Stopped Full) (goesOn (x .handled) (length (x .rows)))
+
+  -- what the step answers
+  unfoldable pub stepAnswer : ℕ → Run (pairSystem sizes ps) → Handled
+  stepAnswer lent x =
+      elim (turn (pairSystem sizes ps) x) [
+        | finished ↦ Stopped (Done (length (x .rows)))
+        | telling γ ↦ Stopped (tellingAt (sideOf sizes ps (current (pairSystem sizes ps) x) γ) γ)
+        | handling ↦ afterRow lent (order.handle (pairSystem sizes ps) x)
+      ]
+
+  -- the rows listed after the step, as many as were lent
+  unfoldable pub stepRows : ℕ → Run (pairSystem sizes ps) → List (Entry (pairSystem sizes ps))
+  stepRows lent x =
+      elim (turn (pairSystem sizes ps) x) [
+        | finished ↦ x .rows
+        | telling γ ↦ x .rows
+        | handling ↦ take lent (order.handle (pairSystem sizes ps) x .rows)
+      ]
+
+  -- Row h of the first n rows of y has been handled, and the rows are those of z.
+  pub record RowHandled (y z : Lists) (count n h : ℕ) (answer : Handled) : Type 0 where
+    pub answers : answer ≡ stepAnswer (length (y .packets)) (runAt y n h)
+    pub standing : Standing (pairSystem sizes ps) (pairMasks sizes ps) y z count (length (stepRows (length (y .packets)) (runAt y n h))) (stepRows (length (y .packets)) (runAt y n h))
+
+-- what a step asks: causes 1 to 10 don't hold, the first n rows are indexed and row h is one of them, and the work list is 0
+pub record StepReady (sizes : List ℕ) (L R : NodeLists) (masksL placesL masksR placesR : List ℕ) (y : Lists) (count n h : ℕ) (nextL nextR work : List ℕ) : Type 0 where
+  pub legal : LegalSizes sizes
+  pub left-legal : Legal sizes L
+  pub right-legal : Legal sizes R
+  pub prepared : BothPrepared L R masksL placesL masksR placesR
+  pub packets : count ≡ product sizes
+  pub indexed : Indexed (y .packets) (y .left) (y .right) count n (y .heads) (y .links)
+  pub parents : length (y .parents) ≡ length (y .packets)
+  pub row : h < n
+  pub small : getD (y .packets) h 0 < count
+  pub left-room : count ≤ length nextL
+  pub right-room : count ≤ length nextR
+  pub long : 16384 ≤ length work
+  pub zero : (i : ℕ) → i < 16384 → getD work i 0 ≡ 0

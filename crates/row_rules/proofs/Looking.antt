@@ -1,0 +1,96 @@
+-- What the loops look for, step by step.
+-- Assumes nothing.
+use Prim.Native.Nat.{ℕ, _+_, _≤_, _<_}
+use native.Mathlib.Nat.{le-antisymm}
+use native.Mathlib.Numerals.{add-one}
+use native.Mathlib.Omega.{arith}
+use mathlib.Core.Bool.{Bool, true, false, not, _&&_, _||_}
+use mathlib.Core.List.{List}
+use mathlib.Core.Option.{none}
+use mathlib.Core.Path.{_≡_, refl, sym, _∙_, ap, ap₂}
+use lib.Dec.{eqb}
+use lib.ListN.{length, getD}
+use borrow.Author.Tests.{eq-eqb, ne-eqb, lt-ltb, le-ltb}
+use Rattle.packet.specs.Lowest.{lowest}
+use Rattle.packet.proofs.Lowest.{lowest-more, lowest-found, lowest-none-whole}
+use Rattle.packet_set.specs.Bits.{onlyBits}
+use Rattle.index.specs.declared.Row.{Row}
+use Rattle.index.specs.Columns.{rowAt, listedBelow}
+use Rattle.row_rules.specs.declared.Spot.the-variants.{At, Nowhere}
+use Rattle.row_rules.specs.Presence.{spotOf, maskRow, fits, zeroStates, inColumns, strays, startMissing, nextMissing}
+
+-- ---- one row
+
+module _ (l r : ℕ) where
+  pub left-nonzero : (l ≡ 0 → ⊥) → false ≡ zeroStates l r
+  unfolding zeroStates
+  left-nonzero h = sym (ap (λ (b : Bool). b && eqb r 0) (ne-eqb l 0 h))
+
+  pub left-zero : l ≡ 0 → eqb r 0 ≡ zeroStates l r
+  unfolding zeroStates
+  left-zero e = sym (ap (λ (b : Bool). b && eqb r 0) (eq-eqb l 0 e))
+
+module _ (count leftDups rightDups α l r : ℕ) where
+  pub packet-over : count ≤ α → false ≡ fits count leftDups rightDups α l r
+  unfolding fits
+  packet-over h = sym (ap (λ (b : Bool). b && (onlyBits l leftDups && onlyBits r rightDups)) (le-ltb α count h))
+
+  module _ (small : α < count) where
+    pub left-strays : onlyBits l leftDups ≡ false → false ≡ fits count leftDups rightDups α l r
+    unfolding fits
+    left-strays e = sym (ap₂ (λ (a b : Bool). a && (b && onlyBits r rightDups)) (lt-ltb α count small) e)
+
+    pub left-fits : onlyBits l leftDups ≡ true → onlyBits r rightDups ≡ fits count leftDups rightDups α l r
+    unfolding fits
+    left-fits e = sym (ap₂ (λ (a b : Bool). a && (b && onlyBits r rightDups)) (lt-ltb α count small) e)
+
+-- ---- one row of the table
+
+module _ (packets lefts rights : List ℕ) where
+  -- rule (a) at row i, read off a row
+  pub strays-at : (count leftDups rightDups i : ℕ) (x : Row) → x ≡ rowAt packets lefts rights i → (b : Bool) → b ≡ fits count leftDups rightDups (x .packet) (getD (x .states) 0 0) (getD (x .states) 1 0)
+      → strays packets lefts rights count leftDups rightDups i ≡ not b
+  unfolding strays
+  strays-at count leftDups rightDups i x e b f = ap not (ap (λ (y : Row). fits count leftDups rightDups (y .packet) (getD (y .states) 0 0) (getD (y .states) 1 0)) (sym e) ∙ sym f)
+
+  pub start-at : (α : ℕ) (b : Bool) → b ≡ listedBelow (rowAt packets lefts rights) (length packets) (maskRow α 1 1) → startMissing packets lefts rights α ≡ not b
+  unfolding startMissing inColumns
+  start-at α b e = ap not (sym e)
+
+  -- rule (d) at packet γ, with the place that the code reads
+  pub next-at : (nextL nextR : List ℕ) (γ i : ℕ) → i ≡ γ → (b : Bool) → b ≡ nextMissing packets lefts rights γ (getD nextL i 0) (getD nextR i 0)
+      → nextMissing packets lefts rights γ (getD nextL γ 0) (getD nextR γ 0) ≡ b
+  next-at nextL nextR γ i e b f = ap (λ (n : ℕ). nextMissing packets lefts rights γ (getD nextL n 0) (getD nextR n 0)) (sym e) ∙ sym f
+
+  module _ (γ l r : ℕ) (z : Bool) (isZero : z ≡ zeroStates l r) where
+    pub next-zero : z ≡ true → false ≡ nextMissing packets lefts rights γ l r
+    unfolding nextMissing
+    next-zero e = sym (ap (λ (b : Bool). not (b || inColumns packets lefts rights γ l r)) (sym isZero ∙ e))
+
+    pub next-looked : z ≡ false → (b : Bool) → b ≡ listedBelow (rowAt packets lefts rights) (length packets) (maskRow γ l r) → not b ≡ nextMissing packets lefts rights γ l r
+    unfolding nextMissing inColumns
+    next-looked e b f = sym (ap₂ (λ (a c : Bool). not (a || c)) (sym isZero ∙ e) (sym f))
+
+-- ---- a loop over the spots
+
+-- nothing is found below i
+pub record Unbroken (test : ℕ → Bool) (n i : ℕ) : Type 0 where
+  pub within : i ≤ n
+  pub before : lowest test i ≡ none
+
+module _ (test : ℕ → Bool) (n : ℕ) where
+  pub unbroken-none : Unbroken test n 0
+  unfolding lowest
+  unbroken-none = record { within = omega arith; before = refl }
+
+  module _ {i : ℕ} (u : Unbroken test n i) where
+    pub unbroken-more : i < n → (b : Bool) → test i ≡ b → b ≡ false → Unbroken test n (i + 1)
+    unbroken-more h b e f = record { within = omega arith; before = rw add-one (lowest-more test i (u .before) (e ∙ f)) }
+
+    pub broken-here : i < n → (b : Bool) → test i ≡ b → b ≡ true → spotOf (At i) ≡ lowest test n
+    unfolding spotOf
+    broken-here h b e f = sym (lowest-found test i n (u .before) (e ∙ f) h)
+
+    pub unbroken-all : n ≤ i → spotOf Nowhere ≡ lowest test n
+    unfolding spotOf
+    unbroken-all h = sym (lowest-none-whole test i n (u .before) (le-antisymm (u .within) h))

@@ -1,0 +1,185 @@
+// Row rules (a), (b) and (d) of the evidence checker, one by one, over lent columns (document 01, "Row rules for evidence"). All
+// functions here are inner.
+// They need no policy: rule (c), the next states and the order of the rules are in `evidence`.
+ghost use mathlib.Core.Path.{_≡_};
+ghost use Prim.Native.Nat.{_<_, _≤_};
+ghost use lib.ListN.{length, getD};
+ghost use Rattle.packet.specs.Lowest.{lowest};
+ghost use Rattle.index.specs.Columns.{Table};
+ghost use Rattle.index.specs.Index.{Indexed};
+ghost use Rattle.row_rules.specs.Presence.{spotOf, fits, zeroStates, strays, startMissing, nextMissing};
+use index::Mask;
+use index::Row;
+
+// The lowest spot at which a rule is broken. Inner.
+pub enum Spot {
+    At(u16),
+    Nowhere,
+}
+
+fn wide(x: u16) -> usize
+    ensures { λ r. ⌜ r ≡ x ⌝ }
+{
+    x as usize
+}
+
+// Rule (a) at one row.
+fn row_fits(row: Row, count: u16, left_dups: u32, right_dups: u32) -> bool
+    requires { ⌜ («left_dups» < 32) × («right_dups» < 32) ⌝ }
+    ensures { λ r. ⌜ r ≡ fits count «left_dups» «right_dups» (row .packet) (getD (row .states) 0 0) (getD (row .states) 1 0) ⌝ }
+{
+    if count <= row.packet {
+        return false;
+    }
+    let states = row.states;
+    if !packet_set::in_range(states[0], left_dups) {
+        return false;
+    }
+    packet_set::in_range(states[1], right_dups)
+}
+
+// Inner: rule (a): the lowest row that breaks it.
+pub fn first_stray(
+    packets: &[u16],
+    lefts: &[Mask],
+    rights: &[Mask],
+    count: u16,
+    left_dups: u32,
+    right_dups: u32,
+) -> Spot
+    requires { ⌜ Table (now packets) (now lefts) (now rights) ⌝ }
+    requires { ⌜ length (now packets) ≤ 65535 ⌝ }
+    requires { ⌜ («left_dups» < 32) × («right_dups» < 32) ⌝ }
+    ensures { λ r. ⌜ spotOf r ≡ lowest (strays (now (packets .entry)) (now (lefts .entry)) (now (rights .entry)) count «left_dups» «right_dups») (length (now (packets .entry))) ⌝ }
+{
+    let mut i = 0;
+    while i < packets.len() {
+        if !row_fits(
+            index::row_at(packets, lefts, rights, i),
+            count,
+            left_dups,
+            right_dups,
+        ) {
+            return Spot::At(i as u16);
+        }
+        i += 1;
+    }
+    Spot::Nowhere
+}
+
+// Inner: rule (b): the lowest packet whose starting row is missing. Rows are looked up in the search's index.
+pub fn first_start_missing(
+    packets: &[u16],
+    lefts: &[Mask],
+    rights: &[Mask],
+    count: u16,
+    heads: &[u16],
+    links: &[u16],
+) -> Spot
+    requires { ⌜ Indexed (now packets) (now lefts) (now rights) count (length (now packets)) (now heads) (now links) ⌝ }
+    ensures { λ r. ⌜ spotOf r ≡ lowest (startMissing (now (packets .entry)) (now (lefts .entry)) (now (rights .entry))) count ⌝ }
+{
+    let mut alpha: u16 = 0;
+    while alpha < count {
+        let row = Row {
+            packet: alpha,
+            states: [1, 1],
+        };
+        if !index::find(
+            packets,
+            lefts,
+            rights,
+            packets.len(),
+            count,
+            heads,
+            links,
+            row,
+        ) {
+            return Spot::At(alpha);
+        }
+        alpha += 1;
+    }
+    Spot::Nowhere
+}
+
+fn zero_states(left: Mask, right: Mask) -> bool
+    ensures { λ r. ⌜ r ≡ zeroStates left right ⌝ }
+{
+    if left != 0 {
+        return false;
+    }
+    right == 0
+}
+
+// Rule (d) at one packet: the next row has a state that is not 0 and is missing.
+fn next_missing(
+    packets: &[u16],
+    lefts: &[Mask],
+    rights: &[Mask],
+    count: u16,
+    heads: &[u16],
+    links: &[u16],
+    packet: u16,
+    left: Mask,
+    right: Mask,
+) -> bool
+    requires { ⌜ Indexed (now packets) (now lefts) (now rights) count (length (now packets)) (now heads) (now links) ⌝ }
+    requires { ⌜ packet < count ⌝ }
+    ensures { λ r. ⌜ r ≡ nextMissing (now (packets .entry)) (now (lefts .entry)) (now (rights .entry)) packet left right ⌝ }
+{
+    if zero_states(left, right) {
+        return false;
+    }
+    let row = Row {
+        packet,
+        states: [left, right],
+    };
+    !index::find(
+        packets,
+        lefts,
+        rights,
+        packets.len(),
+        count,
+        heads,
+        links,
+        row,
+    )
+}
+
+// Inner: rule (d) at a row, from its next states: the lowest packet whose next row is missing.
+// In the index no two packets share a chain, so this walks the table at most once, however hostile its rows; where chains are
+// short, a packet takes a fixed time.
+pub fn first_next_missing(
+    packets: &[u16],
+    lefts: &[Mask],
+    rights: &[Mask],
+    count: u16,
+    heads: &[u16],
+    links: &[u16],
+    next_left: &[Mask],
+    next_right: &[Mask],
+) -> Spot
+    requires { ⌜ Indexed (now packets) (now lefts) (now rights) count (length (now packets)) (now heads) (now links) ⌝ }
+    requires { ⌜ (count ≤ length (now «next_left»)) × (count ≤ length (now «next_right»)) ⌝ }
+    ensures { λ r. ⌜ spotOf r ≡ lowest (λ γ. nextMissing (now (packets .entry)) (now (lefts .entry)) (now (rights .entry)) γ (getD (now («next_left» .entry)) γ 0) (getD (now («next_right» .entry)) γ 0)) count ⌝ }
+{
+    let mut gamma: u16 = 0;
+    while gamma < count {
+        let i = wide(gamma);
+        if next_missing(
+            packets,
+            lefts,
+            rights,
+            count,
+            heads,
+            links,
+            gamma,
+            next_left[i],
+            next_right[i],
+        ) {
+            return Spot::At(gamma);
+        }
+        gamma += 1;
+    }
+    Spot::Nowhere
+}

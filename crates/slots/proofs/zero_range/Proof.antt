@@ -1,0 +1,52 @@
+-- `zero_range` meets its contract. Assumes nothing.
+use Prim.Native.Nat.{_-_}
+use native.Mathlib.Omega.{arith}
+use Rattle.slots.proofs.Gathering.{Zeroing, zeroing-start, zeroing-turn, zeroing-end}
+use borrow.Author.Needs.{needs}
+use Rattle.slots.proofs.zero_range.Statement.{statement}
+use Rattle.slots.proofs.zero_range.Tie as tie
+
+abbrev Inv-loop : tie.InvT-loop
+Inv-loop list₀ start end i₀ list i = Zeroing start end list₀ list i
+
+abbrev μ-loop : tie.MeasureT-loop
+μ-loop list₀ start end i₀ list i = end - i
+
+loop-holds : tie.Need-loop-holds Inv-loop μ-loop
+loop-holds c = zeroing-start _ _ _
+
+mul-list : tie.Need-mul-list Inv-loop μ-loop
+mul-list c = omega (arith, c .before .loop .inv .long)
+
+slice-write-list : tie.Need-slice-write-list Inv-loop μ-loop
+slice-write-list c = omega (arith, c .before .loop .inv .long)
+
+add-i : tie.Need-add-i Inv-loop μ-loop
+add-i c = search needs
+
+loop-less : tie.Need-loop-less Inv-loop μ-loop
+loop-less c = search needs
+
+loop-again : tie.Need-loop-again Inv-loop μ-loop
+loop-again c = zeroing-turn _ _ _ _ _ (c .before .loop .inv) (c .before .before .pre) (c .loop-test .taken)
+
+same-length : tie.Need-same-length Inv-loop μ-loop
+same-length c = c .before .loop .inv .long
+
+returns : tie.Need-returns Inv-loop μ-loop
+returns c = zeroing-end _ _ _ _ _ (c .before .loop .inv) (c .loop-test .left)
+
+pub zero-range-spec : {M : Type 1} → statement M
+zero-range-spec =
+    tie.close
+    (tie.spec
+    Inv-loop
+    μ-loop
+    loop-holds
+    mul-list
+    slice-write-list
+    add-i
+    loop-less
+    loop-again
+    same-length
+    returns)

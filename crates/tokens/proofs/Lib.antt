@@ -1,0 +1,5 @@
+pub mod Below
+pub mod ByteLaws
+pub mod WordLaws
+pub mod TokenLaws
+pub mod TokensLeft

@@ -1,0 +1,248 @@
+-- What the token functions go by.
+use Prim.Native.Nat.{ℕ, zero, suc, _+_, _-_, _≤_, _<_}
+use native.Mathlib.Nat.{zero-add, le-refl}
+use native.Mathlib.Omega.{arith}
+use mathlib.Core.Bool.{Bool, true, false, not, _&&_, cond, Bool·beq}
+use mathlib.Core.List.{List, [], _∷_}
+use mathlib.Core.Logic.{_⊎_, inl, inr, ⊎-elim}
+use mathlib.Core.Path.{_≡_, refl, sym, _∙_, ap, ap₂, subst}
+use lib.Dec.{eqb}
+use lib.ListN.{length, getD, take, drop, length-drop, drop-of-length-le, List·getD-eq-default}
+use lib.Seq.{drop-cons, drop-drop, getD-drop}
+use borrow.Author.Tests.{ne-eqb, eqb-true}
+use Rattle.grammar.specs.Bytes.{isBlank, isLetter, isDigit, inWord}
+use Rattle.grammar.specs.Tokens.{Token, Placed, bad, isBad, wordToken, singleMark, doubleMark, beginsDouble, markToken, wordOf, frontToken, restOfToken, placedFrom, tokensFrom, fieldNames}
+use Rattle.grammar.specs.Kinds.{kindOf, valueOf, comparisonKind, classOf, kindAt, valueAt, placeAt, afterFront}
+use Rattle.tokens.specs.Inner.{NumbersOf, FrontAt, Skipped, TokenFrom}
+use Rattle.tokens.specs.declared.Token as Found
+use Rattle.tokens.proofs.Below.{below}
+use Rattle.tokens.proofs.ByteLaws.{beq-true}
+use Rattle.tokens.proofs.WordLaws.{and-false}
+use Rattle.packet.proofs.Tests.{or-false, T-true}
+
+module _ (names : List (List ℕ)) where
+  pub placed-over : (k at : ℕ) (bs : List ℕ) → placedFrom names k at bs ≡ placedFrom names 0 (k + at) (drop k bs)
+  unfolding placedFrom
+  placed-over zero at bs = ap (λ (n : ℕ). placedFrom names 0 n bs) (sym (zero-add at))
+  placed-over (suc k) at [] = refl
+  placed-over (suc k) at (b ∷ bs) = placed-over k (suc at) bs ∙ ap (λ (n : ℕ). placedFrom names 0 n (drop k bs)) (omega arith)
+
+  pub placed-blank : (at b : ℕ) (bs : List ℕ) → isBlank b ≡ true → placedFrom names 0 at (b ∷ bs) ≡ placedFrom names 0 (suc at) bs
+  unfolding placedFrom
+  placed-blank at b bs e = rw (e, placedFrom)
+
+  pub placed-front : (at b : ℕ) (bs : List ℕ) → isBlank b ≡ false
+      → placedFrom names 0 at (b ∷ bs) ≡ record { token = frontToken names b bs; start = at } ∷ placedFrom names (restOfToken b bs) (suc at) bs
+  unfolding placedFrom
+  placed-front at b bs e = rw (e, placedFrom)
+
+  pub from-end : (text : List ℕ) (at : ℕ) → length text ≤ at → tokensFrom names text at ≡ []
+  unfolding tokensFrom placedFrom
+  from-end text at h = rw (drop-of-length-le text h)
+
+  pub from-blank : (text : List ℕ) (at : ℕ) → at < length text → isBlank (getD text at 0) ≡ true → tokensFrom names text at ≡ tokensFrom names text (suc at)
+  unfolding tokensFrom
+  from-blank text at h e = rw (drop-cons text at 0 h) (placed-blank at (getD text at 0) (drop (suc at) text) e)
+
+  pub from-front : (text : List ℕ) (at : ℕ) → at < length text → isBlank (getD text at 0) ≡ false
+      → tokensFrom names text at
+      ≡ record { token = frontToken names (getD text at 0) (drop (suc at) text); start = at }
+      ∷ tokensFrom names text (suc at + restOfToken (getD text at 0) (drop (suc at) text))
+  unfolding tokensFrom
+  from-front text at h e =
+      rw (drop-cons text at 0 h) (placed-front at (getD text at 0) (drop (suc at) text) e)
+      ∙ ap (λ (l : List Placed). record { token = frontToken names (getD text at 0) (drop (suc at) text); start = at } ∷ l)
+      (placed-over (restOfToken (getD text at 0) (drop (suc at) text)) (suc at) (drop (suc at) text)
+      ∙ ap₂ (λ (n : ℕ) (l : List ℕ). placedFrom names 0 n l) (omega arith)
+      (drop-drop (restOfToken (getD text at 0) (drop (suc at) text)) (suc at) text))
+
+-- one byte more of a word
+pub word-more : (text : List ℕ) (i : ℕ) → i < length text → inWord (getD text i 0) ≡ true → wordOf (drop i text) ≡ getD text i 0 ∷ wordOf (drop (suc i) text)
+unfolding wordOf
+word-more text i h e = rw (drop-cons text i 0 h, e)
+
+pub word-stops : (text : List ℕ) (i : ℕ) → i < length text → inWord (getD text i 0) ≡ false → wordOf (drop i text) ≡ []
+unfolding wordOf
+word-stops text i h e = rw (drop-cons text i 0 h, e)
+
+pub word-none : (text : List ℕ) (i : ℕ) → length text ≤ i → wordOf (drop i text) ≡ []
+unfolding wordOf
+word-none text i h = rw (drop-of-length-le text h)
+
+word-part : (xs : List ℕ) → take (length (wordOf xs)) xs ≡ wordOf xs
+unfolding wordOf
+word-part [] = refl
+word-part (b ∷ bs) = go (inWord b) refl (word-part bs)
+  where
+    go : (t : Bool) → inWord b ≡ t → take (length (wordOf bs)) bs ≡ wordOf bs → take (length (wordOf (b ∷ bs))) (b ∷ bs) ≡ wordOf (b ∷ bs)
+    go true e h = rw e (ap (λ (l : List ℕ). b ∷ l) h)
+    go false e h = rw e
+
+word-short : (xs : List ℕ) → length (wordOf xs) ≤ length xs
+unfolding wordOf
+word-short [] = le-refl 0
+word-short (b ∷ bs) = go (inWord b) refl (word-short bs)
+  where
+    go : (t : Bool) → inWord b ≡ t → length (wordOf bs) ≤ length bs → length (wordOf (b ∷ bs)) ≤ length (b ∷ bs)
+    go true e h = rw e (omega arith)
+    go false e h = rw e (omega arith)
+
+-- the token of a word
+pub front-word : (text : List ℕ) (at end kind value : ℕ) → at < length text → inWord (getD text at 0) ≡ true
+    → end ≡ at + length (wordOf (drop at text))
+    → NumbersOf (wordToken fieldNames (take (end - at) (drop at text))) kind value
+    → FrontAt text at (record { kind = kind; value = value; start = at; next = end })
+unfolding frontToken restOfToken
+front-word text at end kind value h e q n =
+    record {
+      is = subst (λ (t : Token). NumbersOf t kind value) token n;
+      starts = refl;
+      ends = rw e (let l : length (wordOf (drop at text)) ≡ suc (length (wordOf (drop (suc at) text))) = ap length (word-more text at h e) in omega arith);
+      within = let l : length (wordOf (drop at text)) ≤ length (drop at text) = word-short (drop at text) in omega (arith, length-drop at text);
+    }
+  where
+    front : drop at text ≡ getD text at 0 ∷ drop (suc at) text
+    front = drop-cons text at 0 h
+
+    part : take (end - at) (drop at text) ≡ wordOf (drop at text)
+    part = let l : end - at ≡ length (wordOf (drop at text)) = omega (arith, q) in ap (λ (k : ℕ). take k (drop at text)) l ∙ word-part (drop at text)
+
+    token : wordToken fieldNames (take (end - at) (drop at text)) ≡ frontToken fieldNames (getD text at 0) (drop (suc at) text)
+    token = ap (wordToken fieldNames) (part ∙ ap wordOf front) ∙ sym (rw e)
+
+after-is : (text : List ℕ) (at : ℕ) → getD (drop (suc at) text) 0 0 ≡ getD text (at + 1) 0
+after-is text at = getD-drop (suc at) text 0 0 ∙ ap (λ (k : ℕ). getD text k 0) (omega arith)
+
+-- the token of a mark, which has one byte more or not
+pub front-mark : (text : List ℕ) (at kind value next : ℕ) → at < length text → inWord (getD text at 0) ≡ false
+    → NumbersOf (markToken (getD text at 0) (getD text (at + 1) 0)) kind value
+    → next ≡ at + 1 + cond (not (isBad (doubleMark (getD text at 0) (getD text (at + 1) 0)))) 1 0
+    → next ≤ length text
+    → FrontAt text at (record { kind = kind; value = value; start = at; next = next })
+unfolding frontToken restOfToken
+front-mark text at kind value next h e n q w =
+    record {
+      is = rw (e, after-is text at) n;
+      starts = refl;
+      ends = q ∙ rw (e, after-is text at) (ap (λ (k : ℕ). k + cond (not (isBad (doubleMark (getD text at 0) (getD text (at + 1) 0)))) 1 0) (omega arith));
+      within = w;
+    }
+
+-- a mark of two bytes
+pub double-33 : (a : ℕ) → valueOf (doubleMark 33 a) ≡ cond (eqb a 61) 3 0
+unfolding doubleMark valueOf comparisonKind
+double-33 a = go (eqb a 61)
+  where
+    go : (t : Bool) → valueOf (cond t (Rattle.grammar.specs.Tokens.comparison Rattle.grammar.specs.Tokens.differs) bad) ≡ cond t 3 0
+    go true = refl
+    go false = refl
+
+pub double-60 : (a : ℕ) → valueOf (doubleMark 60 a) ≡ cond (eqb a 45) 4 0
+unfolding doubleMark valueOf comparisonKind
+double-60 a = go (eqb a 45)
+  where
+    go : (t : Bool) → valueOf (cond t (Rattle.grammar.specs.Tokens.comparison Rattle.grammar.specs.Tokens.assigned) bad) ≡ cond t 4 0
+    go true = refl
+    go false = refl
+
+pub double-other : (b a : ℕ) → eqb b 33 ≡ false → eqb b 60 ≡ false → doubleMark b a ≡ bad
+unfolding doubleMark
+double-other b a e f = rw (e, f)
+
+pub double-alone : (b : ℕ) → doubleMark b 0 ≡ bad
+unfolding doubleMark
+double-alone b = rw (and-false (eqb b 33), and-false (eqb b 60))
+
+-- a mark of two bytes is bad or a comparison
+pub double-cases : (b a : ℕ) → (doubleMark b a ≡ bad) ⊎ ((kindOf (doubleMark b a) ≡ 5) × (isBad (doubleMark b a) ≡ false) × (valueOf (doubleMark b a) ≡ 0 → ⊥))
+unfolding doubleMark kindOf isBad valueOf comparisonKind
+double-cases b a = go (eqb b 33 && eqb a 61) (eqb b 60 && eqb a 45)
+  where
+    mark : Bool → Bool → Token
+    mark s t = cond s (Rattle.grammar.specs.Tokens.comparison Rattle.grammar.specs.Tokens.differs) (cond t (Rattle.grammar.specs.Tokens.comparison Rattle.grammar.specs.Tokens.assigned) bad)
+
+    go : (s t : Bool) → (mark s t ≡ bad) ⊎ ((kindOf (mark s t) ≡ 5) × (isBad (mark s t) ≡ false) × (valueOf (mark s t) ≡ 0 → ⊥))
+    go true t = inr (refl, refl, λ e. omega arith)
+    go false true = inr (refl, refl, λ e. omega arith)
+    go false false = inl refl
+
+pub class-double : (b : ℕ) → b < 256 → eqb (classOf b) 4 ≡ beginsDouble b
+unfolding classOf isBlank isLetter isDigit beginsDouble singleMark kindOf
+class-double b h = beq-true _ _ (below (λ b. Bool·beq (eqb (classOf b) 4) (beginsDouble b)) 256 tt b h)
+
+single-value : (b : ℕ) → b < 256 → valueOf (singleMark b) ≡ cond (eqb (kindOf (singleMark b)) 5) 2 0
+unfolding singleMark kindOf valueOf comparisonKind
+single-value b h = eqb-true _ _ (T-true _ (below (λ b. eqb (valueOf (singleMark b)) (cond (eqb (kindOf (singleMark b)) 5) 2 0)) 256 tt b h))
+
+-- a mark of one byte, by its class
+pub single-class : (b a : ℕ) → b < 256 → isBlank b ≡ false → inWord b ≡ false → beginsDouble b ≡ false
+    → (markToken b a ≡ singleMark b) × (kindOf (singleMark b) ≡ classOf b) × (valueOf (singleMark b) ≡ cond (eqb (classOf b) 5) 2 0) × (doubleMark b a ≡ bad)
+unfolding markToken classOf inWord beginsDouble
+single-class b a h blank word double =
+    let letter : isLetter b ≡ false = or-false (isLetter b) (isDigit b) word .0 in
+    let digit : isDigit b ≡ false = or-false (isLetter b) (isDigit b) word .1 in
+    let k : kindOf (singleMark b) ≡ classOf b = sym (rw (blank, letter, digit, double)) in
+    (rw double, k, single-value b h ∙ ap (λ (n : ℕ). cond (eqb n 5) 2 0) k, double-other b a (or-false (eqb b 33) (eqb b 60) double .0) (or-false (eqb b 33) (eqb b 60) double .1))
+
+pub word-within : (text : List ℕ) (at r : ℕ) → at ≤ length text → r ≡ at + length (wordOf (drop at text)) → r ≤ length text
+word-within text at r h e = let l : length (wordOf (drop at text)) ≤ length (drop at text) = word-short (drop at text) in omega (arith, length-drop at text)
+
+module _ (text : List ℕ) (at : ℕ) (h : at < length text) (word : inWord (getD text at 0) ≡ false) where
+  -- no mark of two bytes
+  front-bad : beginsDouble (getD text at 0) ≡ true → doubleMark (getD text at 0) (getD text (at + 1) 0) ≡ bad → FrontAt text at (record { kind = 0; value = 0; start = at; next = at + 1 })
+  unfolding markToken isBad kindOf valueOf
+  front-bad d e = front-mark text at 0 0 (at + 1) h word (rw (d, e) (record { kind-is = refl; value-is = refl })) (rw e (omega arith)) (omega arith)
+
+  pub front-alone : beginsDouble (getD text at 0) ≡ true → length text ≤ at + 1 → FrontAt text at (record { kind = 0; value = 0; start = at; next = at + 1 })
+  front-alone d l = front-bad d (rw (List·getD-eq-default text 0 l) (double-alone (getD text at 0)))
+
+  pub front-none : (k : ℕ) → beginsDouble (getD text at 0) ≡ true → k ≡ valueOf (doubleMark (getD text at 0) (getD text (at + 1) 0)) → k ≡ 0 → FrontAt text at (record { kind = 0; value = 0; start = at; next = at + 1 })
+  front-none k d e z = ⊎-elim (λ q. front-bad d q) (λ p. absurd (p .2 (sym e ∙ z))) (double-cases (getD text at 0) (getD text (at + 1) 0))
+
+  pub front-double : (k : ℕ) → beginsDouble (getD text at 0) ≡ true → at + 1 < length text → k ≡ valueOf (doubleMark (getD text at 0) (getD text (at + 1) 0)) → (k ≡ 0 → ⊥) → FrontAt text at (record { kind = 5; value = k; start = at; next = at + 1 + 1 })
+  unfolding markToken valueOf
+  front-double k d l e z =
+      ⊎-elim (λ q. absurd (z (e ∙ ap valueOf q)))
+      (λ p. front-mark text at 5 k (at + 1 + 1) h word (rw d (record { kind-is = sym (p .0); value-is = e })) (rw (p .1) refl) (omega arith))
+      (double-cases (getD text at 0) (getD text (at + 1) 0))
+
+  pub front-single : (k : ℕ) → getD text at 0 < 256 → isBlank (getD text at 0) ≡ false → k ≡ classOf (getD text at 0) → (k ≡ 4 → ⊥) → FrontAt text at (record { kind = k; value = cond (eqb k 5) 2 0; start = at; next = at + 1 })
+  unfolding isBad
+  front-single k b blank e z =
+      let d : beginsDouble (getD text at 0) ≡ false = sym (class-double (getD text at 0) b) ∙ ne-eqb _ _ (λ q. z (e ∙ q)) in
+      let s = single-class (getD text at 0) (getD text (at + 1) 0) b blank word d in
+      front-mark text at k (cond (eqb k 5) 2 0) (at + 1) h word
+      (rw (s .0) (record { kind-is = e ∙ sym (s .1); value-is = ap (λ (n : ℕ). cond (eqb n 5) 2 0) e ∙ sym (s .2) }))
+      (rw (s .3) (omega arith)) (omega arith)
+
+-- the first token after blanks
+pub token-end : (text : List ℕ) (at s : ℕ) → Skipped text at s → length text ≤ s → TokenFrom text at (record { kind = 1; value = 0; start = s; next = s })
+unfolding kindAt valueAt placeAt afterFront
+token-end text at s k h =
+    let none : tokensFrom fieldNames text s ≡ [] = from-end fieldNames text s h in
+    let before : tokensFrom fieldNames text at ≡ [] = sym (k .same) ∙ none in
+    record {
+      kind-is = rw before;
+      value-is = rw before;
+      start-is = rw before (omega (arith, k .within));
+      rest = rw (none, before);
+      low = k .low;
+      onward = λ no. absurd (no refl);
+      within = k .within;
+    }
+
+pub token-front : (text : List ℕ) (at s : ℕ) (r : Found.Token) → Skipped text at s → s < length text → FrontAt text s r → TokenFrom text at r
+unfolding kindAt valueAt placeAt afterFront
+token-front text at s r k h f =
+    let here : tokensFrom fieldNames text at
+    ≡ record { token = frontToken fieldNames (getD text s 0) (drop (suc s) text); start = s }
+    ∷ tokensFrom fieldNames text (suc s + restOfToken (getD text s 0) (drop (suc s) text)) = sym (k .same) ∙ from-front fieldNames text s h (k .found h) in
+    record {
+      kind-is = f .is .kind-is ∙ sym (rw here);
+      value-is = f .is .value-is ∙ sym (rw here);
+      start-is = f .starts ∙ sym (rw here);
+      rest = ap (tokensFrom fieldNames text) (f .ends) ∙ sym (rw here);
+      low = omega (arith, k .low, f .starts);
+      onward = λ _. omega (arith, f .starts, f .ends);
+      within = f .within;
+    }

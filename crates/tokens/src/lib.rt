@@ -1,0 +1,156 @@
+// Tokens of a text, one at a time, as the reader asks for them. All functions here are inner.
+// Their kinds: 0 bad, 1 the end, 2 constant, 3 field, 4 number, 5 comparison, 6 +, 7 ;, 8 *, 9 (, 10 ).
+mod bytes;
+mod words;
+
+ghost use mathlib.Core.Path.{_≡_};
+ghost use mathlib.Core.Bool.{true, false};
+ghost use Prim.Native.Nat.{_+_, _≤_, _<_};
+ghost use lib.ListN.{length, getD, drop};
+ghost use Rattle.grammar.specs.Bytes.{isBlank, inWord};
+ghost use Rattle.grammar.specs.Tokens.{wordOf, doubleMark, beginsDouble};
+ghost use Rattle.grammar.specs.Kinds.{classTable, valueOf};
+ghost use Rattle.tokens.specs.Inner.{Skipped, FrontAt, TokenFrom};
+
+// A token by its numbers, with the byte at which it starts and the byte after it.
+pub struct Token {
+    pub kind: u8,
+    pub value: u16,
+    pub start: usize,
+    pub next: usize,
+}
+
+fn skip(classes: &[u8], text: &[u8], at: usize) -> usize
+    requires { ⌜ (now classes ≡ classTable) × (at ≤ length (now text)) ⌝ }
+    ensures { λ r. ⌜ Skipped (now (text .entry)) at r ⌝ }
+{
+    let mut i = at;
+    while i < text.len() {
+        if !bytes::is_blank(classes, text[i]) {
+            return i;
+        }
+        i += 1;
+    }
+    i
+}
+
+fn word_end(classes: &[u8], text: &[u8], at: usize) -> usize
+    requires { ⌜ (now classes ≡ classTable) × (at ≤ length (now text)) ⌝ }
+    ensures { λ r. ⌜ r ≡ at + length (wordOf (drop at (now (text .entry)))) ⌝ }
+{
+    let mut i = at;
+    while i < text.len() {
+        if !bytes::in_word(classes, text[i]) {
+            return i;
+        }
+        i += 1;
+    }
+    i
+}
+
+fn word_at(classes: &[u8], text: &[u8], at: usize) -> Token
+    requires { ⌜ (now classes ≡ classTable) × (at < length (now text)) × (inWord (getD (now text) at 0) ≡ true) ⌝ }
+    ensures { λ r. ⌜ FrontAt (now (text .entry)) at r ⌝ }
+{
+    let end = word_end(classes, text, at);
+    let w = words::word_token(&text[at..end]);
+    Token {
+        kind: w.kind,
+        value: w.value,
+        start: at,
+        next: end,
+    }
+}
+
+// The kind of the comparison that two bytes are, or 0.
+fn double(b: u8, after: u8) -> u16
+    ensures { λ r. ⌜ r ≡ valueOf (doubleMark b after) ⌝ }
+{
+    if b == 33 {
+        if after == 61 {
+            return 3;
+        }
+        return 0;
+    }
+    if b == 60 {
+        if after == 45 {
+            return 4;
+        }
+    }
+    0
+}
+
+fn double_at(text: &[u8], at: usize) -> Token
+    requires { ⌜ (at < length (now text)) × (inWord (getD (now text) at 0) ≡ false) × (beginsDouble (getD (now text) at 0) ≡ true) ⌝ }
+    ensures { λ r. ⌜ FrontAt (now (text .entry)) at r ⌝ }
+{
+    let next = at + 1;
+    if text.len() <= next {
+        return Token {
+            kind: 0,
+            value: 0,
+            start: at,
+            next,
+        };
+    }
+    let k = double(text[at], text[next]);
+    if k == 0 {
+        return Token {
+            kind: 0,
+            value: 0,
+            start: at,
+            next,
+        };
+    }
+    Token {
+        kind: 5,
+        value: k,
+        start: at,
+        next: next + 1,
+    }
+}
+
+fn mark_at(classes: &[u8], text: &[u8], at: usize) -> Token
+    requires { ⌜ (now classes ≡ classTable) × (at < length (now text)) × (inWord (getD (now text) at 0) ≡ false) × (isBlank (getD (now text) at 0) ≡ false) ⌝ }
+    ensures { λ r. ⌜ FrontAt (now (text .entry)) at r ⌝ }
+{
+    let c = bytes::class_of(classes, text[at]);
+    if c == 4 {
+        return double_at(text, at);
+    }
+    if c == 5 {
+        return Token {
+            kind: 5,
+            value: 2,
+            start: at,
+            next: at + 1,
+        };
+    }
+    Token {
+        kind: c,
+        value: 0,
+        start: at,
+        next: at + 1,
+    }
+}
+
+// Inner: the first token from a byte on, or the end.
+pub fn token_from(text: &[u8], at: usize) -> Token
+    requires { ⌜ at ≤ length (now text) ⌝ }
+    ensures { λ r. ⌜ TokenFrom (now (text .entry)) at r ⌝ }
+{
+    let classes = bytes::classes();
+    let start = skip(&classes, text, at);
+    if text.len() <= start {
+        return Token {
+            kind: 1,
+            value: 0,
+            start,
+            next: start,
+        };
+    }
+    if bytes::in_word(&classes, text[start]) {
+        return word_at(&classes, text, start);
+    }
+    mark_at(&classes, text, start)
+}
