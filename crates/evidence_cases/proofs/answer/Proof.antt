@@ -12,10 +12,10 @@ slice-aggregate-fill : tie.Need-slice-aggregate-fill
 slice-aggregate-fill c = search needs
 
 fill-requires : tie.Need-fill-requires
-fill-requires c κs = search needs
+fill-requires c κs = tt
 
 least-requires : tie.Need-least-requires
-least-requires c κs = search needs
+least-requires c κs = tt
 
 array-borrow-prefix-work : tie.Need-array-borrow-prefix-work
 array-borrow-prefix-work c = search needs
@@ -24,19 +24,19 @@ slice-aggregate-check : tie.Need-slice-aggregate-check
 slice-aggregate-check c = sym (length-take-le _ _ (omega (arith, c .before .least .ensures, c .before .before .before .fill .kept .0)))
 
 check-requires : tie.Need-check-requires
-check-requires c κs = search needs
+check-requires c κs = tt
 
 show-requires : tie.Need-show-requires
-show-requires c κs = search needs
+show-requires c κs = tt
 
 slice-aggregate-show-work : tie.Need-slice-aggregate-show-work
 slice-aggregate-show-work c = sym (length-front {A = ℕ} (c .before .before .before .before .before .before .before .fill .last .0) (c .before .before .before .check .last .1 .1 .1 .1 .1 .1 .1 .1 .1 .1 .0) (c .before .before .before .before .before .least .result) (c .before .before .before .check .kept .1 .1 .1 .1 .1 .1 .1 .1 .1 .1 .0) ∙ c .before .before .before .before .before .before .before .fill .kept .0)
 
 show-work-requires : tie.Need-show-work-requires
-show-work-requires c κs = search needs
+show-work-requires c κs = tt
 
 returns : tie.Need-returns
-returns c = search needs
+returns c = tt
 
 pub answer-spec : {M : Type 1} → statement M
 answer-spec =

@@ -16,10 +16,10 @@ abbrev μ-loop : tie.MeasureT-loop
 μ-loop high low out₀ h l i₀ out i = length out - i
 
 returns : tie.Need-returns Inv-loop μ-loop
-returns c = search needs
+returns c = tt
 
 returns-2 : tie.Need-returns-2 Inv-loop μ-loop
-returns-2 c = search needs
+returns-2 c = tt
 
 loop-holds : tie.Need-loop-holds Inv-loop μ-loop
 loop-holds c = refl
@@ -43,7 +43,7 @@ shared-slice-read-mask-2 : tie.Need-shared-slice-read-mask-2 Inv-loop μ-loop
 shared-slice-read-mask-2 c = mod-lt _ (omega (arith, c .before .before .before .before .if2 .left))
 
 mask-requires : tie.Need-mask-requires Inv-loop μ-loop
-mask-requires c κs = search needs
+mask-requires c κs = tt
 
 mul-out : tie.Need-mul-out Inv-loop μ-loop
 mul-out c = search needs
@@ -64,7 +64,7 @@ same-length : tie.Need-same-length Inv-loop μ-loop
 same-length c = c .before .loop .inv
 
 returns-3 : tie.Need-returns-3 Inv-loop μ-loop
-returns-3 c = search needs
+returns-3 c = tt
 
 pub spread-masks-spec : {M : Type 1} → statement M
 spread-masks-spec =

@@ -8,19 +8,19 @@ use Rattle.evidence_cases.proofs.table.Statement.{statement}
 use Rattle.evidence_cases.proofs.table.Tie as tie
 
 scan-long-requires : tie.Need-scan-long-requires
-scan-long-requires c κs = search needs
+scan-long-requires c κs = tt
 
 scan-long-requires-2 : tie.Need-scan-long-requires-2
-scan-long-requires-2 c κs = search needs
+scan-long-requires-2 c κs = tt
 
 scan-long-requires-3 : tie.Need-scan-long-requires-3
-scan-long-requires-3 c κs = search needs
+scan-long-requires-3 c κs = tt
 
 scan-long-requires-4 : tie.Need-scan-long-requires-4
-scan-long-requires-4 c κs = search needs
+scan-long-requires-4 c κs = tt
 
 scan-long-requires-5 : tie.Need-scan-long-requires-5
-scan-long-requires-5 c κs = search needs
+scan-long-requires-5 c κs = tt
 
 array-share-prefix-packet : tie.Need-array-share-prefix-packet
 array-share-prefix-packet c = search needs
@@ -53,10 +53,10 @@ slice-aggregate-lent-5 : tie.Need-slice-aggregate-lent-5
 slice-aggregate-lent-5 c = sym (length-take-le _ _ (omega (arith, c .before .before .before .before .before .before .before .before .before .before .scan-long5 .ensures .0, c .before .before .before .before .before .before .before .before .before .before .scan-long5 .ensures .1)))
 
 lent-requires : tie.Need-lent-requires
-lent-requires c κs = search needs
+lent-requires c κs = tt
 
 returns : tie.Need-returns
-returns c = search needs
+returns c = tt
 
 pub table-spec : {M : Type 1} → statement M
 table-spec =

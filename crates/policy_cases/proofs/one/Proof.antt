@@ -8,13 +8,13 @@ use Rattle.policy_cases.proofs.one.Statement.{statement}
 use Rattle.policy_cases.proofs.one.Tie as tie
 
 scan-long-bytes-requires : tie.Need-scan-long-bytes-requires
-scan-long-bytes-requires c κs = search needs
+scan-long-bytes-requires c κs = tt
 
 scan-long-requires : tie.Need-scan-long-requires
-scan-long-requires c κs = search needs
+scan-long-requires c κs = tt
 
 scan-long-requires-2 : tie.Need-scan-long-requires-2
-scan-long-requires-2 c κs = search needs
+scan-long-requires-2 c κs = tt
 
 array-share-prefix-kind : tie.Need-array-share-prefix-kind
 array-share-prefix-kind c = search needs
@@ -35,13 +35,13 @@ slice-aggregate-policy-legality-3 : tie.Need-slice-aggregate-policy-legality-3
 slice-aggregate-policy-legality-3 c = sym (length-take-le _ _ (omega (arith, c .before .before .before .before .before .before .scan-long2 .ensures .0, c .before .before .before .before .before .before .scan-long2 .ensures .1)))
 
 policy-legality-requires : tie.Need-policy-legality-requires
-policy-legality-requires c κs = search needs
+policy-legality-requires c κs = tt
 
 show-one-requires : tie.Need-show-one-requires
-show-one-requires c κs = search needs
+show-one-requires c κs = tt
 
 returns : tie.Need-returns
-returns c = search needs
+returns c = tt
 
 pub one-spec : {M : Type 1} → statement M
 one-spec =

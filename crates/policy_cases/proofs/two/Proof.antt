@@ -8,22 +8,22 @@ use Rattle.policy_cases.proofs.two.Statement.{statement}
 use Rattle.policy_cases.proofs.two.Tie as tie
 
 scan-long-bytes-requires : tie.Need-scan-long-bytes-requires
-scan-long-bytes-requires c κs = search needs
+scan-long-bytes-requires c κs = tt
 
 scan-long-requires : tie.Need-scan-long-requires
-scan-long-requires c κs = search needs
+scan-long-requires c κs = tt
 
 scan-long-requires-2 : tie.Need-scan-long-requires-2
-scan-long-requires-2 c κs = search needs
+scan-long-requires-2 c κs = tt
 
 scan-long-bytes-requires-2 : tie.Need-scan-long-bytes-requires-2
-scan-long-bytes-requires-2 c κs = search needs
+scan-long-bytes-requires-2 c κs = tt
 
 scan-long-requires-3 : tie.Need-scan-long-requires-3
-scan-long-requires-3 c κs = search needs
+scan-long-requires-3 c κs = tt
 
 scan-long-requires-4 : tie.Need-scan-long-requires-4
-scan-long-requires-4 c κs = search needs
+scan-long-requires-4 c κs = tt
 
 array-share-prefix-kind : tie.Need-array-share-prefix-kind
 array-share-prefix-kind c = search needs
@@ -62,13 +62,13 @@ slice-aggregate-pair-legality-6 : tie.Need-slice-aggregate-pair-legality-6
 slice-aggregate-pair-legality-6 c = sym (length-take-le _ _ (omega (arith, c .before .before .before .before .before .before .before .before .before .before .before .before .scan-long4 .ensures .0, c .before .before .before .before .before .before .before .before .before .before .before .before .scan-long4 .ensures .1)))
 
 pair-legality-requires : tie.Need-pair-legality-requires
-pair-legality-requires c κs = search needs
+pair-legality-requires c κs = tt
 
 show-two-requires : tie.Need-show-two-requires
-show-two-requires c κs = search needs
+show-two-requires c κs = tt
 
 returns : tie.Need-returns
-returns c = search needs
+returns c = tt
 
 pub two-spec : {M : Type 1} → statement M
 two-spec =

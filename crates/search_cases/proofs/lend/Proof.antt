@@ -43,7 +43,7 @@ slice-aggregate-search-6 : tie.Need-slice-aggregate-search-6
 slice-aggregate-search-6 c = sym (length-take-le _ _ (c .before .before .before .before .before .before .before .before .before .before .before .before .before .before .before .before .before .before .before .pre .5))
 
 search-requires : tie.Need-search-requires
-search-requires c κs = search needs
+search-requires c κs = tt
 
 same-length : tie.Need-same-length
 same-length c = search needs
@@ -64,7 +64,7 @@ same-length-6 : tie.Need-same-length-6
 same-length-6 c = search needs
 
 returns : tie.Need-returns
-returns c = search needs
+returns c = tt
 
 pub lend-spec : {M : Type 1} → statement M
 lend-spec =

@@ -23,7 +23,7 @@ shared-slice-read-widest : tie.Need-shared-slice-read-widest Inv-loop μ-loop
 shared-slice-read-widest c = search needs
 
 widest-requires : tie.Need-widest-requires Inv-loop μ-loop
-widest-requires c κs = search needs
+widest-requires c κs = tt
 
 mixed-requires : tie.Need-mixed-requires Inv-loop μ-loop
 mixed-requires c κs = search needs
@@ -38,7 +38,7 @@ loop-again : tie.Need-loop-again Inv-loop μ-loop
 loop-again c = search needs
 
 returns : tie.Need-returns Inv-loop μ-loop
-returns c = search needs
+returns c = tt
 
 pub sum-of-masks-spec : {M : Type 1} → statement M
 sum-of-masks-spec =

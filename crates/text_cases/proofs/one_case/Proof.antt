@@ -8,37 +8,37 @@ use Rattle.text_cases.proofs.one_case.Statement.{statement}
 use Rattle.text_cases.proofs.one_case.Tie as tie
 
 scan-requires : tie.Need-scan-requires
-scan-requires c κs = search needs
+scan-requires c κs = tt
 
 scan-requires-2 : tie.Need-scan-requires-2
-scan-requires-2 c κs = search needs
+scan-requires-2 c κs = tt
 
 scan-requires-3 : tie.Need-scan-requires-3
-scan-requires-3 c κs = search needs
+scan-requires-3 c κs = tt
 
 build-requires : tie.Need-build-requires
-build-requires c κs = search needs
+build-requires c κs = tt
 
 least-requires : tie.Need-least-requires
-least-requires c κs = search needs
+least-requires c κs = tt
 
 size-requires : tie.Need-size-requires
-size-requires c κs = search needs
+size-requires c κs = tt
 
 least-requires-2 : tie.Need-least-requires-2
-least-requires-2 c κs = search needs
+least-requires-2 c κs = tt
 
 size-requires-2 : tie.Need-size-requires-2
-size-requires-2 c κs = search needs
+size-requires-2 c κs = tt
 
 least-requires-3 : tie.Need-least-requires-3
-least-requires-3 c κs = search needs
+least-requires-3 c κs = tt
 
 size-requires-3 : tie.Need-size-requires-3
-size-requires-3 c κs = search needs
+size-requires-3 c κs = tt
 
 least-requires-4 : tie.Need-least-requires-4
-least-requires-4 c κs = search needs
+least-requires-4 c κs = tt
 
 slice-reshare-prefix-answer : tie.Need-slice-reshare-prefix-answer
 slice-reshare-prefix-answer c = search needs
@@ -65,13 +65,13 @@ slice-aggregate-answer-4 : tie.Need-slice-aggregate-answer-4
 slice-aggregate-answer-4 c = sym (length-take-le _ _ (omega (arith, c .before .before .before .before .least4 .ensures .1)))
 
 answer-requires : tie.Need-answer-requires
-answer-requires c κs = search needs
+answer-requires c κs = tt
 
 same-length : tie.Need-same-length
 same-length c = search needs
 
 returns : tie.Need-returns
-returns c = search needs
+returns c = tt
 
 pub one-case-spec : {M : Type 1} → statement M
 one-case-spec =

@@ -22,7 +22,7 @@ shared-slice-read-weight : tie.Need-shared-slice-read-weight Inv-loop μ-loop
 shared-slice-read-weight c = search needs
 
 weight-requires : tie.Need-weight-requires Inv-loop μ-loop
-weight-requires c κs = search needs
+weight-requires c κs = tt
 
 add-count : tie.Need-add-count Inv-loop μ-loop
 add-count c = search needs
@@ -37,7 +37,7 @@ loop-again : tie.Need-loop-again Inv-loop μ-loop
 loop-again c = search needs
 
 returns : tie.Need-returns Inv-loop μ-loop
-returns c = search needs
+returns c = tt
 
 pub holding-spec : {M : Type 1} → statement M
 holding-spec =

@@ -8,25 +8,25 @@ use Rattle.traces_cases.proofs.one_case.Statement.{statement}
 use Rattle.traces_cases.proofs.one_case.Tie as tie
 
 scan-short-requires : tie.Need-scan-short-requires
-scan-short-requires c κs = search needs
+scan-short-requires c κs = tt
 
 scan-long-bytes-requires : tie.Need-scan-long-bytes-requires
-scan-long-bytes-requires c κs = search needs
+scan-long-bytes-requires c κs = tt
 
 scan-long-requires : tie.Need-scan-long-requires
-scan-long-requires c κs = search needs
+scan-long-requires c κs = tt
 
 scan-long-requires-2 : tie.Need-scan-long-requires-2
-scan-long-requires-2 c κs = search needs
+scan-long-requires-2 c κs = tt
 
 scan-long-bytes-requires-2 : tie.Need-scan-long-bytes-requires-2
-scan-long-bytes-requires-2 c κs = search needs
+scan-long-bytes-requires-2 c κs = tt
 
 scan-long-requires-3 : tie.Need-scan-long-requires-3
-scan-long-requires-3 c κs = search needs
+scan-long-requires-3 c κs = tt
 
 scan-long-requires-4 : tie.Need-scan-long-requires-4
-scan-long-requires-4 c κs = search needs
+scan-long-requires-4 c κs = tt
 
 array-share-prefix-sizes : tie.Need-array-share-prefix-sizes
 array-share-prefix-sizes c = search needs
@@ -71,10 +71,10 @@ slice-aggregate-traced-7 : tie.Need-slice-aggregate-traced-7
 slice-aggregate-traced-7 c = sym (length-take-le _ _ (omega (arith, c .before .before .before .before .before .before .before .before .before .before .before .before .before .before .scan-long4 .ensures .0, c .before .before .before .before .before .before .before .before .before .before .before .before .before .before .scan-long4 .ensures .1)))
 
 traced-requires : tie.Need-traced-requires
-traced-requires c κs = search needs
+traced-requires c κs = tt
 
 returns : tie.Need-returns
-returns c = search needs
+returns c = tt
 
 pub one-case-spec : {M : Type 1} → statement M
 one-case-spec =

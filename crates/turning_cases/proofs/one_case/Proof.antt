@@ -8,16 +8,16 @@ use Rattle.turning_cases.proofs.one_case.Statement.{statement}
 use Rattle.turning_cases.proofs.one_case.Tie as tie
 
 scan-requires : tie.Need-scan-requires
-scan-requires c κs = search needs
+scan-requires c κs = tt
 
 scan-short-requires : tie.Need-scan-short-requires
-scan-short-requires c κs = search needs
+scan-short-requires c κs = tt
 
 scan-requires-2 : tie.Need-scan-requires-2
-scan-requires-2 c κs = search needs
+scan-requires-2 c κs = tt
 
 scan-short-requires-2 : tie.Need-scan-short-requires-2
-scan-short-requires-2 c κs = search needs
+scan-short-requires-2 c κs = tt
 
 array-share-prefix-sizes : tie.Need-array-share-prefix-sizes
 array-share-prefix-sizes c = search needs
@@ -35,7 +35,7 @@ slice-aggregate-values-2 : tie.Need-slice-aggregate-values-2
 slice-aggregate-values-2 c = sym (length-take-le _ _ (omega (arith, c .before .before .before .before .before .before .before .scan-short2 .ensures .0, c .before .before .before .before .before .before .before .scan-short2 .ensures .1)))
 
 values-requires : tie.Need-values-requires
-values-requires c κs = search needs
+values-requires c κs = tt
 
 array-share-prefix-sizes-2 : tie.Need-array-share-prefix-sizes-2
 array-share-prefix-sizes-2 c = search needs
@@ -50,13 +50,13 @@ slice-aggregate-number-2 : tie.Need-slice-aggregate-number-2
 slice-aggregate-number-2 c = sym (length-take-le _ _ (omega (arith, c .before .before .before .before .before .before .scan-short2 .ensures .0, c .before .before .before .before .before .before .scan-short2 .ensures .1)))
 
 number-requires : tie.Need-number-requires
-number-requires c κs = search needs
+number-requires c κs = tt
 
 returns : tie.Need-returns
-returns c = search needs
+returns c = tt
 
 returns-2 : tie.Need-returns-2
-returns-2 c = search needs
+returns-2 c = tt
 
 pub one-case-spec : {M : Type 1} → statement M
 one-case-spec =

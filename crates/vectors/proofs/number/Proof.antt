@@ -10,13 +10,13 @@ slice-aggregate-fill16 : tie.Need-slice-aggregate-fill16
 slice-aggregate-fill16 c = search needs
 
 fill16-requires : tie.Need-fill16-requires
-fill16-requires c κs = search needs
+fill16-requires c κs = tt
 
 slice-aggregate-fill16-2 : tie.Need-slice-aggregate-fill16-2
 slice-aggregate-fill16-2 c = search needs
 
 fill16-requires-2 : tie.Need-fill16-requires-2
-fill16-requires-2 c κs = search needs
+fill16-requires-2 c κs = tt
 
 array-share-prefix-sizes : tie.Need-array-share-prefix-sizes
 array-share-prefix-sizes c = omega (arith, c .before .before .before .before .fill16 .ensures, c .before .before .before .before .fill16 .kept .1 .1 .0)
@@ -31,10 +31,10 @@ slice-aggregate-number-shown-2 : tie.Need-slice-aggregate-number-shown-2
 slice-aggregate-number-shown-2 c = sym (length-take-le _ _ (omega (arith, c .before .before .before .fill162 .ensures, c .before .before .before .fill162 .kept .1 .1 .0)))
 
 number-shown-requires : tie.Need-number-shown-requires
-number-shown-requires c κs = search needs
+number-shown-requires c κs = tt
 
 returns : tie.Need-returns
-returns c = search needs
+returns c = tt
 
 pub number-spec : {M : Type 1} → statement M
 number-spec =

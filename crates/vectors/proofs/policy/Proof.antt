@@ -10,25 +10,25 @@ slice-aggregate-fill16 : tie.Need-slice-aggregate-fill16
 slice-aggregate-fill16 c = search needs
 
 fill16-requires : tie.Need-fill16-requires
-fill16-requires c κs = search needs
+fill16-requires c κs = tt
 
 slice-aggregate-fill8 : tie.Need-slice-aggregate-fill8
 slice-aggregate-fill8 c = search needs
 
 fill8-requires : tie.Need-fill8-requires
-fill8-requires c κs = search needs
+fill8-requires c κs = tt
 
 slice-aggregate-fill16-2 : tie.Need-slice-aggregate-fill16-2
 slice-aggregate-fill16-2 c = search needs
 
 fill16-requires-2 : tie.Need-fill16-requires-2
-fill16-requires-2 c κs = search needs
+fill16-requires-2 c κs = tt
 
 slice-aggregate-fill16-3 : tie.Need-slice-aggregate-fill16-3
 slice-aggregate-fill16-3 c = search needs
 
 fill16-requires-3 : tie.Need-fill16-requires-3
-fill16-requires-3 c κs = search needs
+fill16-requires-3 c κs = tt
 
 array-share-prefix-sizes : tie.Need-array-share-prefix-sizes
 array-share-prefix-sizes c = omega (arith, c .before .before .before .before .before .before .before .before .before .before .fill16 .ensures, c .before .before .before .before .before .before .before .before .before .before .fill16 .kept .1 .1 .0)
@@ -55,10 +55,10 @@ slice-aggregate-policy-shown-4 : tie.Need-slice-aggregate-policy-shown-4
 slice-aggregate-policy-shown-4 c = sym (length-take-le _ _ (omega (arith, c .before .before .before .before .before .fill163 .ensures, c .before .before .before .before .before .fill163 .kept .1 .1 .0)))
 
 policy-shown-requires : tie.Need-policy-shown-requires
-policy-shown-requires c κs = search needs
+policy-shown-requires c κs = tt
 
 returns : tie.Need-returns
-returns c = search needs
+returns c = tt
 
 pub policy-spec : {M : Type 1} → statement M
 policy-spec =

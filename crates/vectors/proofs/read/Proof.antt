@@ -10,25 +10,25 @@ slice-aggregate-fill8 : tie.Need-slice-aggregate-fill8
 slice-aggregate-fill8 c = search needs
 
 fill8-requires : tie.Need-fill8-requires
-fill8-requires c κs = search needs
+fill8-requires c κs = tt
 
 slice-aggregate-fill8-2 : tie.Need-slice-aggregate-fill8-2
 slice-aggregate-fill8-2 c = search needs
 
 fill8-requires-2 : tie.Need-fill8-requires-2
-fill8-requires-2 c κs = search needs
+fill8-requires-2 c κs = tt
 
 slice-aggregate-fill16 : tie.Need-slice-aggregate-fill16
 slice-aggregate-fill16 c = search needs
 
 fill16-requires : tie.Need-fill16-requires
-fill16-requires c κs = search needs
+fill16-requires c κs = tt
 
 slice-aggregate-fill16-2 : tie.Need-slice-aggregate-fill16-2
 slice-aggregate-fill16-2 c = search needs
 
 fill16-requires-2 : tie.Need-fill16-requires-2
-fill16-requires-2 c κs = search needs
+fill16-requires-2 c κs = tt
 
 array-share-prefix-text : tie.Need-array-share-prefix-text
 array-share-prefix-text c = omega (arith, c .before .before .before .before .before .before .before .before .before .before .fill8 .ensures, c .before .before .before .before .before .before .before .before .before .before .fill8 .kept .1 .1 .0)
@@ -55,10 +55,10 @@ slice-aggregate-read-shown-4 : tie.Need-slice-aggregate-read-shown-4
 slice-aggregate-read-shown-4 c = sym (length-take-le _ _ (omega (arith, c .before .before .before .before .before .fill162 .ensures, c .before .before .before .before .before .fill162 .kept .1 .1 .0)))
 
 read-shown-requires : tie.Need-read-shown-requires
-read-shown-requires c κs = search needs
+read-shown-requires c κs = tt
 
 returns : tie.Need-returns
-returns c = search needs
+returns c = tt
 
 pub read-spec : {M : Type 1} → statement M
 read-spec =

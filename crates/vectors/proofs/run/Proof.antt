@@ -12,22 +12,22 @@ abbrev μ-loop : tie.MeasureT-loop
 μ-loop input at₀ i₀ at i = length input - i
 
 next-digit-requires : tie.Need-next-digit-requires Inv-loop μ-loop
-next-digit-requires c κs = search needs
+next-digit-requires c κs = tt
 
 loop-holds : tie.Need-loop-holds Inv-loop μ-loop
 loop-holds c = search needs
 
 returns : tie.Need-returns Inv-loop μ-loop
-returns c = search needs
+returns c = tt
 
 one-call-requires : tie.Need-one-call-requires Inv-loop μ-loop
-one-call-requires c κs = search needs
+one-call-requires c κs = tt
 
 next-digit-requires-2 : tie.Need-next-digit-requires-2 Inv-loop μ-loop
-next-digit-requires-2 c κs = search needs
+next-digit-requires-2 c κs = tt
 
 line-end-requires : tie.Need-line-end-requires Inv-loop μ-loop
-line-end-requires c κs = search needs
+line-end-requires c κs = tt
 
 add-i : tie.Need-add-i Inv-loop μ-loop
 add-i c = search needs
@@ -39,7 +39,7 @@ loop-again : tie.Need-loop-again Inv-loop μ-loop
 loop-again c = search needs
 
 returns-2 : tie.Need-returns-2 Inv-loop μ-loop
-returns-2 c = search needs
+returns-2 c = tt
 
 pub run-spec : {M : Type 1} → statement M
 run-spec =

@@ -7,7 +7,7 @@ use Rattle.vectors.proofs.trace.Statement.{statement}
 use Rattle.vectors.proofs.trace.Tie as tie
 
 scan-requires : tie.Need-scan-requires
-scan-requires c κs = search needs
+scan-requires c κs = tt
 
 slice-aggregate-fill16 : tie.Need-slice-aggregate-fill16
 slice-aggregate-fill16 c = refl

@@ -10,16 +10,16 @@ slice-aggregate-fill16 : tie.Need-slice-aggregate-fill16
 slice-aggregate-fill16 c = search needs
 
 fill16-requires : tie.Need-fill16-requires
-fill16-requires c κs = search needs
+fill16-requires c κs = tt
 
 scan-requires : tie.Need-scan-requires
-scan-requires c κs = search needs
+scan-requires c κs = tt
 
 slice-aggregate-fill16-2 : tie.Need-slice-aggregate-fill16-2
 slice-aggregate-fill16-2 c = search needs
 
 fill16-requires-2 : tie.Need-fill16-requires-2
-fill16-requires-2 c κs = search needs
+fill16-requires-2 c κs = tt
 
 array-share-prefix-sizes : tie.Need-array-share-prefix-sizes
 array-share-prefix-sizes c = omega (arith, c .before .before .before .before .before .fill16 .ensures, c .before .before .before .before .before .fill16 .kept .1 .1 .0)
@@ -37,10 +37,10 @@ slice-aggregate-values-shown-2 : tie.Need-slice-aggregate-values-shown-2
 slice-aggregate-values-shown-2 c = sym (length-take-le _ _ (omega (arith, c .before .before .before .before .fill162 .ensures, c .before .before .before .before .fill162 .kept .1 .1 .0)))
 
 values-shown-requires : tie.Need-values-shown-requires
-values-shown-requires c κs = search needs
+values-shown-requires c κs = tt
 
 returns : tie.Need-returns
-returns c = search needs
+returns c = tt
 
 pub values-spec : {M : Type 1} → statement M
 values-spec =
