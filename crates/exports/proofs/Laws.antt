@@ -12,7 +12,7 @@ use Rattle.evidence.specs.Calls.{CheckedRows}
 use Rattle.traces.specs.declared.TraceChecked.{TraceChecked}
 use Rattle.traces.specs.Checking.{Checked}
 use Rattle.texts.specs.Call.{TextsSearched}
-use Rattle.exports.specs.Numbers.{textNumbers, verdictNumbers, evidenceNumbers, traceNumbers}
+use Rattle.numbers.specs.Numbers.{textNumbers, verdictNumbers, evidenceNumbers, traceNumbers}
 use Rattle.exports.specs.Promises.{ReadOut, SearchedOut, TextsOut, EvidenceOut, TraceOut}
 
 pub read-out : {text kind first second answer kind′ first′ second′ : List ℕ} {r : Answer} → TextRead text kind first second r kind′ first′ second′ → answer ≡ textNumbers r → ReadOut text kind first second answer kind′ first′ second′

@@ -11,7 +11,7 @@ use Rattle.search.specs.Call.{Lent, Searched, searchVerdict}
 use Rattle.evidence.specs.Calls.{CheckedRows, evidenceCall}
 use Rattle.traces.specs.Checking.{Checked, traceCall}
 use Rattle.texts.specs.Call.{TextsSearched, textsVerdict}
-use Rattle.exports.specs.Numbers.{textNumbers, verdictNumbers, evidenceNumbers, traceNumbers}
+use Rattle.numbers.specs.Numbers.{textNumbers, verdictNumbers, evidenceNumbers, traceNumbers}
 
 pub record ReadOut (text kind first second answer kind′ first′ second′ : List ℕ) : Type 0 where
   pub numbers : answer ≡ textNumbers (answerTo fieldNames text (shortest kind first second))

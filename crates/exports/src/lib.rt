@@ -1,6 +1,4 @@
 // The C interface (include/netkat.h): each public call, its answer as eight numbers.
-mod numbers;
-
 ghost use mathlib.Core.Path.{_≡_};
 ghost use lib.ListN.{length};
 ghost use Rattle.packet.specs.Packets.{numberOf};
@@ -8,7 +6,7 @@ ghost use Rattle.policy.specs.AsLists.{asLists};
 ghost use Rattle.legality.specs.Answers.{policyLegality};
 ghost use Rattle.turning.specs.Turning.{valuesTests, valuesAnswer, valuesLeft, numberTests, numberAnswer};
 ghost use Rattle.search.specs.Call.{lent};
-ghost use Rattle.exports.specs.Numbers.{valuesNumbers, numberNumbers, policyNumbers};
+ghost use Rattle.numbers.specs.Numbers.{valuesNumbers, numberNumbers, policyNumbers};
 ghost use Rattle.exports.specs.Promises.{ReadOut, SearchedOut, TextsOut, EvidenceOut, TraceOut};
 
 // A packet's number turned into its values.

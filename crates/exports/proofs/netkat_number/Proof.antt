@@ -1,7 +1,7 @@
 -- `netkat_number` meets its contract. Assumes nothing.
 use borrow.Author.Needs.{needs}
 use mathlib.Core.Path.{ap, _∙_}
-use Rattle.exports.specs.Numbers.{numberNumbers}
+use Rattle.numbers.specs.Numbers.{numberNumbers}
 use Rattle.exports.proofs.netkat_number.Statement.{statement}
 use Rattle.exports.proofs.netkat_number.Tie as tie
 

@@ -1,7 +1,7 @@
 -- `netkat_policy` meets its contract. Assumes nothing.
 use borrow.Author.Needs.{needs}
 use mathlib.Core.Path.{ap, _∙_}
-use Rattle.exports.specs.Numbers.{policyNumbers}
+use Rattle.numbers.specs.Numbers.{policyNumbers}
 use Rattle.exports.proofs.netkat_policy.Statement.{statement}
 use Rattle.exports.proofs.netkat_policy.Tie as tie
 

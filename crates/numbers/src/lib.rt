@@ -1,6 +1,6 @@
 // The eight numbers of each answer, for the C interface.
 ghost use mathlib.Core.Path.{_≡_};
-ghost use Rattle.exports.specs.Numbers.{eight, refusedNumbers, valuesNumbers, numberNumbers, policyNumbers, textNumbers, verdictNumbers, evidenceNumbers, traceNumbers};
+ghost use Rattle.numbers.specs.Numbers.{eight, refusedNumbers, valuesNumbers, numberNumbers, policyNumbers, textNumbers, verdictNumbers, evidenceNumbers, traceNumbers};
 use evidence::Evidence;
 use grammar::Answer;
 use legality::PolicyAnswer;

@@ -1,9 +1,9 @@
 -- `of_text` meets its contract, case by case. Assumes nothing.
 use borrow.Author.Needs.{needs}
 use mathlib.Core.Path.{sym, ap, _∙_}
-use Rattle.exports.specs.Numbers.{textNumbers}
-use Rattle.exports.proofs.numbers.of_text.Statement.{statement}
-use Rattle.exports.proofs.numbers.of_text.Tie as tie
+use Rattle.numbers.specs.Numbers.{textNumbers}
+use Rattle.numbers.proofs.of_text.Statement.{statement}
+use Rattle.numbers.proofs.of_text.Tie as tie
 
 enum-known-answer : tie.Need-enum-known-answer
 enum-known-answer c = search needs

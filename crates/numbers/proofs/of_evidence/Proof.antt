@@ -1,9 +1,9 @@
 -- `of_evidence` meets its contract, case by case. Assumes nothing.
 use borrow.Author.Needs.{needs}
 use mathlib.Core.Path.{sym, ap, _∙_}
-use Rattle.exports.specs.Numbers.{evidenceNumbers}
-use Rattle.exports.proofs.numbers.of_evidence.Statement.{statement}
-use Rattle.exports.proofs.numbers.of_evidence.Tie as tie
+use Rattle.numbers.specs.Numbers.{evidenceNumbers}
+use Rattle.numbers.proofs.of_evidence.Statement.{statement}
+use Rattle.numbers.proofs.of_evidence.Tie as tie
 
 enum-told : tie.Need-enum-told
 enum-told c = search needs

@@ -1,8 +1,8 @@
 -- `of_refusal` meets its contract. Assumes nothing.
 use borrow.Author.Needs.{needs}
-use Rattle.exports.specs.Numbers.{refusedNumbers}
-use Rattle.exports.proofs.numbers.of_refusal.Statement.{statement}
-use Rattle.exports.proofs.numbers.of_refusal.Tie as tie
+use Rattle.numbers.specs.Numbers.{refusedNumbers}
+use Rattle.numbers.proofs.of_refusal.Statement.{statement}
+use Rattle.numbers.proofs.of_refusal.Tie as tie
 
 cast-numbers : tie.Need-cast-numbers
 cast-numbers c = search needs

@@ -1,9 +1,9 @@
 -- `of_trace` meets its contract, case by case. Assumes nothing.
 use borrow.Author.Needs.{needs}
 use mathlib.Core.Path.{sym, ap, _∙_}
-use Rattle.exports.specs.Numbers.{traceNumbers}
-use Rattle.exports.proofs.numbers.of_trace.Statement.{statement}
-use Rattle.exports.proofs.numbers.of_trace.Tie as tie
+use Rattle.numbers.specs.Numbers.{traceNumbers}
+use Rattle.numbers.proofs.of_trace.Statement.{statement}
+use Rattle.numbers.proofs.of_trace.Tie as tie
 
 enum-told : tie.Need-enum-told
 enum-told c = search needs

@@ -1,9 +1,9 @@
 -- `of_number` meets its contract, case by case. Assumes nothing.
 use borrow.Author.Needs.{needs}
 use mathlib.Core.Path.{sym, ap, _∙_}
-use Rattle.exports.specs.Numbers.{numberNumbers}
-use Rattle.exports.proofs.numbers.of_number.Statement.{statement}
-use Rattle.exports.proofs.numbers.of_number.Tie as tie
+use Rattle.numbers.specs.Numbers.{numberNumbers}
+use Rattle.numbers.proofs.of_number.Statement.{statement}
+use Rattle.numbers.proofs.of_number.Tie as tie
 
 enum-known-answer : tie.Need-enum-known-answer
 enum-known-answer c = search needs

@@ -1,9 +1,9 @@
 -- `of_values` meets its contract, case by case. Assumes nothing.
 use borrow.Author.Needs.{needs}
 use mathlib.Core.Path.{sym, ap, _∙_}
-use Rattle.exports.specs.Numbers.{valuesNumbers}
-use Rattle.exports.proofs.numbers.of_values.Statement.{statement}
-use Rattle.exports.proofs.numbers.of_values.Tie as tie
+use Rattle.numbers.specs.Numbers.{valuesNumbers}
+use Rattle.numbers.proofs.of_values.Statement.{statement}
+use Rattle.numbers.proofs.of_values.Tie as tie
 
 enum-told : tie.Need-enum-told
 enum-told c = search needs
