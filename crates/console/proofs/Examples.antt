@@ -26,9 +26,10 @@ use Rattle.grammar.specs.Grammar.{constantPolicy, fieldAction}
 use Rattle.grammar.specs.Reading.{nothing, joinSequence, joinSum, upTo, whole, start, close, step, finish, readOn}
 use Rattle.grammar.specs.Answer.{badPlace, openAfter, deepPlace, stopPlace, treeRead, tooMany, outcome, textTree, tested}
 use Rattle.texts.specs.Call.{textNodes, textStage, textsTests}
-use Rattle.console.specs.Lines.{beginsLF, isCR, onto, linesOf}
-use Rattle.console.specs.Input.{splitByCommas, isSize, allSizes, sizesOf, askedOf, askedByLines, asked}
-use Rattle.console.specs.Output.{digitsUpTo, numeral, lineRest, numberLine, wordEqual, wordLeft, wordRight, wordRefused, wordOfSide, verdictLine, rowLines, lastFlag, traceLines, refusalLine, tellingLines, answerLines, outputAfter}
+use Rattle.input.specs.Lines.{beginsLF, isCR, onto, linesOf}
+use Rattle.input.specs.Input.{splitByCommas, isSize, allSizes, sizesOf, askedOf, askedByLines, asked}
+use Rattle.printing.specs.ThreeFields.{digitsUpTo, numeral, lineRest, numberLine, verdictLine, rowLines, lastFlag, traceLines}
+use Rattle.report.specs.Output.{wordEqual, wordLeft, wordRight, wordRefused, wordOfSide, refusalLine, tellingLines, answerLines, outputAfter}
 use Rattle.console.specs.Answer.{programLent, outputOf, programOutput}
 
 -- the bytes of an ASCII text

@@ -1,12 +1,10 @@
 -- What a search on two texts leaves is what the program prints. Assumes nothing.
-use Prim.Native.Nat.{ℕ, _-_, _≤_, _<_}
-use mathlib.Core.Bool.{Bool, true, false, cond}
+use Prim.Native.Nat.{ℕ, _≤_}
 use mathlib.Core.List.{List, [], _∷_, _++_}
 use mathlib.Core.Path.{_≡_, refl, sym, ap, ap₂, _∙_, subst}
 use native.Mathlib.Omega.{arith}
 use lib.ListN.{length, getD, take, drop, length-append, length-drop, length-map, length-take, length-replicate}
 use lib.Seq.{take-append-seam}
-use borrow.Author.Tests.{lt-ltb, le-ltb}
 use Rattle.packet.specs.declared.Refusal.{Refusal}
 use Rattle.packet.specs.declared.Tested.{Tested}
 use Rattle.packet.specs.declared.Tested.the-variants.{Passed, Refused as Stopped}
@@ -30,14 +28,12 @@ use Rattle.verdict.specs.declared.Verdict.the-variants.{Equal}
 use Rattle.verdict.specs.Verdicts.{tellingVerdict, verdictOf, traceAfter}
 use Rattle.search.specs.Call.{Lent, filled, verdictAfter, lentAfter}
 use Rattle.texts.specs.Call.{textNodes, textPolicies, textsTests, textsAnswer, textsRows, textsVerdict, textsLeaves, TextsSearched}
-use Rattle.console.specs.declared.lines.Three.{Three}
-use Rattle.console.specs.declared.sizes.Sizes.{Sizes}
-use Rattle.console.specs.declared.sizes.Sizes.the-variants.{Read, Malformed}
-use Rattle.console.specs.Lines.{linesOf}
-use Rattle.console.specs.Input.{splitByCommas, allSizes, sizesOf, malformed, compare, askedOf, askedByLines, asked}
-use Rattle.console.specs.Inner.{part, ThreeLines, readAs, SizesRead, Wrote, verdictLines, Fits}
+use Rattle.printing.specs.ThreeFields.{verdictLine, rowLines, traceLines}
+use Rattle.printing.specs.Wrote.{Wrote}
+use Rattle.input.specs.Input.{malformed, compare, asked}
+use Rattle.report.specs.Inner.{verdictLines, Fits}
 use Rattle.console.specs.Answer.{programLent, outputOf, programOutput, TellingPrinted, Printed, Answered}
-use Rattle.console.specs.Output.{wordEqual, wordLeft, wordRight, wordRefused, refusalLine, verdictLine, rowLines, traceLines, tellingLines, wordOfSide, answerLines, outputAfter}
+use Rattle.report.specs.Output.{wordEqual, wordLeft, wordRight, wordRefused, refusalLine, tellingLines, wordOfSide, answerLines, outputAfter}
 
 take-few : {A : Type 0} (n : ℕ) (l : List A) → length (take n l) ≤ n
 take-few n l = omega (arith, length-take n l)
@@ -282,51 +278,3 @@ unfolding written
 answer-fits {input} {old} {new} {n} A kept =
     let xs = programOutput input in
     omega (arith, A .count, kept, ap length (A .output), length-append xs (drop (length xs) old), length-drop (length xs) old)
-
--- ---- what the input asks
-
-pub asks-too-long : (input : List ℕ) → 32768 < length input → asked input ≡ malformed
-unfolding asked
-asks-too-long input h = rw (lt-ltb 32768 (length input) h, asked)
-
-asks-lines : (input : List ℕ) → length input ≤ 32768 → asked input ≡ askedByLines (linesOf input)
-unfolding asked
-asks-lines input h = rw (le-ltb 32768 (length input) h, asked)
-
-pub asks-not-three : {input : List ℕ} {three : Three} → ThreeLines input three → three .ok ≡ false → length input ≤ 32768 → asked input ≡ malformed
-asks-not-three {input} T e h = asks-lines input h ∙ T .not e
-
-module _ {input : List ℕ} {three : Three} (T : ThreeLines input three) (ok : three .ok ≡ true) (short : length input ≤ 32768) {r : Sizes} {sizes : List ℕ} (S : SizesRead (take (three .«first_end») input) r sizes) where
-  words : List (List ℕ)
-  words = splitByCommas (take (three .«first_end») input)
-
-  asks-words : asked input ≡ askedOf words (part input (three .second) (three .«second_end»)) (part input (three .third) (three .«third_end»))
-  unfolding askedByLines words
-  asks-words =
-      let front : three .«first_end» - 0 ≡ three .«first_end» = omega arith in
-      asks-lines input short
-      ∙ ap askedByLines (T .read ok)
-      ∙ ap (λ n. askedOf (splitByCommas (take n input)) (part input (three .second) (three .«second_end»)) (part input (three .third) (three .«third_end»))) front
-
-  sizes-bad : (b : Bool) → r ≡ cond b (Read (length words)) Malformed → r ≡ Malformed → b ≡ false
-  sizes-bad true e f = let z : _≡_ {A = ℕ} 0 1 = cc in absurd (omega (arith, z))
-  sizes-bad false e f = refl
-
-  sizes-good : (b : Bool) (n : ℕ) → r ≡ cond b (Read (length words)) Malformed → r ≡ Read n → (b ≡ true) × (n ≡ length words)
-  sizes-good true n e f = let z : n ≡ length words = cc in (refl, z)
-  sizes-good false n e f = let z : _≡_ {A = ℕ} 0 1 = cc in absurd (omega (arith, z))
-
-  pub asks-no-sizes : r ≡ Malformed → asked input ≡ malformed
-  unfolding askedOf readAs words
-  asks-no-sizes f = asks-words ∙ rw (sizes-bad (allSizes words) (S .answer) f, askedOf)
-
-  pub asks-search : (n : ℕ) → r ≡ Read n → asked input ≡ compare (take n sizes) (part input (three .second) (three .«second_end»)) (part input (three .third) (three .«third_end»))
-  unfolding askedOf readAs words
-  asks-search n f =
-      let g = sizes-good (allSizes words) n (S .answer) f in
-      let is : askedOf words (part input (three .second) (three .«second_end»)) (part input (three .third) (three .«third_end»)) ≡ compare (sizesOf words) (part input (three .second) (three .«second_end»)) (part input (three .third) (three .«third_end»)) = rw (g .0, askedOf) in
-      asks-words ∙ is ∙ ap (λ ss. compare ss (part input (three .second) (three .«second_end»)) (part input (three .third) (three .«third_end»))) (sym (S .values (g .0)) ∙ ap (λ k. take k sizes) (sym (g .1)))
-
-  pub sizes-held : (n : ℕ) → r ≡ Read n → n ≤ length sizes
-  unfolding readAs words
-  sizes-held n f = let g = sizes-good (allSizes words) n (S .answer) f in omega (arith, S .few (g .0), g .1)

@@ -12,9 +12,9 @@ use Rattle.search.specs.Call.{Lent, lent}
 use Rattle.grammar.specs.Tokens.{fieldNames}
 use Rattle.grammar.specs.Answer.{textTree}
 use Rattle.texts.specs.Call.{textPolicies, textsTests, textsAnswer, textsRows}
-use Rattle.console.specs.Input.{Asked, malformed, compare, asked}
-use Rattle.console.specs.Inner.{Wrote}
-use Rattle.console.specs.Output.{wordEqual, wordOfSide, refusalLine, tellingLines, outputAfter}
+use Rattle.input.specs.Input.{Asked, malformed, compare, asked}
+use Rattle.printing.specs.Wrote.{Wrote}
+use Rattle.report.specs.Output.{wordEqual, wordOfSide, refusalLine, tellingLines, outputAfter}
 
 -- it lends 4,096 rows and as long a trace
 unfoldable pub programLent : Lent

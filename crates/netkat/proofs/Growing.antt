@@ -5,7 +5,7 @@ use mathlib.Core.List.{List, _++_, append-assoc}
 use mathlib.Core.Path.{_≡_, _∙_, ap, subst}
 use lib.ListN.{length, take, drop, length-append}
 use lib.Seq.{length-take-le, take-at}
-use Rattle.console.specs.Inner.{Wrote}
+use Rattle.printing.specs.Wrote.{Wrote}
 use Rattle.netkat.specs.Reading.{Grown}
 
 pub bytes-kept : {old new xs : List ℕ} {len n : ℕ} → len ≤ length old → Wrote old new len n xs → Grown old len n new

@@ -4,7 +4,7 @@ use libc::STDOUT_FILENO;
 ghost use mathlib.Core.Path.{_≡_};
 ghost use Prim.Native.Nat.{_-_, _≤_, min};
 ghost use lib.ListN.{length, take};
-ghost use Rattle.console.specs.Inner.{Wrote};
+ghost use Rattle.printing.specs.Wrote.{Wrote};
 ghost use Rattle.netkat.specs.Reading.{Grown};
 
 // How much of the input is kept, and whether there may be more.
@@ -28,7 +28,7 @@ fn keep(input: &mut [u8], len: usize, chunk: &[u8]) -> usize
     ensures { λ r. ⌜ Wrote (now (input .entry)) (now (input .exit)) len r (take (min (length (now (input .entry)) - len) (length (now (chunk .entry)))) (now (chunk .entry))) ⌝ }
 {
     let n = least(input.len() - len, chunk.len());
-    console::output::bytes(input, len, &chunk[..n])
+    printing::bytes(input, len, &chunk[..n])
 }
 
 // One read. After a read that fails nothing is kept: half an input must not get a verdict, and an empty one is malformed.

@@ -1,5 +1,6 @@
 -- `answer` meets its contract.
-use Rattle.console.proofs.Printing.{answer-fits, answers-malformed, asks-too-long, asks-not-three}
+use Rattle.input.proofs.AskedLaws.{asks-too-long, asks-not-three}
+use Rattle.console.proofs.Printing.{answer-fits, answers-malformed}
 use native.Mathlib.Omega.{arith}
 use borrow.Author.Needs.{needs}
 use Rattle.console.proofs.answer.Statement.{statement}

@@ -1,6 +1,7 @@
 -- `asked` meets its contract.
-use Rattle.console.proofs.OutputLaws.{front-length}
-use Rattle.console.proofs.Printing.{answers-malformed, answers-searched, asks-no-sizes, asks-search, sizes-held}
+use Rattle.printing.proofs.PrintLaws.{front-length}
+use Rattle.input.proofs.AskedLaws.{asks-no-sizes, asks-search, sizes-held}
+use Rattle.console.proofs.Printing.{answers-malformed, answers-searched}
 use native.Mathlib.Omega.{arith}
 use borrow.Author.Needs.{needs}
 use Rattle.console.proofs.asked.Statement.{statement}

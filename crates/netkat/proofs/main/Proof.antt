@@ -1,5 +1,5 @@
 -- `main` meets its contract.
-use Rattle.console.proofs.OutputLaws.{front-length}
+use Rattle.printing.proofs.PrintLaws.{front-length}
 use borrow.Author.Needs.{needs}
 use native.Mathlib.Omega.{arith}
 use Rattle.netkat.proofs.main.Statement.{statement}

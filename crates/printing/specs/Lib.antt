@@ -1,0 +1,2 @@
+pub mod ThreeFields
+pub mod Wrote
