@@ -4,7 +4,6 @@ use mathlib.Core.List.{List, [], _∷_, _++_}
 use mathlib.Core.Path.{_≡_, refl, sym, ap, ap₂, _∙_, subst}
 use native.Mathlib.Omega.{arith}
 use lib.ListN.{length, getD, take, drop, length-append, length-drop, length-map, length-take, length-replicate}
-use lib.Seq.{take-append-seam}
 use Rattle.packet.specs.declared.Refusal.{Refusal}
 use Rattle.packet.specs.declared.Tested.{Tested}
 use Rattle.packet.specs.declared.Tested.the-variants.{Passed, Refused as Stopped}
@@ -22,7 +21,7 @@ use Rattle.pair.proofs.Lawful.{legal-pair}
 use Rattle.pair.proofs.Verdicts as verdicts
 use Rattle.pair.proofs.Verdicts.{equal-same, searched, is-telling}
 use Rattle.lent.specs.Written.{written}
-use Rattle.lent.proofs.Written.{length-written}
+use Rattle.lent.proofs.Written.{length-written, take-written}
 use Rattle.verdict.specs.declared.Verdict.{Verdict}
 use Rattle.verdict.specs.declared.Verdict.the-variants.{Equal}
 use Rattle.verdict.specs.Verdicts.{tellingVerdict, verdictOf, traceAfter}
@@ -37,11 +36,6 @@ use Rattle.report.specs.Output.{wordEqual, wordLeft, wordRight, wordRefused, re
 
 take-few : {A : Type 0} (n : ℕ) (l : List A) → length (take n l) ≤ n
 take-few n l = omega (arith, length-take n l)
-
--- the first entries written
-take-written : (xs old : List ℕ) → take (length xs) (written xs old) ≡ xs
-unfolding written
-take-written xs old = take-append-seam xs (drop (length xs) old)
 
 module _ (sizes left-text right-text : List ℕ) (x : Lent) where
   legal : textsTests sizes left-text right-text x ≡ Passed → Legal sizes (textNodes left-text) × Legal sizes (textNodes right-text)

@@ -20,12 +20,13 @@ use Rattle.legality.specs.declared.PolicyAnswer.{PolicyAnswer}
 use Rattle.legality.specs.declared.PolicyAnswer.the-variants.{Legal as LegalPolicy, Refused as PolicyRefused}
 use Rattle.legality.specs.declared.PairAnswer.{PairAnswer}
 use Rattle.legality.specs.declared.PairAnswer.the-variants.{Legal as LegalPair, Refused as PairRefused}
-use Rattle.legality.specs.declared.DupCount.{DupCount}
+use Rattle.tree_causes.specs.declared.DupCount.{DupCount}
 use Rattle.policy.specs.AsLists.{asLists}
 use Rattle.policy.specs.Each.{Each}
 use Rattle.policy.specs.NodeLists.{NodeLists, nodeCount, dupsBelow}
 use Rattle.policy.specs.Legality.{badLengths, badKind, badEntries, badChild, notOnce, Sided, cause, policiesStage, Legal}
-use Rattle.legality.specs.Counting.{SameLengths, CountableChildren, DupCountOf}
+use Rattle.node_causes.specs.Lengths.{SameLengths}
+use Rattle.tree_causes.specs.Counting.{CountableChildren, DupCountOf}
 use Rattle.policy.specs.Tests.{sided, policyTests, pairTests}
 use Rattle.legality.specs.Answers.{policyAnswer, pairAnswer, policyStage, pairStage, policyLegality, pairLegality, nodesStage, treeStage, earlierIf, earlier, both}
 use Rattle.policy.proofs.LegalityLaws.{Cause, causes, Lengths, lengths, stage-passes}
@@ -210,7 +211,8 @@ module _ (sizes : List ℕ) (side : ℕ) (L : NodeLists) where
   pub countable-children : lengthsTest side L ≡ Passed → nodesStage sizes side L ≡ Passed → CountableChildren L
   unfolding nodesStage
   countable-children e f = record {
-    same = same-lengths side L e;
+    firsts = lengths-known side L e .first;
+    seconds = lengths-known side L e .second;
     few = lengths-known side L e .few;
     below = lowest-none (badChild L) (nodeCount L)
         (refusedAt-passed 7 side _ (firstOf-passed _ _ (firstOf-passed _ _ (firstOf-passed _ _ f .1) .1) .0));
@@ -314,12 +316,6 @@ answered Passed d e q = (refl, sym (ap dupsOf q))
     dupsOf (PolicyRefused r) = 0
 answered (Refused r) d e q = let z : _≡_ {A = ℕ} 0 1 = cc in absurd (zero≢one z)
 
-pub legal-stage : (sizes : List ℕ) (side : ℕ) (L : NodeLists) (d : ℕ) → policyStage sizes side L ≡ LegalPolicy d
-    → Legal sizes L × (d ≡ dupsBelow L (nodeCount L))
-unfolding policyStage Each sided
-legal-stage sizes side L d q =
-    let a = answered _ _ d q in (stage-passes sizes (sided side L ∷ []) .0 (a .0) .0, a .1)
-
 pub legal-answer : (sizes : List ℕ) (L : NodeLists) (d : ℕ) → policyLegality sizes L ≡ LegalPolicy d
     → LegalSizes sizes × Legal sizes L × (d ≡ dupsBelow L (nodeCount L))
 unfolding policyLegality policyTests Each sided
@@ -349,13 +345,3 @@ legal-pair-stage sizes L R m n q =
     let a = pair-answered _ _ _ m n q in
     let g = stage-passes sizes (sided 1 L ∷ sided 2 R ∷ []) .0 (a .0) in
     (g .0, g .1 .0, a .1, a .2)
-
-pub legal-pair-answer : (sizes : List ℕ) (L R : NodeLists) (m n : ℕ) → pairLegality sizes L R ≡ LegalPair m n
-    → LegalSizes sizes × Legal sizes L × Legal sizes R × (m ≡ dupsBelow L (nodeCount L)) × (n ≡ dupsBelow R (nodeCount R))
-unfolding pairLegality pairTests Each sided
-legal-pair-answer sizes L R m n q =
-    let a = pair-answered _ _ _ m n q in
-    let f = firstOf-passed _ _ (a .0) in
-    let p = firstOf-passed _ _ (f .1) in
-    let g = stage-passes sizes (sided 1 L ∷ sided 2 R ∷ []) .0 (firstOf-passed _ _ (p .1) .0) in
-    (passed-legal sizes (f .0) (p .0), g .0, g .1 .0, a .1, a .2)

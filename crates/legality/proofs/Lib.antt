@@ -1,3 +1,1 @@
-pub mod CauseLaws
-pub mod CountLaws
 pub mod AnswerLaws

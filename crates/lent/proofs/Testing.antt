@@ -1,8 +1,9 @@
 -- Causes 1 to 10: how the tests go on, and what holds where they pass. Assumes nothing.
 use Prim.Native.Nat.{ℕ, _≤_}
-use mathlib.Core.Bool.{Bool, true, false, true≢false, _||_}
+use mathlib.Core.Bool.{Bool, true, false, true≢false, _||_, not}
 use mathlib.Core.List.{List, [], _∷_}
 use mathlib.Core.Path.{_≡_, refl, sym, ap, _∙_}
+use lib.Dec.{eqb, ltb}
 use borrow.Author.Tests.{ltb-false, le-ltb, eqb-true, not-false}
 use Rattle.packet.specs.declared.Counted.the-variants.{Packets, Refused as NotCounted}
 use Rattle.packet.specs.declared.Refusal.{Refusal}
@@ -38,6 +39,17 @@ refused-counted t n r e = sym (ap (λ (u : Tested). counted u n) e)
 pub passed-counted : (t : Tested) (n m : ℕ) → t ≡ Passed → m ≡ n → Packets m ≡ counted t n
 unfolding counted
 passed-counted t n m e q = ap Packets q ∙ sym (ap (λ (u : Tested). counted u n) e)
+
+-- ---- cause 10
+
+-- one more row list looked at
+pub another-list : {r b c : Bool} (n first : ℕ) → r ≡ (not (eqb n first) || b) → b ≡ c → r ≡ (not (eqb n first) || c)
+another-list n first e f = e ∙ ap (λ (x : Bool). not (eqb n first) || x) f
+
+pub lists-stage : {t : Tested} {wrong b : Bool} (work : ℕ) → wrong ≡ b → t ≡ refusedAt 10 0 (atZero (wrong || ltb work 16384)) → t ≡ refusedAt 10 0 (atZero (b || ltb work 16384))
+lists-stage work e t = t ∙ ap (λ (w : Bool). refusedAt 10 0 (atZero (w || ltb work 16384))) e
+
+-- ---- causes 1 to 10
 
 module _ (sizes : List ℕ) (L R : NodeLists) (lists : Tested) where
   pub fields-refused : (r : Refusal) → fieldsStage sizes ≡ Refused r → lentTests sizes L R lists ≡ Refused r

@@ -1,10 +1,10 @@
 -- Laws of what is written first into a list that keeps its contents beyond.
-use mathlib.Core.Path.{_≡_, refl, sym, _∙_, ap, subst}
+use mathlib.Core.Path.{_≡_, refl, sym, _∙_, ap}
 use mathlib.Core.List.{List, [], _∷_, _++_, append-nil}
-use Prim.Native.Nat.{ℕ, _+_, _-_, _≤_, _<_}
+use Prim.Native.Nat.{_≤_, _<_}
 use native.Mathlib.Omega.{arith}
-use lib.ListN.{length, getD, set, take, drop, length-append, length-drop, drop-of-length-le, List·getD-append}
-use lib.Seq.{drop-cons, drop-append-seam, drop-append-add, drop-drop, take-append-seam, set-append-seam, append-snoc}
+use lib.ListN.{length, set, take, drop, length-append, length-drop, drop-of-length-le}
+use lib.Seq.{drop-cons, take-append-seam, set-append-seam, append-snoc}
 use Rattle.system.proofs.Basics.{length-snoc}
 use Rattle.lent.specs.Written.{written}
 
@@ -31,25 +31,7 @@ module _ {A : Type 0} where
       ∙ ap (λ n. xs ++ x ∷ drop n old) (length-snoc xs x)
       ∙ sym (ap (λ l. set (xs ++ l) (length xs) x) (drop-cons old (length xs) x h) ∙ set-append-seam xs _ _ x)
 
-  -- a longer list written over a shorter one
-  pub written-over : (xs ys old : List A) → length xs ≤ length ys → written ys (written xs old) ≡ written ys old
-  unfolding written
-  written-over xs ys old h = ap (λ l. ys ++ l) (beyond (length ys - length xs) (omega arith))
-    where
-      beyond : (k : ℕ) → length xs + k ≡ length ys → drop (length ys) (xs ++ drop (length xs) old) ≡ drop (length ys) old
-      beyond k e =
-          subst (λ n. drop n (xs ++ drop (length xs) old) ≡ drop n old) e
-          (drop-append-add xs (drop (length xs) old) k ∙ drop-drop k (length xs) old)
-
   -- the first entries are those written
   pub take-written : (xs old : List A) → take (length xs) (written xs old) ≡ xs
   unfolding written
   take-written xs old = take-append-seam xs _
-
-  pub drop-written : (xs old : List A) → drop (length xs) (written xs old) ≡ drop (length xs) old
-  unfolding written
-  drop-written xs old = drop-append-seam xs _
-
-  pub written-at : (xs old : List A) (d : A) (i : ℕ) → i < length xs → getD (written xs old) i d ≡ getD xs i d
-  unfolding written
-  written-at xs old d i h = List·getD-append xs _ d i h

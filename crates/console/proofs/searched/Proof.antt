@@ -1,4 +1,5 @@
 -- `searched` meets its contract. Assumes nothing.
+use mathlib.Core.Path.{refl}
 use borrow.Author.Needs.{needs}
 use Rattle.console.specs.Answer.{programLent}
 use Rattle.console.proofs.Printing.{shows, printed}
@@ -6,25 +7,25 @@ use Rattle.console.proofs.searched.Statement.{statement}
 use Rattle.console.proofs.searched.Tie as tie
 
 slice-aggregate-search : tie.Need-slice-aggregate-search
-slice-aggregate-search c = search needs
+slice-aggregate-search c = refl
 
 slice-aggregate-search-2 : tie.Need-slice-aggregate-search-2
-slice-aggregate-search-2 c = search needs
+slice-aggregate-search-2 c = refl
 
 slice-aggregate-search-3 : tie.Need-slice-aggregate-search-3
-slice-aggregate-search-3 c = search needs
+slice-aggregate-search-3 c = refl
 
 slice-aggregate-search-4 : tie.Need-slice-aggregate-search-4
-slice-aggregate-search-4 c = search needs
+slice-aggregate-search-4 c = refl
 
 slice-aggregate-search-5 : tie.Need-slice-aggregate-search-5
-slice-aggregate-search-5 c = search needs
+slice-aggregate-search-5 c = refl
 
 slice-aggregate-search-6 : tie.Need-slice-aggregate-search-6
-slice-aggregate-search-6 c = search needs
+slice-aggregate-search-6 c = refl
 
 search-requires : tie.Need-search-requires
-search-requires c κs = search needs
+search-requires c κs = tt
 
 slice-aggregate-show : tie.Need-slice-aggregate-show
 slice-aggregate-show c = search needs

@@ -1,15 +1,14 @@
 -- `netkat_number` meets its contract. Assumes nothing.
-use borrow.Author.Needs.{needs}
 use mathlib.Core.Path.{ap, _∙_}
 use Rattle.numbers.specs.Numbers.{numberNumbers}
 use Rattle.exports.proofs.netkat_number.Statement.{statement}
 use Rattle.exports.proofs.netkat_number.Tie as tie
 
 number-of-requires : tie.Need-number-of-requires
-number-of-requires c κs = search needs
+number-of-requires c κs = tt
 
 of-number-requires : tie.Need-of-number-requires
-of-number-requires c κs = search needs
+of-number-requires c κs = tt
 
 returns : tie.Need-returns
 returns c = c .of-number .ensures ∙ ap numberNumbers (c .before .number-of .ensures)

@@ -1,15 +1,14 @@
 -- `netkat_policy` meets its contract. Assumes nothing.
-use borrow.Author.Needs.{needs}
 use mathlib.Core.Path.{ap, _∙_}
 use Rattle.numbers.specs.Numbers.{policyNumbers}
 use Rattle.exports.proofs.netkat_policy.Statement.{statement}
 use Rattle.exports.proofs.netkat_policy.Tie as tie
 
 policy-legality-requires : tie.Need-policy-legality-requires
-policy-legality-requires c κs = search needs
+policy-legality-requires c κs = tt
 
 of-policy-requires : tie.Need-of-policy-requires
-of-policy-requires c κs = search needs
+of-policy-requires c κs = tt
 
 returns : tie.Need-returns
 returns c = c .of-policy .ensures ∙ ap policyNumbers (c .before .policy-legality .ensures)

@@ -5,10 +5,10 @@ use Rattle.exports.proofs.netkat_read.Statement.{statement}
 use Rattle.exports.proofs.netkat_read.Tie as tie
 
 read-requires : tie.Need-read-requires
-read-requires c κs = search needs
+read-requires c κs = tt
 
 of-text-requires : tie.Need-of-text-requires
-of-text-requires c κs = search needs
+of-text-requires c κs = tt
 
 same-length : tie.Need-same-length
 same-length c = search needs

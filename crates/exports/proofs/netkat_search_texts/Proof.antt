@@ -5,10 +5,10 @@ use Rattle.exports.proofs.netkat_search_texts.Statement.{statement}
 use Rattle.exports.proofs.netkat_search_texts.Tie as tie
 
 search-requires : tie.Need-search-requires
-search-requires c κs = search needs
+search-requires c κs = tt
 
 of-verdict-requires : tie.Need-of-verdict-requires
-of-verdict-requires c κs = search needs
+of-verdict-requires c κs = tt
 
 same-length : tie.Need-same-length
 same-length c = search needs

@@ -6,10 +6,10 @@ use Rattle.exports.proofs.netkat_values.Statement.{statement}
 use Rattle.exports.proofs.netkat_values.Tie as tie
 
 values-of-requires : tie.Need-values-of-requires
-values-of-requires c κs = search needs
+values-of-requires c κs = tt
 
 of-values-requires : tie.Need-of-values-requires
-of-values-requires c κs = search needs
+of-values-requires c κs = tt
 
 same-length : tie.Need-same-length
 same-length c = search needs

@@ -1,21 +1,21 @@
 -- `lent::evidence_lists` meets its contract. Assumes nothing.
-use borrow.Author.Needs.{needs}
 use Rattle.lent.specs.Lent.{misfit, rowsMisfit, listsStage}
+use Rattle.lent.proofs.Testing.{another-list, lists-stage}
 use Rattle.lent.proofs.evidence_lists.Statement.{statement}
 use Rattle.lent.proofs.evidence_lists.Tie as tie
 
 unequal-requires : tie.Need-unequal-requires
-unequal-requires c κs = search needs
+unequal-requires c κs = tt
 
 unequal-requires-2 : tie.Need-unequal-requires-2
-unequal-requires-2 c κs = search needs
+unequal-requires-2 c κs = tt
 
 lists-tested-requires : tie.Need-lists-tested-requires
-lists-tested-requires c κs = search needs
+lists-tested-requires c κs = tt
 
 returns : tie.Need-returns
 unfolding listsStage rowsMisfit misfit
-returns c = cc
+returns c = lists-stage (c .before .before .before .args .work) (another-list (c .before .before .before .args .left) (c .before .before .before .args .packets) (c .before .unequal2 .ensures) (c .before .before .unequal .ensures)) (c .lists-tested .ensures)
 
 pub evidence-lists-spec : {M : Type 1} → statement M
 evidence-lists-spec =

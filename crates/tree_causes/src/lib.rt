@@ -1,0 +1,109 @@
+// Causes 8 and 9 of document 01 on one policy, which count children and dups.
+ghost use mathlib.Core.Path.{_≡_};
+ghost use Prim.Native.Nat.{_<_, pred};
+ghost use lib.ListN.{length, getD};
+ghost use Rattle.packet.specs.Lowest.{lowest, optionOf};
+ghost use Rattle.policy.specs.AsLists.{asLists};
+ghost use Rattle.policy.specs.NodeLists.{children};
+ghost use Rattle.policy.specs.Legality.{notOnce};
+ghost use Rattle.tree_causes.specs.Counting.{CountableChildren, ChildCounts, Countable, withChild, withChildren, DupWeight, DupCountOf};
+use packet::Place;
+use policy::Node;
+use policy::lent::node_at;
+
+// How often each node is a child, with one more child.
+fn with_child(counts: [u16; 512], child: u16) -> [u16; 512]
+    requires { ⌜ child < 512 ⌝ }
+    requires { ⌜ getD counts child 0 < 65535 ⌝ }
+    ensures { λ r. ⌜ r ≡ withChild counts child ⌝ }
+{
+    let mut next = counts;
+    let c = child as usize;
+    next[c] += 1;
+    next
+}
+
+// How often each node is a child, with the children of one more node.
+fn with_children(counts: [u16; 512], node: Node) -> [u16; 512]
+    requires { ⌜ Countable counts (children node) ⌝ }
+    ensures { λ r. ⌜ r ≡ withChildren counts (children node) ⌝ }
+{
+    match node {
+        Node::Sum(l, r) => with_child(with_child(counts, l), r),
+        Node::Seq(l, r) => with_child(with_child(counts, l), r),
+        Node::Star(c) => with_child(counts, c),
+        Node::Drop => counts,
+        Node::Id => counts,
+        Node::Field(_) => counts,
+        Node::Dup => counts,
+    }
+}
+
+// How often each node is a child.
+fn times_child(kind: &[u8], first: &[u16], second: &[u16]) -> [u16; 512]
+    requires { ⌜ CountableChildren (asLists (now kind) (now first) (now second)) ⌝ }
+    ensures { λ r. ⌜ ChildCounts (asLists (now (kind .entry)) (now (first .entry)) (now (second .entry))) r (length (now (kind .entry))) ⌝ }
+{
+    let mut counts = [0u16; 512];
+    let mut i = 0;
+    while i < kind.len() {
+        let more = with_children(counts, node_at(kind, first, second, i));
+        counts = more;
+        i += 1;
+    }
+    counts
+}
+
+// Inner: cause 8, the lowest node but the last that is not a child exactly once.
+pub fn not_once(kind: &[u8], first: &[u16], second: &[u16]) -> Place
+    requires { ⌜ CountableChildren (asLists (now kind) (now first) (now second)) ⌝ }
+    ensures { λ r. ⌜ optionOf r ≡ lowest (notOnce (asLists (now (kind .entry)) (now (first .entry)) (now (second .entry)))) (pred (length (now (kind .entry)))) ⌝ }
+{
+    let counts = times_child(kind, first, second);
+    let mut i = 0;
+    while i + 1 < kind.len() {
+        if counts[i] != 1 {
+            return Place::At(i as u64);
+        }
+        i += 1;
+    }
+    Place::Nowhere
+}
+
+// 1 for the kind of dup, else 0.
+fn dup_weight(kind: u8) -> u8
+    ensures { λ r. ⌜ DupWeight kind r ⌝ }
+{
+    if kind == 5 {
+        return 1;
+    }
+    0
+}
+
+// The dups of a policy, and the place of the first that is too many.
+pub struct DupCount {
+    pub count: u8,
+    pub extra: Place,
+}
+
+// Inner: cause 9, the first dup that is one too many; else the number of dups. It is seen from the kinds alone.
+pub fn dups(kind: &[u8]) -> DupCount
+    ensures { λ r. ⌜ DupCountOf (now (kind .entry)) r ⌝ }
+{
+    let mut count: u8 = 0;
+    let mut i = 0;
+    while i < kind.len() {
+        count += dup_weight(kind[i]);
+        if 31 < count {
+            return DupCount {
+                count,
+                extra: Place::At(i as u64),
+            };
+        }
+        i += 1;
+    }
+    DupCount {
+        count,
+        extra: Place::Nowhere,
+    }
+}
