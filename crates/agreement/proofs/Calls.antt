@@ -20,7 +20,7 @@ use Rattle.pair.specs.TraceCheck.{only}
 use Rattle.pair.proofs.Lawful.{legal-pair}
 use Rattle.pair.proofs.Verdicts.{equal-same}
 use Rattle.lent.specs.Lent.{lentTests}
-use Rattle.lent.specs.Written.{written}
+use Rattle.packet.specs.Written.{written}
 use Rattle.verdict.specs.declared.Verdict.{Verdict}
 use Rattle.verdict.specs.declared.Verdict.the-variants.{Equal}
 use Rattle.verdict.specs.Verdicts.{tellingVerdict, verdictOf, traceAfter}

@@ -20,8 +20,8 @@ use Rattle.pair.specs.Search.{SearchAnswer, Columns, equal, different, rowsFull
 use Rattle.pair.proofs.Lawful.{legal-pair}
 use Rattle.pair.proofs.Verdicts as verdicts
 use Rattle.pair.proofs.Verdicts.{equal-same, searched, is-telling}
-use Rattle.lent.specs.Written.{written}
-use Rattle.lent.proofs.Written.{length-written, take-written}
+use Rattle.packet.specs.Written.{written}
+use Rattle.packet.proofs.Written.{length-written, take-written}
 use Rattle.verdict.specs.declared.Verdict.{Verdict}
 use Rattle.verdict.specs.declared.Verdict.the-variants.{Equal}
 use Rattle.verdict.specs.Verdicts.{tellingVerdict, verdictOf, traceAfter}

@@ -7,7 +7,7 @@ use Rattle.packet.specs.Refusals.{refusal}
 use Rattle.policy.specs.Meaning.{SameTracesBelow}
 use Rattle.pair.specs.Sides.{Side}
 use Rattle.pair.specs.Search.{Distinguishes}
-use Rattle.lent.specs.Written.{written}
+use Rattle.packet.specs.Written.{written}
 use Rattle.search.specs.Call.{Lent, lent}
 use Rattle.grammar.specs.Tokens.{fieldNames}
 use Rattle.grammar.specs.Answer.{textTree}

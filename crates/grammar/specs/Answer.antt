@@ -7,6 +7,7 @@ use mathlib.Core.Path.{_≡_}
 use lib.Dec.{ltb}
 use lib.ListN.{length, drop}
 use Rattle.packet.specs.Refusals.{refusedAt, firstOf}
+use Rattle.packet.specs.Written.{written}
 use Rattle.packet.specs.declared.Tested.{Tested}
 use Rattle.packet.specs.declared.Tested.the-variants.{Passed, Refused as Failed}
 use Rattle.policy.specs.Tree.{Policy}
@@ -81,10 +82,6 @@ module _ (names : List (List ℕ)) (text : List ℕ) where
   -- the answer, where the shortest lent list has so many entries
   unfoldable pub answerTo : ℕ → Answer
   answerTo room = answered (tested room) (treeSize textTree)
-
--- a lent list that holds xs first and keeps its contents beyond
-unfoldable pub written : List ℕ → List ℕ → List ℕ
-written xs old = xs ++ drop (length xs) old
 
 -- a lent list after an answer: the nodes' entries on a count, as found on a refusal
 unfoldable pub leftBy : Answer → List ℕ → List ℕ → List ℕ

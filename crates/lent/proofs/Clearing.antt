@@ -5,8 +5,8 @@ use Prim.Native.Nat.{ℕ, _+_, _≤_, _<_}
 use native.Mathlib.Nat.{le-antisymm}
 use native.Mathlib.Omega.{arith}
 use lib.ListN.{length, set, replicate, length-replicate, replicate-append-replicate}
-use Rattle.lent.specs.Written.{written}
-use Rattle.lent.proofs.Written.{written-none, written-whole, written-snoc, length-written}
+use Rattle.packet.specs.Written.{written}
+use Rattle.packet.proofs.Written.{written-none, written-whole, written-snoc, length-written}
 
 -- so many zeros
 zeros : (n : ℕ) → length (replicate {A = ℕ} n 0) ≡ n

@@ -11,7 +11,7 @@ use borrow.Author.Tests.{eq-eqb, ne-eqb}
 use Rattle.system.specs.System.{System}
 use Rattle.system.specs.RowOrder.{Entry, entryAt, climbing, climb, path}
 use Rattle.system.proofs.Basics.{induction, length-snoc}
-use Rattle.lent.specs.Written.{written}
+use Rattle.packet.specs.Written.{written}
 use Rattle.lines.specs.Lines.{rising, rise, lineDepth, linePath, lineStart, Rooted}
 
 module _ {A : Type 0} (first : ℕ → A) (below : ℕ → A → A) {parents : List ℕ} {n : ℕ} (R : Rooted parents n) where

@@ -4,7 +4,7 @@ ghost use mathlib.Core.Path.{_≡_};
 ghost use mathlib.Core.List.{[], _∷_, _++_};
 ghost use Prim.Native.Nat.{_+_, _<_, _≤_};
 ghost use lib.ListN.{length};
-ghost use Rattle.lent.specs.Written.{written};
+ghost use Rattle.packet.specs.Written.{written};
 ghost use Rattle.lines.specs.Lines.{lineDepth, linePath, lineStart, Rooted};
 
 // Inner: a number of 16 bits as an index.

@@ -4,3 +4,4 @@ pub mod Sizes
 pub mod Stages
 pub mod Legal
 pub mod Packets
+pub mod Written

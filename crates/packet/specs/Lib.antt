@@ -2,3 +2,4 @@ pub mod Lowest
 pub mod Refusals
 pub mod Sizes
 pub mod Packets
+pub mod Written

@@ -24,7 +24,7 @@ use Rattle.index.specs.Columns.{rowAt}
 use Rattle.index.specs.Appending.{Lists}
 use Rattle.index.specs.Entries.{Masks, rowOf}
 use Rattle.index.proofs.Entries.{column, entries-at}
-use Rattle.lent.specs.Written.{written}
+use Rattle.packet.specs.Written.{written}
 use Rattle.rows.specs.Standing.{answerFor, Standing, Continues, pairMasks, Started}
 use Rattle.lines.specs.Lines.{lineDepth, linePath, lineStart, Rooted}
 use Rattle.rows.proofs.Standing.{stands-length, drop-later}

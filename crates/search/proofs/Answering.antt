@@ -23,7 +23,7 @@ use Rattle.pair.proofs.Verdicts as verdicts
 use Rattle.index.specs.Appending.{Lists, lists}
 use Rattle.index.proofs.Growth.{indexed-none}
 use Rattle.lent.specs.Lent.{listsStage, rowsMisfit, lentTests}
-use Rattle.lent.specs.Written.{written}
+use Rattle.packet.specs.Written.{written}
 use Rattle.rows.proofs.Searching.{holds}
 use Rattle.lent.proofs.Testing.{tests-passed, lists-passed, row-list-fits, rows-few}
 use Rattle.verdict.specs.declared.Stop.{Stop}

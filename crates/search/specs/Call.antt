@@ -17,7 +17,7 @@ use Rattle.pair.specs.Sides.{Side, policies}
 use Rattle.pair.specs.Pair.{pairSystem}
 use Rattle.pair.specs.Search.{SearchAnswer, Columns, searchAnswer, heldColumns, Distinguishes}
 use Rattle.lent.specs.Lent.{listsStage, lentTests}
-use Rattle.lent.specs.Written.{written}
+use Rattle.packet.specs.Written.{written}
 use Rattle.verdict.specs.declared.Verdict.{Verdict}
 use Rattle.verdict.specs.Verdicts.{tellingVerdict, verdictOf, traceAfter}
 use Rattle.verdict.specs.declared.Verdict.the-variants.{Equal, Full, Refused}

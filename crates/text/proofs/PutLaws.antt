@@ -14,7 +14,7 @@ use Rattle.policy.specs.Tree.{Policy, drop as ⊥ₚ, id, field, dup, sum, seq,
 use Rattle.policy.specs.NodeLists.{NodeLists}
 use Rattle.policy.specs.NodesOfTree.{Entry, entry, treeSize, entriesFrom, listsOf}
 use Rattle.policy.proofs.Nodes.{entries-length}
-use Rattle.grammar.specs.Answer.{written}
+use Rattle.packet.specs.Written.{written}
 use Rattle.text.specs.Inner.{putAt, putEntry, putAll, lists}
 
 -- a tree has at least one node

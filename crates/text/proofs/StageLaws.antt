@@ -18,7 +18,8 @@ use Rattle.grammar.specs.declared.Answer.the-variants.{Nodes}
 use Rattle.grammar.specs.Tokens.{tokensFrom, tokens, fieldNames}
 use Rattle.grammar.specs.Kinds.{kindAt, placeAt}
 use Rattle.grammar.specs.Reading.{nothing, whole, upTo, joinSequence, joinSum, has, start, Outcome, tree, stop, readOn}
-use Rattle.grammar.specs.Answer.{stopPlace, treeRead, outcome, textTree, answerTo, written, leftBy, TextRead}
+use Rattle.grammar.specs.Answer.{stopPlace, treeRead, outcome, textTree, answerTo, leftBy, TextRead}
+use Rattle.packet.specs.Written.{written}
 use Rattle.grammar.proofs.ReadLaws.{top-ends, top-stops}
 use Rattle.grammar.proofs.AnswerLaws.{parts, nodes-few, answer-is}
 use Rattle.tokens.specs.Inner.{TokenFrom}

@@ -14,7 +14,8 @@ use Rattle.policy.proofs.Nodes.{entries-length}
 use Rattle.grammar.specs.declared.Answer.{Answer}
 use Rattle.grammar.specs.declared.Answer.the-variants.{Nodes, Refused}
 use Rattle.grammar.specs.Tokens.{fieldNames}
-use Rattle.grammar.specs.Answer.{answered, textTree, answerTo, written, leftBy, shortest, TextRead}
+use Rattle.grammar.specs.Answer.{answered, textTree, answerTo, leftBy, shortest, TextRead}
+use Rattle.packet.specs.Written.{written}
 use Rattle.grammar.proofs.AnswerLaws.{few-enough, count-parts}
 use Rattle.texts.specs.Call.{textNodes, textStage}
 

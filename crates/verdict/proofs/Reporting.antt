@@ -11,7 +11,7 @@ use Rattle.system.proofs.Basics.{length-snoc}
 use Rattle.pair.specs.Sides.{Side, left, right}
 use Rattle.pair.specs.Search.{SearchAnswer, different, traceShort, reported}
 use Rattle.lines.specs.Lines.{lineDepth, linePath, lineStart}
-use Rattle.lent.specs.Written.{written}
+use Rattle.packet.specs.Written.{written}
 use Rattle.lines.proofs.Lines.{length-path}
 use Rattle.verdict.specs.declared.Ended.{Ended}
 use Rattle.verdict.specs.declared.Ended.the-variants.{Done, Left as LeftTells, Right as RightTells, Full as FullUp}

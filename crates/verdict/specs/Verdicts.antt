@@ -6,7 +6,7 @@ use lib.ListN.{length}
 use Rattle.packet.specs.Refusals.{refusal}
 use Rattle.pair.specs.Sides.{Side, left, right}
 use Rattle.pair.specs.Search.{SearchAnswer, equal, different, rowsFull, traceShort}
-use Rattle.lent.specs.Written.{written}
+use Rattle.packet.specs.Written.{written}
 use Rattle.verdict.specs.declared.Verdict.{Verdict}
 use Rattle.verdict.specs.declared.Verdict.the-variants.{Equal, Left, Right, Full, Refused}
 

@@ -1,12 +1,11 @@
 -- Laws of what is written first into a list that keeps its contents beyond.
 use mathlib.Core.Path.{_≡_, refl, sym, _∙_, ap}
 use mathlib.Core.List.{List, [], _∷_, _++_, append-nil}
-use Prim.Native.Nat.{_≤_, _<_}
+use Prim.Native.Nat.{suc, _≤_, _<_}
 use native.Mathlib.Omega.{arith}
 use lib.ListN.{length, set, take, drop, length-append, length-drop, drop-of-length-le}
 use lib.Seq.{drop-cons, take-append-seam, set-append-seam, append-snoc}
-use Rattle.system.proofs.Basics.{length-snoc}
-use Rattle.lent.specs.Written.{written}
+use Rattle.packet.specs.Written.{written}
 
 module _ {A : Type 0} where
   -- nothing written
@@ -28,7 +27,7 @@ module _ {A : Type 0} where
   unfolding written
   written-snoc xs old x h =
       append-snoc xs x _
-      ∙ ap (λ n. xs ++ x ∷ drop n old) (length-snoc xs x)
+      ∙ ap (λ n. xs ++ x ∷ drop n old) {y = suc (length xs)} (length-append xs (x ∷ []) ∙ omega arith)
       ∙ sym (ap (λ l. set (xs ++ l) (length xs) x) (drop-cons old (length xs) x h) ∙ set-append-seam xs _ _ x)
 
   -- the first entries are those written
