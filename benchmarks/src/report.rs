@@ -263,10 +263,8 @@ What is known of the causes, from how the two are built and from profiles of som
   but the rows and their index. This should tell most where many rows share few remainders and packets, as in the groups
   rows and evidence, and least where each step is new to both, as in nondet. In a profile of many rows seven tenths of
   the library's time go into sets on their way through the nodes; of many dups, nine tenths into marking next, packet by packet.
-- In a table the second implementation handles repeats of a row once, the library each of them.
 - The second implementation's index is seeded at random. The library's is fixed, so a stranger can choose rows that share a
-  bucket. Each packet has buckets of its own, which bounds the harm: to look up all next rows of one row walks each row of
-  the table at most once.
+  bucket; the rows of a bucket make a tree, and a lookup passes at most 64 of them.
 - The second implementation's reader makes a list of tokens. The library's keeps none: it goes over a legal text four
   times (tokens, parentheses, counting nodes, writing them), and where several levels of the grammar ask for the next
   token, each skips the blanks before it again. It takes the table of byte classes anew for each token: a constant is built

@@ -1,3 +1,4 @@
 pub mod Joining
+pub mod Repeats
 pub mod Stepping
 pub mod Answering

@@ -1,17 +1,20 @@
 -- The checker's steps: one row, row by row, the starting rows, the table.
 -- Assumes nothing.
-use Prim.Native.Nat.{ℕ, zero, suc, _+_, _≤_, _<_}
+use Prim.Native.Nat.{ℕ, zero, suc, _+_, _/_, _≤_, _<_}
 use native.Mathlib.Nat.{le-antisymm, not-suc-le-zero}
 use native.Mathlib.Numerals.{add-one}
 use native.Mathlib.Omega.{arith}
+use mathlib.Core.Bool.{true, _&&_}
 use mathlib.Core.List.{List}
 use mathlib.Core.Logic.{_⊎_, inl, inr}
 use mathlib.Core.Option.{Option}
 use mathlib.Core.Path.{_≡_, refl, sym, _∙_, ap, ap₂, subst}
+use lib.Dec.{eqb}
 use lib.ListN.{length, getD, replicate, length-replicate, getD-replicate}
+use borrow.Author.Tests.{eqb-true}
 use Rattle.packet.specs.Lowest.{lowest}
 use Rattle.packet.specs.Sizes.{product}
-use Rattle.packet.proofs.Tests.{last-or-before}
+use Rattle.packet.proofs.Tests.{and-true, last-or-before}
 use Rattle.policy.specs.Legality.{maxDups}
 use Rattle.policy.specs.NodeLists.{NodeLists, nodeCount, dupsBelow}
 use Rattle.system.specs.System.{System}
@@ -21,7 +24,7 @@ use Rattle.pair.specs.Pair.{pairSystem}
 use Rattle.pair.specs.Rules.{Table, Checked, accepted, ruleA, ruleB, ruleC, ruleD, andThen, brokenAt, breaksA, breaksB, breaksD, checkRow, checkRows, checkRules}
 use Rattle.pair.specs.Evidence.{tableOf, evidenceAnswer}
 use Rattle.index.specs.declared.Row.{Row as MaskRow}
-use Rattle.index.specs.Columns.{rowAt}
+use Rattle.index.specs.Columns.{rowAt, sameStates, sameRow}
 use Rattle.index.specs.Index.{Indexed}
 use Rattle.index.proofs.Growth.{indexed-none}
 use Rattle.compare.specs.declared.Compared.{Compared}
@@ -34,10 +37,11 @@ use Rattle.evidence.specs.declared.RowAnswer.{RowAnswer}
 use Rattle.evidence.specs.declared.RowAnswer.the-variants.{Keeps, Outputs, Next}
 use Rattle.row_rules.specs.declared.Spot.{Spot}
 use Rattle.row_rules.specs.declared.Spot.the-variants.{At, Nowhere}
-use Rattle.row_rules.specs.Presence.{spotOf, strays, startMissing, nextMissing}
+use Rattle.row_rules.specs.Presence.{spotOf, strays, startMissing, nextMissing, Repeated}
 use Rattle.evidence.specs.Calls.{reported}
 use Rattle.evidence.specs.Steps.{rowTold, Lent, Cleared, Ready, RowChecked, RowsChecked, StartsChecked, TableChecked}
 use Rattle.evidence.proofs.Joining.{lowest-agree, lowest-stray, packets-small, lowest-start, missing-is}
+use Rattle.evidence.proofs.Repeats.{repeat-keeps}
 
 -- the spot found, as the lowest of a test
 found : {spot s : Spot} {o p : Option ℕ} → spotOf spot ≡ o → o ≡ p → spot ≡ s → p ≡ spotOf s
@@ -52,7 +56,7 @@ module _ (sizes : List ℕ) (L R : NodeLists) (packets lefts rights : List ℕ) 
 
   -- ---- one row
 
-  module _ (count : ℕ) (heads links work : List ℕ) (ready : Ready sizes L R packets lefts rights count heads links work) (i : ℕ) (inside : i < length packets) (x : MaskRow) (isRow : x ≡ rowAt packets lefts rights i) where
+  module _ (count : ℕ) (trees work : List ℕ) (ready : Ready sizes L R packets lefts rights count trees work) (i : ℕ) (inside : i < length packets) (x : MaskRow) (isRow : x ≡ rowAt packets lefts rights i) where
     pub compare-ready : {masksL placesL masksR placesR : List ℕ} → BothPrepared L R masksL placesL masksR placesR → (nextL nextR : List ℕ) → 1024 ≤ length nextL → 1024 ≤ length nextR
         → CompareReady sizes L R masksL placesL masksR placesR count (x .packet) nextL nextR work
     compare-ready B nextL nextR roomL roomR =
@@ -113,6 +117,16 @@ module _ (sizes : List ℕ) (L R : NodeLists) (packets lefts rights : List ℕ) 
 
   -- ---- row by row
 
+  row-same : (j i : ℕ) → sameRow (rowAt packets lefts rights j) (rowAt packets lefts rights i) ≡ true → T .row j ≡ T .row i
+  unfolding sameRow sameStates
+  row-same j i e =
+      let both = and-true (eqb (getD packets j 0) (getD packets i 0)) (eqb (getD lefts j 0) (getD lefts i 0) && eqb (getD rights j 0) (getD rights i 0)) e in
+      let states = and-true (eqb (getD lefts j 0) (getD lefts i 0)) (eqb (getD rights j 0) (getD rights i 0)) (both .1) in
+      let p : getD packets j 0 ≡ getD packets i 0 = eqb-true _ _ (both .0) in
+      let l : getD lefts j 0 ≡ getD lefts i 0 = eqb-true _ _ (states .0) in
+      let r : getD rights j 0 ≡ getD rights i 0 = eqb-true _ _ (states .1) in
+      λ k. record { packet = p k; state = record { left = l k; right = r k } }
+
   -- the first i rows keep (c) and (d)
   pub record RowsTo (work₀ work : List ℕ) (i : ℕ) : Type 0 where
     pub within : i ≤ length packets
@@ -133,9 +147,9 @@ module _ (sizes : List ℕ) (L R : NodeLists) (packets lefts rights : List ℕ) 
   unfolding checkRows
   rows-none work = record { within = omega arith; keep = refl; kept = refl }
 
-  module _ {count : ℕ} {heads links work₀ work : List ℕ} {i : ℕ} (ready : Ready sizes L R packets lefts rights count heads links work₀) (to : RowsTo work₀ work i) where
-    pub rows-ready : Ready sizes L R packets lefts rights count heads links work
-    rows-ready = subst (Ready sizes L R packets lefts rights count heads links) (sym (to .kept)) ready
+  module _ {count : ℕ} {trees work₀ work : List ℕ} {i : ℕ} (ready : Ready sizes L R packets lefts rights count trees work₀) (to : RowsTo work₀ work i) where
+    pub rows-ready : Ready sizes L R packets lefts rights count trees work
+    rows-ready = subst (Ready sizes L R packets lefts rights count trees) (sym (to .kept)) ready
 
   module _ {work₀ work : List ℕ} {i : ℕ} (to : RowsTo work₀ work i) where
     module _ (inside : i < length packets) {work′ : List ℕ} {answer : RowAnswer} (row : RowChecked sizes L R packets lefts rights i work answer work′) where
@@ -164,6 +178,16 @@ module _ (sizes : List ℕ) (L R : NodeLists) (packets lefts rights : List ℕ) 
             kept = row .kept ∙ to .kept;
           }
 
+    -- a repeat of a row that keeps (c) and (d)
+    pub rows-repeat : i < length packets → Repeated packets lefts rights i → RowsTo work₀ work (i + 1)
+    unfolding checkRows andThen
+    rows-repeat inside q =
+        record {
+          within = omega arith;
+          keep = ap (checkRows S T) (add-one i) ∙ ap₂ andThen (to .keep) (repeat-keeps S T i (q .first) (q .before) (row-same (q .first) i (q .same)) (to .keep));
+          kept = to .kept;
+        }
+
     pub rows-all : length packets ≤ i → RowsChecked sizes L R packets lefts rights work₀ Accepted work
     unfolding reported
     rows-all h = record { answers = ap reported (sym (to .keep) ∙ ap (checkRows S T) (le-antisymm (to .within) h)); kept = to .kept }
@@ -171,13 +195,12 @@ module _ (sizes : List ℕ) (L R : NodeLists) (packets lefts rights : List ℕ) 
   -- ---- the starting rows
 
   module _ {count : ℕ} {work : List ℕ} (C : Cleared sizes L R packets lefts rights count work) where
-    pub index-none : (k m : ℕ) → 1024 ≤ k → 65535 ≤ m → Indexed packets lefts rights count 0 (replicate k 0) (replicate m 0)
-    index-none k m buckets long =
+    pub index-none : (k : ℕ) → 65535 ≤ k / 3 → Indexed packets lefts rights count 0 (replicate k 0)
+    index-none k room =
         let n = C .lent .numbered in
         let e = C .lent .allowed .packet-count in
         let f = C .lent .allowed .legal .small in
-        let l : length (replicate {A = ℕ} m 0) ≡ m = length-replicate m 0 in
-        indexed-none packets lefts rights count k (replicate m 0) (C .lent .table) (omega arith) (omega arith) (omega arith)
+        indexed-none packets lefts rights count k (C .lent .table) (omega arith) (omega arith) (omega arith)
 
     module _ {spot : Spot} (missing : spotOf spot ≡ lowest (startMissing packets lefts rights) count) where
       start-is : {s : Spot} → spot ≡ s → lowest (breaksB S T) (product sizes) ≡ spotOf s

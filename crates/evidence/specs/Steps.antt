@@ -46,9 +46,9 @@ module _ (sizes : List ℕ) (L R : NodeLists) (packets lefts rights : List ℕ) 
     pub zero : (i : ℕ) → i < 16384 → getD work i 0 ≡ 0
 
   -- the rows are indexed
-  pub record Ready (count : ℕ) (heads links work : List ℕ) : Type 0 where
+  pub record Ready (count : ℕ) (trees work : List ℕ) : Type 0 where
     pub cleared : Cleared count work
-    pub indexed : Indexed packets lefts rights count (length packets) heads links
+    pub indexed : Indexed packets lefts rights count (length packets) trees
 
   -- (c), then (d), at row i
   pub record RowChecked (i : ℕ) (work : List ℕ) (answer : RowAnswer) (work′ : List ℕ) : Type 0 where

@@ -50,11 +50,10 @@ fn row_checked(
     rights: &[Mask],
     i: usize,
     count: u16,
-    heads: &[u16],
-    links: &[u16],
+    trees: &[u16],
     work: &mut [u32],
 ) -> RowAnswer
-    requires { ⌜ Ready (now sizes) (asLists (now «left_kind») (now «left_first») (now «left_second»)) (asLists (now «right_kind») (now «right_first») (now «right_second»)) (now packets) (now lefts) (now rights) count (now heads) (now links) (now work) ⌝ }
+    requires { ⌜ Ready (now sizes) (asLists (now «left_kind») (now «left_first») (now «left_second»)) (asLists (now «right_kind») (now «right_first») (now «right_second»)) (now packets) (now lefts) (now rights) count (now trees) (now work) ⌝ }
     requires { ⌜ (i < length (now packets)) × BothPrepared (asLists (now «left_kind») (now «left_first») (now «left_second»)) (asLists (now «right_kind») (now «right_first») (now «right_second»)) (now «left_masks») (now «left_places») (now «right_masks») (now «right_places») ⌝ }
     ensures { λ r. ⌜ RowChecked (now (sizes .entry)) (asLists (now («left_kind» .entry)) (now («left_first» .entry)) (now («left_second» .entry))) (asLists (now («right_kind» .entry)) (now («right_first» .entry)) (now («right_second» .entry))) (now (packets .entry)) (now (lefts .entry)) (now (rights .entry)) i (now (work .entry)) r (now (work .exit)) ⌝ }
 {
@@ -90,8 +89,7 @@ fn row_checked(
             lefts,
             rights,
             count,
-            heads,
-            links,
+            trees,
             &next_left,
             &next_right,
         ) {
@@ -101,7 +99,7 @@ fn row_checked(
     }
 }
 
-// Row by row: (c), then (d).
+// Row by row: (c), then (d); a repeat of a row is passed over.
 fn rows_checked(
     sizes: &[u16],
     left_kind: &[u8],
@@ -114,11 +112,10 @@ fn rows_checked(
     lefts: &[Mask],
     rights: &[Mask],
     count: u16,
-    heads: &[u16],
-    links: &[u16],
+    trees: &[u16],
     work: &mut [u32],
 ) -> Evidence
-    requires { ⌜ Ready (now sizes) (asLists (now «left_kind») (now «left_first») (now «left_second»)) (asLists (now «right_kind») (now «right_first») (now «right_second»)) (now packets) (now lefts) (now rights) count (now heads) (now links) (now work) ⌝ }
+    requires { ⌜ Ready (now sizes) (asLists (now «left_kind») (now «left_first») (now «left_second»)) (asLists (now «right_kind») (now «right_first») (now «right_second»)) (now packets) (now lefts) (now rights) count (now trees) (now work) ⌝ }
     ensures { λ r. ⌜ RowsChecked (now (sizes .entry)) (asLists (now («left_kind» .entry)) (now («left_first» .entry)) (now («left_second» .entry))) (asLists (now («right_kind» .entry)) (now («right_first» .entry)) (now («right_second» .entry))) (now (packets .entry)) (now (lefts .entry)) (now (rights .entry)) (now (work .entry)) r (now (work .exit)) ⌝ }
 {
     let mut left_masks = [0u32; 512];
@@ -141,30 +138,33 @@ fn rows_checked(
     );
     let mut i = 0;
     while i < packets.len() {
-        match row_checked(
-            sizes,
-            left_kind,
-            left_first,
-            left_second,
-            &left_masks,
-            &left_places[..left_dups],
-            right_kind,
-            right_first,
-            right_second,
-            &right_masks,
-            &right_places[..right_dups],
-            packets,
-            lefts,
-            rights,
-            i,
-            count,
-            heads,
-            links,
-            work,
-        ) {
-            RowAnswer::Outputs => return Evidence::RuleC(i as u16),
-            RowAnswer::Next(gamma) => return Evidence::RuleD(i as u16, gamma),
-            RowAnswer::Keeps => i += 1,
+        if row_rules::repeated(packets, lefts, rights, i, count, trees) {
+            i += 1;
+        } else {
+            match row_checked(
+                sizes,
+                left_kind,
+                left_first,
+                left_second,
+                &left_masks,
+                &left_places[..left_dups],
+                right_kind,
+                right_first,
+                right_second,
+                &right_masks,
+                &right_places[..right_dups],
+                packets,
+                lefts,
+                rights,
+                i,
+                count,
+                trees,
+                work,
+            ) {
+                RowAnswer::Outputs => return Evidence::RuleC(i as u16),
+                RowAnswer::Next(gamma) => return Evidence::RuleD(i as u16, gamma),
+                RowAnswer::Keeps => i += 1,
+            }
         }
     }
     Evidence::Accepted
@@ -188,10 +188,9 @@ fn starts_checked(
     requires { ⌜ Cleared (now sizes) (asLists (now «left_kind») (now «left_first») (now «left_second»)) (asLists (now «right_kind») (now «right_first») (now «right_second»)) (now packets) (now lefts) (now rights) count (now work) ⌝ }
     ensures { λ r. ⌜ StartsChecked (now (sizes .entry)) (asLists (now («left_kind» .entry)) (now («left_first» .entry)) (now («left_second» .entry))) (asLists (now («right_kind» .entry)) (now («right_first» .entry)) (now («right_second» .entry))) (now (packets .entry)) (now (lefts .entry)) (now (rights .entry)) (now (work .entry)) r (now (work .exit)) ⌝ }
 {
-    let mut heads = [0u16; 65536];
-    let mut links = [0u16; 65536];
-    index::index_all(packets, lefts, rights, count, &mut heads, &mut links);
-    match row_rules::first_start_missing(packets, lefts, rights, count, &heads, &links) {
+    let mut trees = [0u16; 196608];
+    index::index_all(packets, lefts, rights, count, &mut trees);
+    match row_rules::first_start_missing(packets, lefts, rights, count, &trees) {
         Spot::At(alpha) => Evidence::RuleB(alpha),
         Spot::Nowhere => rows_checked(
             sizes,
@@ -205,8 +204,7 @@ fn starts_checked(
             lefts,
             rights,
             count,
-            &heads,
-            &links,
+            &trees,
             work,
         ),
     }

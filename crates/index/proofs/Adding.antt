@@ -2,7 +2,7 @@
 use mathlib.Core.Path.{_≡_, sym, _∙_, ap, ap₂, subst}
 use mathlib.Core.Bool.{Bool, true, false, _&&_, _||_, not}
 use mathlib.Core.List.{List, [], _∷_}
-use Prim.Native.Nat.{ℕ, _+_, _≤_, _<_}
+use Prim.Native.Nat.{ℕ, suc, _+_, _≤_, _<_}
 use native.Mathlib.Numerals.{add-one}
 use native.Mathlib.Omega.{arith}
 use lib.Dec.{ltb}
@@ -10,21 +10,39 @@ use lib.ListN.{length, getD, set, replicate, length-set}
 use lib.Seq.{getD-set-same, getD-set-other}
 use borrow.Author.Tests.{eq-eqb, lt-ltb, le-ltb}
 use Rattle.index.specs.declared.Row.{Row}
+use Rattle.index.specs.declared.Lookup.{Lookup}
+use Rattle.index.specs.declared.Lookup.the-variants.{Listed, Vacant}
+use Rattle.index.specs.declared.Vacancy.{Vacancy}
+use Rattle.index.specs.declared.Vacancy.the-variants.{At, Nowhere}
 use Rattle.index.specs.declared.Appended.{Appended}
 use Rattle.index.specs.declared.Appended.the-variants.{Rows, Full}
 use Rattle.index.specs.Columns.{policies, Table, rowAt, sameStates, sameRow, allZero, listedBelow}
-use Rattle.index.specs.Index.{Indexed, headsWith, linksWith}
-use Rattle.index.specs.Appending.{isNew, Lists, answerOf, rowsAfter, changed, isAdded, Appending}
+use Rattle.index.specs.Index.{VacantAt, Placed, Indexed, treesWith}
+use Rattle.index.specs.Appending.{isNew, NewPlaced, Lists, answerOf, rowsAfter, changed, isAdded, Appending}
 use Rattle.index.proofs.Growth.{indexed-more}
 
-module _ (f : ℕ → Row) (n : ℕ) (r : Row) (dead : Bool) (isDead : dead ≡ sameStates policies (r .states) (replicate policies 0)) where
-  pub new-dead : dead ≡ true → isNew f n r ≡ false
-  unfolding isNew allZero
-  new-dead e = ap (λ t. not (t || listedBelow f n r)) (sym isDead ∙ e)
+module _ {f : ℕ → Row} {count n : ℕ} {trees : List ℕ} {r : Row} where
+  new-nowhere : isNew f n r ≡ false → NewPlaced f count n trees r Nowhere
+  new-nowhere e = record { at = λ slot q. let z : _≡_ {A = ℕ} 0 1 = cc in absurd (omega arith); nowhere = λ q. e }
 
-  pub new-living : dead ≡ false → (found : Bool) → found ≡ listedBelow f n r → isNew f n r ≡ not found
-  unfolding isNew allZero
-  new-living e found isFound = ap₂ (λ s t. not (s || t)) (sym isDead ∙ e) (sym isFound)
+  module _ (dead : Bool) (isDead : dead ≡ sameStates policies (r .states) (replicate policies 0)) where
+    pub new-dead : dead ≡ true → NewPlaced f count n trees r Nowhere
+    unfolding isNew allZero
+    new-dead e = new-nowhere (ap (λ t. not (t || listedBelow f n r)) (sym isDead ∙ e))
+
+    module _ (living : dead ≡ false) {answer : Lookup} (p : Placed f count n trees r answer) where
+      pub new-listed : (i : ℕ) → answer ≡ Listed i → NewPlaced f count n trees r Nowhere
+      unfolding isNew allZero
+      new-listed i e = new-nowhere (ap₂ (λ s t. not (s || t)) (sym isDead ∙ living) (p .listed i e .listed))
+
+      pub new-at : (slot : ℕ) → answer ≡ Vacant slot → NewPlaced f count n trees r (At slot)
+      unfolding isNew allZero
+      new-at slot e =
+          let v = p .vacant slot e in
+          record {
+            at = λ s q. let here : slot ≡ s = cc in (ap₂ (λ s t. not (s || t)) (sym isDead ∙ living) (v .unlisted), subst (VacantAt f count n trees r) here v);
+            nowhere = λ q. let z : _≡_ {A = ℕ} 0 1 = cc in absurd (omega arith);
+          }
 
 -- the columns with row r put at n
 module _ (P L R : List ℕ) (n : ℕ) (r : Row) where
@@ -60,7 +78,7 @@ pub changed-false : (b : Bool) (new was : List ℕ) → b ≡ false → changed 
 unfolding changed
 changed-false b new was e = ap (λ t. changed t new was) e
 
-module _ (x : Lists) (count n : ℕ) (r : Row) (parent : ℕ) (I : Indexed (x .packets) (x .left) (x .right) count n (x .heads) (x .links)) where
+module _ (x : Lists) (count n : ℕ) (r : Row) (parent : ℕ) (I : Indexed (x .packets) (x .left) (x .right) count n (x .trees)) where
   abbrev new : Bool
   new = isNew (rowAt (x .packets) (x .left) (x .right)) n r
 
@@ -74,9 +92,8 @@ module _ (x : Lists) (count n : ℕ) (r : Row) (parent : ℕ) (I : Indexed (x .p
         left = sym (changed-false _ _ _ e);
         right = sym (changed-false _ _ _ e);
         parents = sym (changed-false _ _ _ e);
-        heads = sym (changed-false _ _ _ e);
-        links = sym (changed-false _ _ _ e);
-        indexed = subst (λ b. Indexed (x .packets) (x .left) (x .right) count (rowsAfter b n) (x .heads) (x .links)) (sym e) I;
+        trees = sym (changed-false _ _ _ e);
+        indexed = subst (λ b. Indexed (x .packets) (x .left) (x .right) count (rowsAfter b n) (x .trees)) (sym e) I;
       }
 
   pub append-listed : new ≡ false → Appending x x count n r parent (Rows n)
@@ -87,12 +104,13 @@ module _ (x : Lists) (count n : ℕ) (r : Row) (parent : ℕ) (I : Indexed (x .p
   unfolding answerOf isAdded
   append-full e l = kept Full (ap₂ (λ s t. answerOf s t n) (sym e) (sym (le-ltb n (length (x .packets)) l))) (ap₂ _&&_ e (le-ltb n (length (x .packets)) l))
 
-  pub append-more : new ≡ true → n < length (x .packets) → r .packet < count → (y : Lists)
+  pub append-more : new ≡ true → n < length (x .packets) → r .packet < count → (slot : ℕ) → VacantAt (rowAt (x .packets) (x .left) (x .right)) count n (x .trees) r slot → (y : Lists)
       → y .packets ≡ set (x .packets) n (r .packet) → y .left ≡ set (x .left) n (getD (r .states) 0 0) → y .right ≡ set (x .right) n (getD (r .states) 1 0)
-      → y .parents ≡ set (x .parents) n parent → y .heads ≡ headsWith count r n (x .heads) → y .links ≡ linksWith count r n (x .heads) (x .links)
+      → y .parents ≡ set (x .parents) n parent → y .trees ≡ set (x .trees) slot (n + 1)
       → Appending x y count n r parent (Rows (n + 1))
-  unfolding answerOf isAdded rowsAfter
-  append-more e l small y isP isL isR isQ isH isK =
+  unfolding answerOf isAdded rowsAfter treesWith
+  append-more e l small slot W y isP isL isR isQ at =
+      let isT : y .trees ≡ set (x .trees) slot (suc n) = at ∙ ap (set (x .trees) slot) (add-one n) in
       let room = lt-ltb n (length (x .packets)) l in
       let added : isAdded x n r ≡ true = ap₂ _&&_ e room in
       record {
@@ -101,10 +119,9 @@ module _ (x : Lists) (count n : ℕ) (r : Row) (parent : ℕ) (I : Indexed (x .p
         left = isL ∙ sym (changed-true _ _ _ added);
         right = isR ∙ sym (changed-true _ _ _ added);
         parents = isQ ∙ sym (changed-true _ _ _ added);
-        heads = isH ∙ sym (changed-true _ _ _ added);
-        links = isK ∙ sym (changed-true _ _ _ added);
+        trees = isT ∙ ap (λ s. set (x .trees) s (suc n)) (W .reached) ∙ sym (changed-true _ _ _ added);
         indexed =
-            rw (added, isP, isL, isR, isH, isK)
+            rw (added, isP, isL, isR, isT)
             (indexed-more I _ _ _ r (put-table (x .packets) (x .left) (x .right) n r (I .table)) (length-set (x .packets) n _)
-            (put-below (x .packets) (x .left) (x .right) n r) (put-here (x .packets) (x .left) (x .right) n r (I .table) l) small l);
+            (put-below (x .packets) (x .left) (x .right) n r) (put-here (x .packets) (x .left) (x .right) n r (I .table) l) small l slot W);
       }

@@ -19,7 +19,7 @@ use Rattle.index.specs.declared.Row.{Row}
 use Rattle.index.specs.declared.Appended.{Appended}
 use Rattle.index.specs.declared.Appended.the-variants.{Rows, Full}
 use Rattle.index.specs.Columns.{policies, rowAt, sameStates, sameRow, allZero, listedBelow}
-use Rattle.index.specs.Index.{Indexed, headsWith, linksWith}
+use Rattle.index.specs.Index.{Indexed, treesWith}
 use Rattle.index.specs.Appending.{isNew, Lists, answerOf, rowsAfter, isAdded, Appending}
 use Rattle.index.specs.Entries.{Masks, rowOf, entriesOf, entries}
 use Rattle.index.proofs.Adding.{put-below, put-here, changed-true, changed-false}
@@ -118,8 +118,7 @@ grown x count n r parent =
       left = set (x .left) n (getD (r .states) 0 0);
       right = set (x .right) n (getD (r .states) 1 0);
       parents = set (x .parents) n parent;
-      heads = headsWith count r n (x .heads);
-      links = linksWith count r n (x .heads) (x .links);
+      trees = treesWith (rowAt (x .packets) (x .left) (x .right)) count r n (x .trees);
     }
 
 module _ {x y : Lists} {count n : ℕ} {r : Row} {parent : ℕ} {answer : Appended} (A : Appending x y count n r parent answer) where
@@ -131,8 +130,7 @@ module _ {x y : Lists} {count n : ℕ} {r : Row} {parent : ℕ} {answer : Append
         left = (A .left ∙ changed-true _ _ _ e) k;
         right = (A .right ∙ changed-true _ _ _ e) k;
         parents = (A .parents ∙ changed-true _ _ _ e) k;
-        heads = (A .heads ∙ changed-true _ _ _ e) k;
-        links = (A .links ∙ changed-true _ _ _ e) k;
+        trees = (A .trees ∙ changed-true _ _ _ e) k;
       }
 
   pub stays : isAdded x n r ≡ false → y ≡ x
@@ -142,22 +140,21 @@ module _ {x y : Lists} {count n : ℕ} {r : Row} {parent : ℕ} {answer : Append
         left = (A .left ∙ changed-false _ _ _ e) k;
         right = (A .right ∙ changed-false _ _ _ e) k;
         parents = (A .parents ∙ changed-false _ _ _ e) k;
-        heads = (A .heads ∙ changed-false _ _ _ e) k;
-        links = (A .links ∙ changed-false _ _ _ e) k;
+        trees = (A .trees ∙ changed-false _ _ _ e) k;
       }
 
   full-is-no-count : {B : Type 0} (m : ℕ) → answer ≡ Full → answer ≡ Rows m → B
   full-is-no-count m e a = let z : _≡_ {A = ℕ} 0 1 = cc in absurd (omega arith)
 
   -- the index after the answer `Rows m`
-  pub appended-indexed : (m : ℕ) → answer ≡ Rows m → Indexed (y .packets) (y .left) (y .right) count m (y .heads) (y .links)
+  pub appended-indexed : (m : ℕ) → answer ≡ Rows m → Indexed (y .packets) (y .left) (y .right) count m (y .trees)
   unfolding rowsAfter
   appended-indexed m e = go (outcome A)
     where
-      at : (b : Bool) → isAdded x n r ≡ b → rowsAfter b n ≡ m → Indexed (y .packets) (y .left) (y .right) count m (y .heads) (y .links)
-      at b isIn l = subst (λ k. Indexed (y .packets) (y .left) (y .right) count k (y .heads) (y .links)) (ap (λ t. rowsAfter t n) isIn ∙ l) (A .indexed)
+      at : (b : Bool) → isAdded x n r ≡ b → rowsAfter b n ≡ m → Indexed (y .packets) (y .left) (y .right) count m (y .trees)
+      at b isIn l = subst (λ k. Indexed (y .packets) (y .left) (y .right) count k (y .trees)) (ap (λ t. rowsAfter t n) isIn ∙ l) (A .indexed)
 
-      go : Outcome x n r answer → Indexed (y .packets) (y .left) (y .right) count m (y .heads) (y .links)
+      go : Outcome x n r answer → Indexed (y .packets) (y .left) (y .right) count m (y .trees)
       go (added new l isIn a) = at true isIn (cc)
       go (full new l notIn a) = full-is-no-count m a e
       go (known new notIn a) = at false notIn (cc)
@@ -186,7 +183,7 @@ module _ (S : System) (M : Masks S) where
   -- what the answer `Rows m` means: the entries are those of the system's append
   pub record Grew (x y : Lists) (count n m : ℕ) (r : Row) (parent : ℕ) : Type 0 where
     pub entries : entriesIn y m ≡ append S parent (entriesIn x n) (rowOf S M r)
-    pub indexed : Indexed (y .packets) (y .left) (y .right) count m (y .heads) (y .links)
+    pub indexed : Indexed (y .packets) (y .left) (y .right) count m (y .trees)
     pub more : n ≤ m
     pub beyond : Beyond x y m
 
@@ -207,7 +204,7 @@ module _ (S : System) (M : Masks S) (lawful : Lawful S) where
       λ k. record { packet = packets k; state = states k }
 
   module _ {x y : Lists} {count n : ℕ} {r : Row} {parent : ℕ} {answer : Appended} (A : Appending x y count n r parent answer)
-      (I : Indexed (x .packets) (x .left) (x .right) count n (x .heads) (x .links)) (long : length (x .parents) ≡ length (x .packets)) where
+      (I : Indexed (x .packets) (x .left) (x .right) count n (x .trees)) (long : length (x .parents) ≡ length (x .packets)) where
     snoc : n < length (x .packets)
         → entriesOf S M (rowAt (set (x .packets) n (r .packet)) (set (x .left) n (getD (r .states) 0 0)) (set (x .right) n (getD (r .states) 1 0))) (λ i. getD (set (x .parents) n parent) i 0) (suc n)
         ≡ entriesIn S M x n ++ (record { row = rowOf S M r; parent = parent } ∷ [])

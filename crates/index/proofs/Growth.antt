@@ -1,97 +1,148 @@
 -- The index grows with the rows: none yet, one more, all.
 use mathlib.Core.Path.{_≡_, refl, sym, _∙_, ap, subst}
-use mathlib.Core.Bool.{true}
+use mathlib.Core.Bool.{Bool, true, false}
 use mathlib.Core.List.{List}
-use Prim.Native.Nat.{ℕ, suc, _+_, _≤_, _<_, zero-le}
+use Prim.Native.Nat.{ℕ, zero, suc, _+_, _/_, _≤_, _<_, zero-le}
 use native.Mathlib.Nat.{le-antisymm}
 use native.Mathlib.Numerals.{add-one}
 use native.Mathlib.Omega.{arith}
-use lib.ListN.{length, getD, set, drop, replicate, length-replicate, getD-replicate, length-set}
-use lib.Seq.{drop-set-lt}
+use lib.Dec.{ltb}
+use lib.ListN.{length, getD, set, replicate, length-replicate, length-set}
+use lib.Seq.{getD-set-same}
+use borrow.Author.Tests.{lt-ltb}
 use Rattle.index.specs.declared.Row.{Row}
-use Rattle.index.specs.Columns.{Table, Small, rowAt, sameRow}
-use Rattle.index.specs.Index.{bucketOf, Chained, Indexed, headsWith, linksWith}
-use Rattle.index.proofs.States.{same-refl}
+use Rattle.index.specs.declared.Lookup.{Lookup}
+use Rattle.index.specs.declared.Lookup.the-variants.{Listed, Vacant}
+use Rattle.index.specs.Columns.{Table, Small, rowAt, sameRow, listedBelow}
+use Rattle.index.specs.Index.{bucketOf, sizeOf, lookFrom, slotOf, Rising, Indexed, treesWith, ListedAt, VacantAt, Placed}
+use Rattle.index.proofs.States.{same-refl, same-left}
 use Rattle.index.proofs.Hashing.{same-bucket, bucket-below}
-use Rattle.index.proofs.Chains.{chained-none, chained-agree, chained-more}
+use Rattle.index.proofs.Trees.{scan-miss, scan-hit, scan-agree, scan-repeat, look-same, Reached, reached-root, rising-more, found-other, found-here}
 
--- heads that are all 0 index no row
-pub indexed-none : (P L R : List ℕ) (count k : ℕ) (links : List ℕ) → Table P L R → length P < 65536 → length P ≤ length links → count ≤ k
-    → Indexed P L R count 0 (replicate k 0) links
-indexed-none P L R count k links t small long room =
+zero-entry : (k slot : ℕ) → getD {A = ℕ} (replicate k 0) slot 0 ≡ 0
+zero-entry zero slot = refl
+zero-entry (suc k) zero = refl
+zero-entry (suc k) (suc slot) = zero-entry k slot
+
+-- a list of 0 indexes no row
+pub indexed-none : (P L R : List ℕ) (count k : ℕ) → Table P L R → length P < 65536 → length P ≤ k / 3 → count ≤ k / 3 → Indexed P L R count 0 (replicate k 0)
+unfolding listedBelow
+indexed-none P L R count k t small room buckets =
     record {
       table = t;
       within = zero-le;
       numbered = small;
-      linkable = long;
-      buckets = subst (λ m. count ≤ m) (sym (length-replicate k 0)) room;
-      chained = chained-none (replicate k 0) links _ (λ b l. getD-replicate k b 0 0 (subst (λ m. b < m) (length-replicate k 0) l));
+      room = subst (λ m. length P ≤ m / 3) (sym (length-replicate k 0)) room;
+      buckets = subst (λ m. count ≤ m / 3) (sym (length-replicate k 0)) buckets;
+      rising =
+          record {
+            below = λ slot. subst (λ m. m ≤ 0) (sym (zero-entry k slot)) zero-le;
+            rises = λ i side l some. absurd (omega (arith, subst (λ m. 0 < m) (zero-entry k _) some));
+          };
+      finds = λ r l. ap (ltb 0) (sym (zero-entry k _));
     }
 
-pub length-heads : (count : ℕ) (r : Row) (n : ℕ) (heads : List ℕ) → length (headsWith count r n heads) ≡ length heads
-unfolding headsWith
-length-heads count r n heads = length-set heads _ _
+-- row n can be attached where a look for it ended
+pub attach-ready : {P L R trees : List ℕ} {count n : ℕ} {r : Row} {slot : ℕ} → Indexed P L R count n trees → n < length P → VacantAt (rowAt P L R) count n trees r slot → (slot < length trees) × (n < 65535)
+attach-ready I l W = (omega (arith, W .inside, I .room), omega (arith, I .numbered))
 
-pub length-links : (count : ℕ) (r : Row) (n : ℕ) (heads links : List ℕ) → length (linksWith count r n heads links) ≡ length links
-unfolding linksWith
-length-links count r n heads links = length-set links _ _
-
--- row n is linked: the columns are as they were below n and hold the row r at n
-module _ {P L R heads links : List ℕ} {count n : ℕ} (I : Indexed P L R count n heads links) (P′ L′ R′ : List ℕ) (r : Row)
+-- row n is attached: the columns are as they were below n and hold the row r at n
+module _ {P L R trees : List ℕ} {count n : ℕ} (I : Indexed P L R count n trees) (P′ L′ R′ : List ℕ) (r : Row)
     (table : Table P′ L′ R′) (long : length P′ ≡ length P) (below : (i : ℕ) → i < n → rowAt P L R i ≡ rowAt P′ L′ R′ i) (here : sameRow (rowAt P′ L′ R′ n) r ≡ true)
-    (small : r .packet < count) (room : n < length P) where
-  its-bucket : bucketOf (length heads) count (rowAt P′ L′ R′ n) ≡ bucketOf (length heads) count r
-  its-bucket = same-bucket (length heads) count (rowAt P′ L′ R′ n) r here
+    (small : r .packet < count) (room : n < length P) (slot : ℕ) (W : VacantAt (rowAt P L R) count n trees r slot) where
+  same-size : sizeOf (set trees slot (suc n)) ≡ sizeOf trees
+  same-size = ap (λ m. m / 3) (length-set trees slot (suc n))
 
-  linked : Chained (λ i. bucketOf (length heads) count (rowAt P′ L′ R′ i)) (suc n) (headsWith count r n heads) (linksWith count r n heads links)
-  unfolding headsWith linksWith
-  linked =
-      subst (λ b. Chained (λ i. bucketOf (length heads) count (rowAt P′ L′ R′ i)) (suc n) (set heads b (suc n)) (set links n (getD heads b 0))) its-bucket
-      (chained-more heads links _ n
-      (chained-agree heads links _ _ n (λ i l. ap (bucketOf (length heads) count) (below i l)) (I .chained))
-      (subst (λ b. b < length heads) (sym its-bucket) (bucket-below (length heads) count r small (I .buckets)))
-      (omega (arith, I .linkable)))
+  attach-room : slot < length trees
+  attach-room = attach-ready I room W .0
 
-  pub indexed-more : Indexed P′ L′ R′ count (suc n) (headsWith count r n heads) (linksWith count r n heads links)
+  attach-finds : (q : Row) → q .packet < count
+      → listedBelow (rowAt P′ L′ R′) (suc n) q
+      ≡ ltb 0 (getD (set trees slot (suc n)) (lookFrom (rowAt P′ L′ R′) (sizeOf trees) (set trees slot (suc n)) q (sizeOf trees) 0 (bucketOf (sizeOf trees) count q)) 0)
+  unfolding slotOf
+  attach-finds q l = go (sameRow (rowAt P′ L′ R′ n) q) refl
+    where
+      root : Reached (sizeOf trees) n trees 0 (bucketOf (sizeOf trees) count q)
+      root = reached-root (sizeOf trees) n trees (bucketOf (sizeOf trees) count q) (bucket-below (sizeOf trees) count q l (I .buckets))
+
+      go : (t : Bool) → sameRow (rowAt P′ L′ R′ n) q ≡ t
+          → listedBelow (rowAt P′ L′ R′) (suc n) q
+          ≡ ltb 0 (getD (set trees slot (suc n)) (lookFrom (rowAt P′ L′ R′) (sizeOf trees) (set trees slot (suc n)) q (sizeOf trees) 0 (bucketOf (sizeOf trees) count q)) 0)
+      go true s =
+          let same : sameRow r q ≡ true = sym (same-left (rowAt P′ L′ R′ n) r here q) ∙ s in
+          let was : lookFrom (rowAt P L R) (sizeOf trees) trees q (sizeOf trees) 0 (bucketOf (sizeOf trees) count q) ≡ slot =
+          sym (ap (lookFrom (rowAt P L R) (sizeOf trees) trees r (sizeOf trees) 0) (same-bucket (sizeOf trees) count r q same) ∙ look-same (rowAt P L R) (sizeOf trees) trees r q same (sizeOf trees) 0 _) ∙ sym (W .reached) in
+          scan-hit (rowAt P′ L′ R′) q n s
+          ∙ sym
+          (ap (λ x. ltb 0 (getD (set trees slot (suc n)) x 0)) (found-here (I .rising) (rowAt P L R) (rowAt P′ L′ R′) slot (W .inside) attach-room (W .vacant) below q s (sizeOf trees) 0 _ root was)
+          ∙ ap (ltb 0) (getD-set-same trees slot (suc n) 0 attach-room)
+          ∙ lt-ltb 0 (suc n) (omega arith))
+      go false s =
+          scan-miss (rowAt P′ L′ R′) q n s
+          ∙ sym (scan-agree (rowAt P L R) (rowAt P′ L′ R′) q n below)
+          ∙ I .finds q l
+          ∙ sym (found-other (I .rising) (rowAt P L R) (rowAt P′ L′ R′) slot (W .inside) attach-room (W .vacant) below q s (sizeOf trees) 0 _ root (omega (arith, I .room)))
+
+  pub indexed-more : Indexed P′ L′ R′ count (suc n) (set trees slot (suc n))
+  unfolding slotOf
   indexed-more =
       record {
         table = table;
         within = omega arith;
         numbered = omega (arith, I .numbered);
-        linkable = omega (arith, I .linkable, length-links count r n heads links);
-        buckets = omega (arith, I .buckets, length-heads count r n heads);
-        chained = subst (λ m. Chained (λ i. bucketOf m count (rowAt P′ L′ R′ i)) (suc n) (headsWith count r n heads) (linksWith count r n heads links)) (sym (length-heads count r n heads)) linked;
+        room = subst (λ m. length P′ ≤ m) (sym same-size) (omega (arith, I .room));
+        buckets = subst (λ m. count ≤ m) (sym same-size) (I .buckets);
+        rising = subst (λ m. Rising m (suc n) (set trees slot (suc n))) (sym same-size) (rising-more (I .rising) (rowAt P L R) (rowAt P′ L′ R′) slot (W .inside) attach-room (W .vacant) below);
+        finds = λ q l.
+            subst (λ m. listedBelow (rowAt P′ L′ R′) (suc n) q ≡ ltb 0 (getD (set trees slot (suc n)) (lookFrom (rowAt P′ L′ R′) m (set trees slot (suc n)) q m 0 (bucketOf m count q)) 0)) (sym same-size)
+            (attach-finds q l);
       }
 
--- The loop that indexes a whole table: i rows are indexed, the links beyond the table are as they were.
-pub record IndexedTo (P L R : List ℕ) (count i : ℕ) (heads₀ links₀ heads links : List ℕ) : Type 0 where
-  pub indexed : Indexed P L R count i heads links
-  pub heads-long : length heads ≡ length heads₀
-  pub links-long : length links ≡ length links₀
-  pub beyond : drop (length P) links ≡ drop (length P) links₀
+pub length-trees : (f : ℕ → Row) (count : ℕ) (r : Row) (n : ℕ) (trees : List ℕ) → length (treesWith f count r n trees) ≡ length trees
+unfolding treesWith
+length-trees f count r n trees = length-set trees _ _
 
-pub to-none : {P L R heads links : List ℕ} {count : ℕ} → Indexed P L R count 0 heads links → IndexedTo P L R count 0 heads links heads links
-to-none I = record { indexed = I; heads-long = refl; links-long = refl; beyond = refl }
+-- The loop that indexes a whole table: i rows are indexed.
+pub record IndexedTo (P L R : List ℕ) (count i : ℕ) (trees₀ trees : List ℕ) : Type 0 where
+  pub indexed : Indexed P L R count i trees
+  pub long : length trees ≡ length trees₀
 
-module _ {P L R heads₀ links₀ heads links : List ℕ} {count i : ℕ} (T : IndexedTo P L R count i heads₀ links₀ heads links) where
-  pub to-insert : Small P count → i < length P → (r : Row) → r ≡ rowAt P L R i → (r .packet < count) × ((count ≤ length heads) × ((i < length links) × (i < 65535)))
-  to-insert s l r e = (
-    subst (λ x. x .packet < count) (sym e) (s .small i l),
-    (T .indexed .buckets, (omega (arith, T .indexed .linkable), omega (arith, T .indexed .numbered))),
-  )
+-- a row of the columns has a packet below N
+pub to-place : {P L R trees : List ℕ} {count i : ℕ} → Indexed P L R count i trees → Small P count → i < length P → (r : Row) → r ≡ rowAt P L R i → r .packet < count
+to-place {count = count} {i = i} I small l r isRow = subst (λ x. x .packet < count) (sym isRow) (small .small i l)
 
-  pub to-more : Small P count → i < length P → (r : Row) → r ≡ rowAt P L R i → (heads′ links′ : List ℕ) → heads′ ≡ headsWith count r i heads → links′ ≡ linksWith count r i heads links
-      → IndexedTo P L R count (i + 1) heads₀ links₀ heads′ links′
-  unfolding linksWith
-  to-more s l r e heads′ links′ isHeads isLinks =
+module _ {P L R trees₀ trees : List ℕ} {count i : ℕ} (T : IndexedTo P L R count i trees₀ trees) (l : i < length P) (r : Row) (isRow : r ≡ rowAt P L R i)
+    {answer : Lookup} (p : Placed (rowAt P L R) count i trees r answer) where
+  -- the row is listed already
+  pub to-repeat : (j : ℕ) → answer ≡ Listed j → IndexedTo P L R count (i + 1) trees₀ trees
+  to-repeat j e =
+      let again : listedBelow (rowAt P L R) i (rowAt P L R i) ≡ true = subst (λ x. listedBelow (rowAt P L R) i x ≡ true) isRow (p .listed j e .listed) in
       record {
         indexed =
-            rw (add-one, isHeads, isLinks)
-            (indexed-more (T .indexed) P L R r (T .indexed .table) refl (λ j k. refl) (subst (λ x. sameRow x r ≡ true) e (same-refl r)) (subst (λ x. x .packet < count) (sym e) (s .small i l)) l);
-        heads-long = ap length isHeads ∙ length-heads count r i heads ∙ T .heads-long;
-        links-long = ap length isLinks ∙ length-links count r i heads links ∙ T .links-long;
-        beyond = ap (drop (length P)) isLinks ∙ drop-set-lt (length P) links i _ l ∙ T .beyond;
+            record {
+              table = T .indexed .table;
+              within = omega arith;
+              numbered = T .indexed .numbered;
+              room = T .indexed .room;
+              buckets = T .indexed .buckets;
+              rising = record { below = λ slot. omega (arith, T .indexed .rising .below slot); rises = T .indexed .rising .rises };
+              finds = λ q s. ap (λ m. listedBelow (rowAt P L R) m q) (add-one i) ∙ scan-repeat (rowAt P L R) i again q ∙ T .indexed .finds q s;
+            };
+        long = T .long;
       }
 
-  pub to-all : length P ≤ i → Indexed P L R count (length P) heads links
-  to-all g = subst (λ n. Indexed P L R count n heads links) (le-antisymm (T .indexed .within) g) (T .indexed)
+  module _ (slot : ℕ) (e : answer ≡ Vacant slot) where
+    pub to-attach : (slot < length trees) × (i < 65535)
+    to-attach = attach-ready (T .indexed) l (p .vacant slot e)
+
+    pub to-more : Small P count → (trees′ : List ℕ) → trees′ ≡ set trees slot (i + 1) → IndexedTo P L R count (i + 1) trees₀ trees′
+    to-more small trees′ isTrees =
+        record {
+          indexed =
+              rw (isTrees, add-one)
+              (indexed-more (T .indexed) P L R r (T .indexed .table) refl (λ j k. refl) (subst (λ x. sameRow x r ≡ true) isRow (same-refl r)) (to-place (T .indexed) small l r isRow) l slot (p .vacant slot e));
+          long = ap length isTrees ∙ length-set trees slot (i + 1) ∙ T .long;
+        }
+
+pub to-all : {P L R trees₀ trees : List ℕ} {count i : ℕ} → IndexedTo P L R count i trees₀ trees → length P ≤ i → Indexed P L R count (length P) trees
+to-all {P} {L} {R} {trees₀} {trees} {count} T g = subst (λ n. Indexed P L R count n trees) (le-antisymm (T .indexed .within) g) (T .indexed)

@@ -1,4 +1,4 @@
--- Equal rows have one bucket; a bucket lies within the heads and belongs to one packet.
+-- Equal rows have one bucket, and a packet's range of buckets lies within them all.
 use mathlib.Core.Path.{_≡_, refl, sym, _∙_, ap, ap₂, subst}
 use mathlib.Core.Bool.{true}
 use mathlib.Core.List.{List}
@@ -61,11 +61,6 @@ module _ (size count : ℕ) (r : Row) (small : r .packet < count) (room : count 
   unfolding bucketOf
   bucket-below = omega (arith, range-within, mod-lt (hashOf policies (r .states)) width-positive)
 
-  -- packet-major: the bucket tells the packet
-  bucket-packet : bucketOf size count r / (size / count) ≡ r .packet
-  unfolding bucketOf
-  bucket-packet = mul-add-div-right width-positive (r .packet) _ ∙ ap (λ n. r .packet + n) (div-eq-of-lt (mod-lt _ width-positive)) ∙ add-zero _
-
   -- the same with the numbers that the code holds
   module _ (c p : ℕ) (isCount : c ≡ count) (isPacket : p ≡ r .packet) where
     pub held-positive : 0 < size / c
@@ -77,8 +72,3 @@ module _ (size count : ℕ) (r : Row) (small : r .packet < count) (room : count 
     pub held-bucket : (h : ℕ) → h ≡ hashOf policies (r .states) → p * (size / c) + h % (size / c) ≡ bucketOf size count r
     unfolding bucketOf
     held-bucket h isHash = rw (isCount, isPacket, isHash)
-
--- a chain holds rows of one packet alone
-pub chain-packet : (size count : ℕ) (a b : Row) → a .packet < count → b .packet < count → count ≤ size → bucketOf size count a ≡ bucketOf size count b → a .packet ≡ b .packet
-chain-packet size count a b l m room e =
-    sym (bucket-packet size count a l room) ∙ ap (λ n. n / (size / count)) e ∙ bucket-packet size count b m room

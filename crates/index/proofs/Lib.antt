@@ -1,8 +1,8 @@
 pub mod States
 pub mod Hashing
-pub mod Chains
-pub mod Lookup
+pub mod Trees
 pub mod Growth
+pub mod Looking
 pub mod Adding
 pub mod Entries
 pub mod Starting

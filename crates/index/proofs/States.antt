@@ -3,15 +3,17 @@ use mathlib.Core.Path.{_≡_, refl, sym, _∙_, ap, ap₂, subst}
 use mathlib.Core.Bool.{true, false, _&&_, and-false}
 use mathlib.Core.List.{List}
 use mathlib.Core.Logic.{_⊎_, inl, inr}
-use Prim.Native.Nat.{ℕ, zero, suc, _+_, _≤_, _<_}
-use native.Mathlib.Nat.{not-suc-le-zero, le-antisymm}
+use Prim.Native.Nat.{ℕ, zero, suc, _+_, _/_, _%_, _^_, _≤_, _<_}
+use native.Mathlib.Nat.{not-suc-le-zero, le-antisymm, mod-lt}
 use native.Mathlib.Numerals.{add-one}
+use native.Mathlib.Omega.{arith}
 use lib.Dec.{eqb}
 use lib.ListN.{getD}
-use borrow.Author.Tests.{eq-eqb, ne-eqb}
-use Rattle.system.proofs.Basics.{last-or-before}
+use borrow.Author.Tests.{eqb-true, eq-eqb, ne-eqb}
+use Rattle.system.proofs.Basics.{and-true, last-or-before}
 use Rattle.index.specs.declared.Row.{Row}
 use Rattle.index.specs.Columns.{policies, sameStates, sameRow}
+use Rattle.index.specs.Index.{sideAt}
 
 module _ (a b : List ℕ) where
   pub states-none : sameStates 0 a b ≡ true
@@ -51,3 +53,45 @@ module _ (a b : Row) where
   pub packets-same : a .packet ≡ b .packet → sameRow a b ≡ sameStates policies (a .states) (b .states)
   unfolding sameRow
   packets-same e = ap (λ t. t && sameStates policies (a .states) (b .states)) (eq-eqb (a .packet) (b .packet) e)
+
+-- states that are the same are one by one
+states-at : (k i : ℕ) (a b : List ℕ) → i < k → sameStates k a b ≡ true → getD a i 0 ≡ getD b i 0
+unfolding sameStates
+states-at zero i a b l e = absurd (not-suc-le-zero l)
+states-at (suc k) i a b l e = go (states-at k i a b) (and-true (sameStates k a b) (eqb (getD a k 0) (getD b k 0)) e) (last-or-before l)
+  where
+    go : (i < k → sameStates k a b ≡ true → getD a i 0 ≡ getD b i 0) → (sameStates k a b ≡ true) × (eqb (getD a k 0) (getD b k 0) ≡ true) → (i < k) ⊎ (i ≡ k) → getD a i 0 ≡ getD b i 0
+    go ih both (inl h) = ih h (both .0)
+    go ih both (inr p) = subst (λ j. getD a j 0 ≡ getD b j 0) (sym p) (eqb-true _ _ (both .1))
+
+states-left : (k : ℕ) (a b c : List ℕ) → ((i : ℕ) → i < k → getD a i 0 ≡ getD b i 0) → sameStates k a c ≡ sameStates k b c
+unfolding sameStates
+states-left zero a b c e = refl
+states-left (suc k) a b c e = ap₂ _&&_ (states-left k a b c (λ i l. e i (omega arith))) (ap (λ x. eqb x (getD c k 0)) (e k (omega arith)))
+
+states-right : (k : ℕ) (a b c : List ℕ) → ((i : ℕ) → i < k → getD a i 0 ≡ getD b i 0) → sameStates k c a ≡ sameStates k c b
+unfolding sameStates
+states-right zero a b c e = refl
+states-right (suc k) a b c e = ap₂ _&&_ (states-right k a b c (λ i l. e i (omega arith))) (ap (eqb (getD c k 0)) (e k (omega arith)))
+
+-- rows that are the same: whatever is asked of the one is asked of the other
+module _ (a b : Row) (same : sameRow a b ≡ true) where
+  same-packet : a .packet ≡ b .packet
+  unfolding sameRow
+  same-packet = eqb-true _ _ (and-true (eqb (a .packet) (b .packet)) (sameStates policies (a .states) (b .states)) same .0)
+
+  same-at : (i : ℕ) → i < policies → getD (a .states) i 0 ≡ getD (b .states) i 0
+  unfolding sameRow
+  same-at i l = states-at policies i (a .states) (b .states) l (and-true (eqb (a .packet) (b .packet)) (sameStates policies (a .states) (b .states)) same .1)
+
+  pub same-left : (c : Row) → sameRow a c ≡ sameRow b c
+  unfolding sameRow
+  same-left c = ap₂ _&&_ (ap (λ x. eqb x (c .packet)) same-packet) (states-left policies (a .states) (b .states) (c .states) same-at)
+
+  pub same-right : (c : Row) → sameRow c a ≡ sameRow c b
+  unfolding sameRow
+  same-right c = ap₂ _&&_ (ap (eqb (c .packet)) same-packet) (states-right policies (a .states) (b .states) (c .states) same-at)
+
+  pub same-side : (depth : ℕ) → sideAt depth (a .states) ≡ sideAt depth (b .states)
+  unfolding sideAt
+  same-side depth = ap (λ x. x / 2 ^ (depth / policies % 32) % 2) (same-at (depth % policies) (mod-lt depth (omega arith)))

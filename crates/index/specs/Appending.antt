@@ -6,14 +6,21 @@ use Prim.Native.Nat.{ℕ, suc}
 use lib.Dec.{ltb}
 use lib.ListN.{length, getD, set}
 use Rattle.index.specs.declared.Row.{Row}
+use Rattle.index.specs.declared.Vacancy.{Vacancy}
+use Rattle.index.specs.declared.Vacancy.the-variants.{At, Nowhere}
 use Rattle.index.specs.declared.Appended.{Appended}
 use Rattle.index.specs.declared.Appended.the-variants.{Rows, Full}
 use Rattle.index.specs.Columns.{rowAt, allZero, listedBelow}
-use Rattle.index.specs.Index.{Indexed, headsWith, linksWith}
+use Rattle.index.specs.Index.{VacantAt, Indexed, treesWith}
 
 -- the row must be appended to the first n
 unfoldable pub isNew : (ℕ → Row) → ℕ → Row → Bool
 isNew f n r = not (allZero (r .states) || listedBelow f n r)
+
+-- where the row must be attached, if it must
+pub record NewPlaced (f : ℕ → Row) (count n : ℕ) (trees : List ℕ) (r : Row) (answer : Vacancy) : Type 0 where
+  pub at : (slot : ℕ) → answer ≡ At slot → (isNew f n r ≡ true) × VacantAt f count n trees r slot
+  pub nowhere : answer ≡ Nowhere → isNew f n r ≡ false
 
 -- The lent columns and the index.
 pub record Lists : Type 0 where
@@ -21,11 +28,10 @@ pub record Lists : Type 0 where
   pub left : List ℕ
   pub right : List ℕ
   pub parents : List ℕ
-  pub heads : List ℕ
-  pub links : List ℕ
+  pub trees : List ℕ
 
-abbrev pub lists : List ℕ → List ℕ → List ℕ → List ℕ → List ℕ → List ℕ → Lists
-lists P L R Q heads links = record { packets = P; left = L; right = R; parents = Q; heads = heads; links = links }
+abbrev pub lists : List ℕ → List ℕ → List ℕ → List ℕ → List ℕ → Lists
+lists P L R Q trees = record { packets = P; left = L; right = R; parents = Q; trees = trees }
 
 -- the answer: how many rows are listed now, or full
 unfoldable pub answerOf : Bool → Bool → ℕ → Appended
@@ -54,6 +60,5 @@ pub record Appending (x y : Lists) (count n : ℕ) (r : Row) (parent : ℕ) (ans
   pub left : y .left ≡ changed (isAdded x n r) (set (x .left) n (getD (r .states) 0 0)) (x .left)
   pub right : y .right ≡ changed (isAdded x n r) (set (x .right) n (getD (r .states) 1 0)) (x .right)
   pub parents : y .parents ≡ changed (isAdded x n r) (set (x .parents) n parent) (x .parents)
-  pub heads : y .heads ≡ changed (isAdded x n r) (headsWith count r n (x .heads)) (x .heads)
-  pub links : y .links ≡ changed (isAdded x n r) (linksWith count r n (x .heads) (x .links)) (x .links)
-  pub indexed : Indexed (y .packets) (y .left) (y .right) count (rowsAfter (isAdded x n r) n) (y .heads) (y .links)
+  pub trees : y .trees ≡ changed (isAdded x n r) (treesWith (rowAt (x .packets) (x .left) (x .right)) count r n (x .trees)) (x .trees)
+  pub indexed : Indexed (y .packets) (y .left) (y .right) count (rowsAfter (isAdded x n r) n) (y .trees)

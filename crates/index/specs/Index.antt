@@ -1,14 +1,17 @@
--- The hash index: each bucket has the last row in it, each row the one before it in its bucket; an entry is 1 + a row's number, 0 is none.
+-- The index: hashed buckets, each a digital search tree of rows, in one list. An entry is 1 + a row's number, 0 is none: of `size` buckets slot b holds
+-- the root of bucket b, and the two slots from size + 2 i hold the children of row i.
 use mathlib.Core.Path.{_≡_}
-use mathlib.Core.Bool.{true, false}
+use mathlib.Core.Bool.{Bool, true, false, cond, _||_}
 use mathlib.Core.List.{List}
-use Prim.Native.Nat.{ℕ, zero, suc, _+_, _*_, _/_, _%_, _≤_, _<_}
-use lib.Dec.{eqb}
+use Prim.Native.Nat.{ℕ, zero, suc, _+_, _-_, _*_, _/_, _%_, _^_, _≤_, _<_}
+use lib.Dec.{eqb, ltb}
 use lib.ListN.{length, getD, set}
 use Rattle.index.specs.declared.Row.{Row}
-use Rattle.index.specs.Columns.{policies, Table, rowAt}
+use Rattle.index.specs.declared.Lookup.{Lookup}
+use Rattle.index.specs.declared.Lookup.the-variants.{Listed, Vacant}
+use Rattle.index.specs.Columns.{policies, Table, rowAt, sameRow, listedBelow}
 
--- any odd number and prime would serve: the hash decides how long the chains are and nothing else
+-- any odd number and prime would serve: the hash decides how deep the trees are and nothing else
 abbrev pub hashFactor : ℕ
 hashFactor = 1640531527
 
@@ -24,29 +27,65 @@ hashOf (suc k) a = (hashOf k a + getD a k 0) * hashFactor % hashPrime
 unfoldable pub bucketOf : ℕ → ℕ → Row → ℕ
 bucketOf size count r = r .packet * (size / count) + hashOf policies (r .states) % (size / count)
 
--- 1 + the last place below n whose bucket is b, or 0; h is the bucket of each place
-unfoldable pub lastWith : (ℕ → ℕ) → ℕ → ℕ → ℕ
-lastWith h b zero = 0
-lastWith h b (suc n) = elim (eqb (h n) b) [ true ↦ suc n | false ↦ lastWith h b n ]
+-- how many buckets a list has, and how many rows it has room for
+abbrev pub sizeOf : List ℕ → ℕ
+sizeOf trees = length trees / 3
 
--- the first n places are linked
-pub record Chained (h : ℕ → ℕ) (n : ℕ) (heads links : List ℕ) : Type 0 where
-  pub head : (b : ℕ) → b < length heads → getD heads b 0 ≡ lastWith h b n
-  pub link : (i : ℕ) → i < n → getD links i 0 ≡ lastWith h (h i) i
+-- the slot of a child of row i
+abbrev pub childSlot : ℕ → ℕ → ℕ → ℕ
+childSlot size i side = size + 2 * i + side
 
--- The first n rows of the columns are indexed; N is `count`.
-pub record Indexed (P L R : List ℕ) (count n : ℕ) (heads links : List ℕ) : Type 0 where
+-- the child that a look goes on to from a depth: a bit of a state, the policies in turn
+unfoldable pub sideAt : ℕ → List ℕ → ℕ
+sideAt depth a = getD a (depth % policies) 0 / 2 ^ (depth / policies % 32) % 2
+
+-- a look for a row ends at an entry: none, or the row
+unfoldable pub ends : (ℕ → Row) → ℕ → Row → Bool
+ends f entry r = eqb entry 0 || sameRow (f (entry - 1)) r
+
+-- the slot where a look for a row ends that goes on from a slot, `depth` below the root, by at most so many rows
+unfoldable pub lookFrom : (ℕ → Row) → ℕ → List ℕ → Row → ℕ → ℕ → ℕ → ℕ
+lookFrom f size trees r zero depth slot = slot
+lookFrom f size trees r (suc k) depth slot =
+    cond (ends f (getD trees slot 0) r) slot (lookFrom f size trees r k (suc depth) (childSlot size (getD trees slot 0 - 1) (sideAt depth (r .states))))
+
+-- the slot where a look for the row ends; N is `count`
+unfoldable pub slotOf : (ℕ → Row) → ℕ → List ℕ → Row → ℕ
+slotOf f count trees r = lookFrom f (sizeOf trees) trees r (sizeOf trees) 0 (bucketOf (sizeOf trees) count r)
+
+-- the entries are rows below n, and a child's number is above its parent's
+pub record Rising (size n : ℕ) (trees : List ℕ) : Type 0 where
+  pub below : (slot : ℕ) → getD trees slot 0 ≤ n
+  pub rises : (i side : ℕ) → side < 2 → 0 < getD trees (childSlot size i side) 0 → suc i < getD trees (childSlot size i side) 0
+
+-- The first n rows of the columns are indexed: a look for a row ends at an entry exactly when the row is one of them.
+pub record Indexed (P L R : List ℕ) (count n : ℕ) (trees : List ℕ) : Type 0 where
   pub table : Table P L R
   pub within : n ≤ length P
   pub numbered : length P < 65536
-  pub linkable : length P ≤ length links
-  pub buckets : count ≤ length heads
-  pub chained : Chained (λ i. bucketOf (length heads) count (rowAt P L R i)) n heads links
+  pub room : length P ≤ sizeOf trees
+  pub buckets : count ≤ sizeOf trees
+  pub rising : Rising (sizeOf trees) n trees
+  pub finds : (r : Row) → r .packet < count → listedBelow (rowAt P L R) n r ≡ ltb 0 (getD trees (slotOf (rowAt P L R) count trees r) 0)
 
--- the heads once row n is linked
-unfoldable pub headsWith : ℕ → Row → ℕ → List ℕ → List ℕ
-headsWith count r n heads = set heads (bucketOf (length heads) count r) (suc n)
+-- the list once row n is attached where a look for it ended
+unfoldable pub treesWith : (ℕ → Row) → ℕ → Row → ℕ → List ℕ → List ℕ
+treesWith f count r n trees = set trees (slotOf f count trees r) (suc n)
 
--- the links once row n is linked
-unfoldable pub linksWith : ℕ → Row → ℕ → List ℕ → List ℕ → List ℕ
-linksWith count r n heads links = set links n (getD heads (bucketOf (length heads) count r) 0)
+-- the row is row i of the first n
+pub record ListedAt (f : ℕ → Row) (n : ℕ) (r : Row) (i : ℕ) : Type 0 where
+  pub below : i < n
+  pub same : sameRow (f i) r ≡ true
+  pub listed : listedBelow f n r ≡ true
+
+-- the row is none of the first n, and a look for it ends at a vacant slot
+pub record VacantAt (f : ℕ → Row) (count n : ℕ) (trees : List ℕ) (r : Row) (slot : ℕ) : Type 0 where
+  pub inside : slot < sizeOf trees + 2 * n
+  pub reached : slot ≡ slotOf f count trees r
+  pub vacant : getD trees slot 0 ≡ 0
+  pub unlisted : listedBelow f n r ≡ false
+
+-- where a look for the row ends
+pub record Placed (f : ℕ → Row) (count n : ℕ) (trees : List ℕ) (r : Row) (answer : Lookup) : Type 0 where
+  pub listed : (i : ℕ) → answer ≡ Listed i → ListedAt f n r i
+  pub vacant : (slot : ℕ) → answer ≡ Vacant slot → VacantAt f count n trees r slot

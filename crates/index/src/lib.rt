@@ -1,10 +1,10 @@
-// The row columns and their hash index (document 01, "States and rows"): is this row listed?
+// The row columns and their index (document 01, "States and rows"): is this row listed?
 ghost use mathlib.Core.Path.{_≡_};
 ghost use Prim.Native.Nat.{_+_, _<_, _≤_};
-ghost use lib.ListN.{length, getD, set, drop};
+ghost use lib.ListN.{length, getD, set};
 ghost use Rattle.index.specs.Columns.{policies, Table, Small, rowAt, sameStates, sameRow, allZero, listedBelow};
-ghost use Rattle.index.specs.Index.{hashOf, bucketOf, Indexed, headsWith, linksWith};
-ghost use Rattle.index.specs.Appending.{isNew, lists, Appending};
+ghost use Rattle.index.specs.Index.{hashOf, bucketOf, sideAt, sizeOf, Indexed, Placed};
+ghost use Rattle.index.specs.Appending.{NewPlaced, lists, Appending};
 
 // How many policies a row follows.
 pub const POLICIES: usize = 2;
@@ -97,8 +97,7 @@ fn hash(states: [Mask; POLICIES]) -> usize
     h
 }
 
-// The row's bucket. Each packet has its own range of buckets, so the successors of one row, whose packets differ, never share a chain:
-// to look all of them up walks each listed row at most once, however hostile the table.
+// The row's bucket. Each packet has its own range of buckets, so the successors of one row, whose packets differ, share no tree.
 fn bucket(size: usize, count: u16, row: Row) -> usize
     requires { ⌜ row .packet < count ⌝ }
     requires { ⌜ count ≤ size ⌝ }
@@ -109,18 +108,50 @@ fn bucket(size: usize, count: u16, row: Row) -> usize
     wide(row.packet) * width + hash(states) % width
 }
 
-// Inner: links row n into the index.
-pub fn insert(n: usize, row: Row, count: u16, heads: &mut [u16], links: &mut [u16])
-    requires { ⌜ row .packet < count ⌝ }
-    requires { ⌜ count ≤ length (now heads) ⌝ }
-    requires { ⌜ n < length (now links) ⌝ }
-    requires { ⌜ n < 65535 ⌝ }
-    ensures { λ _. ⌜ now (heads .exit) ≡ headsWith count row n (now (heads .entry)) ⌝ }
-    ensures { λ _. ⌜ now (links .exit) ≡ linksWith count row n (now (heads .entry)) (now (links .entry)) ⌝ }
+// Which child a look goes on to: a bit of a state, the policies in turn. Rows that agree in all 64 bits are the same, so a look passes at
+// most 64 rows, whoever chose them.
+fn side_at(states: [Mask; POLICIES], depth: usize) -> usize
+    ensures { λ r. ⌜ (r ≡ sideAt depth states) × (r < 2) ⌝ }
 {
-    let b = bucket(heads.len(), count, row);
-    links[n] = heads[b];
-    heads[b] = (n + 1) as u16;
+    wide_mask(states[depth % POLICIES] >> (depth / POLICIES % 32)) % 2
+}
+
+// Where a look for a row ends: at the row, listed with this number, or at a slot of the trees where it would be attached. Inner.
+pub enum Lookup {
+    Listed(usize),
+    Vacant(usize),
+}
+
+// Inner: looks for the row among the first n.
+pub fn place(
+    packets: &[u16],
+    left: &[Mask],
+    right: &[Mask],
+    n: usize,
+    count: u16,
+    trees: &[u16],
+    row: Row,
+) -> Lookup
+    requires { ⌜ Indexed (now packets) (now left) (now right) count n (now trees) ⌝ }
+    requires { ⌜ row .packet < count ⌝ }
+    ensures { λ r. ⌜ Placed (rowAt (now (packets .entry)) (now (left .entry)) (now (right .entry))) count n (now (trees .entry)) row r ⌝ }
+{
+    let size = trees.len() / 3;
+    let states = row.states;
+    let mut slot = bucket(size, count, row);
+    let mut depth = 0;
+    loop {
+        let entry = wide(trees[slot]);
+        if entry == 0 {
+            return Lookup::Vacant(slot);
+        }
+        let i = entry - 1;
+        if same_row(row_at(packets, left, right, i), row) {
+            return Lookup::Listed(i);
+        }
+        slot = size + 2 * i + side_at(states, depth);
+        depth += 1;
+    }
 }
 
 // Inner: is the row one of the first n?
@@ -130,43 +161,51 @@ pub fn find(
     right: &[Mask],
     n: usize,
     count: u16,
-    heads: &[u16],
-    links: &[u16],
+    trees: &[u16],
     row: Row,
 ) -> bool
-    requires { ⌜ Indexed (now packets) (now left) (now right) count n (now heads) (now links) ⌝ }
+    requires { ⌜ Indexed (now packets) (now left) (now right) count n (now trees) ⌝ }
     requires { ⌜ row .packet < count ⌝ }
     ensures { λ r. ⌜ r ≡ listedBelow (rowAt (now (packets .entry)) (now (left .entry)) (now (right .entry))) n row ⌝ }
 {
-    let mut at = wide(heads[bucket(heads.len(), count, row)]);
-    while 0 < at {
-        let i = at - 1;
-        if same_row(row_at(packets, left, right, i), row) {
-            return true;
-        }
-        at = wide(links[i]);
+    match place(packets, left, right, n, count, trees, row) {
+        Lookup::Listed(_) => true,
+        Lookup::Vacant(_) => false,
     }
-    false
 }
 
-// Inner: indexes all rows of the columns; each packet is below count.
-pub fn index_all(
-    packets: &[u16],
-    left: &[Mask],
-    right: &[Mask],
-    count: u16,
-    heads: &mut [u16],
-    links: &mut [u16],
-)
-    requires { ⌜ Indexed (now packets) (now left) (now right) count 0 (now heads) (now links) ⌝ }
+// Attaches row n at a slot.
+fn attach(trees: &mut [u16], slot: usize, n: usize)
+    requires { ⌜ slot < length (now trees) ⌝ }
+    requires { ⌜ n < 65535 ⌝ }
+    ensures { λ _. ⌜ now (trees .exit) ≡ set (now (trees .entry)) slot (n + 1) ⌝ }
+{
+    trees[slot] = (n + 1) as u16;
+}
+
+// Inner: indexes all rows of the columns; each packet is below count. A row that is listed already is not attached again.
+pub fn index_all(packets: &[u16], left: &[Mask], right: &[Mask], count: u16, trees: &mut [u16])
+    requires { ⌜ Indexed (now packets) (now left) (now right) count 0 (now trees) ⌝ }
     requires { ⌜ Small (now packets) count ⌝ }
-    ensures indexed { λ _. ⌜ Indexed (now (packets .entry)) (now (left .entry)) (now (right .entry)) count (length (now (packets .entry))) (now (heads .exit)) (now (links .exit)) ⌝ }
-    ensures beyond { λ _. ⌜ drop (length (now (packets .entry))) (now (links .exit)) ≡ drop (length (now (packets .entry))) (now (links .entry)) ⌝ }
+    ensures { λ _. ⌜ Indexed (now (packets .entry)) (now (left .entry)) (now (right .entry)) count (length (now (packets .entry))) (now (trees .exit)) ⌝ }
 {
     let mut i = 0;
     while i < packets.len() {
-        insert(i, row_at(packets, left, right, i), count, heads, links);
-        i += 1;
+        match place(
+            packets,
+            left,
+            right,
+            i,
+            count,
+            trees,
+            row_at(packets, left, right, i),
+        ) {
+            Lookup::Listed(_) => i += 1,
+            Lookup::Vacant(slot) => {
+                attach(trees, slot, i);
+                i += 1;
+            }
+        }
     }
 }
 
@@ -176,26 +215,33 @@ pub enum Appended {
     Full,
 }
 
-// Must the row be appended?
-fn is_new(
+// Where the row must be attached; or nothing must be appended, since all its states are 0 or it is listed already. Inner.
+pub enum Vacancy {
+    At(usize),
+    Nowhere,
+}
+
+fn place_new(
     packets: &[u16],
     left: &[Mask],
     right: &[Mask],
     n: usize,
     count: u16,
-    heads: &[u16],
-    links: &[u16],
+    trees: &[u16],
     row: Row,
-) -> bool
-    requires { ⌜ Indexed (now packets) (now left) (now right) count n (now heads) (now links) ⌝ }
+) -> Vacancy
+    requires { ⌜ Indexed (now packets) (now left) (now right) count n (now trees) ⌝ }
     requires { ⌜ row .packet < count ⌝ }
-    ensures { λ r. ⌜ r ≡ isNew (rowAt (now (packets .entry)) (now (left .entry)) (now (right .entry))) n row ⌝ }
+    ensures { λ r. ⌜ NewPlaced (rowAt (now (packets .entry)) (now (left .entry)) (now (right .entry))) count n (now (trees .entry)) row r ⌝ }
 {
     let states = row.states;
     if same_states(states, [0; POLICIES]) {
-        return false;
+        return Vacancy::Nowhere;
     }
-    !find(packets, left, right, n, count, heads, links, row)
+    match place(packets, left, right, n, count, trees, row) {
+        Lookup::Listed(_) => Vacancy::Nowhere,
+        Lookup::Vacant(slot) => Vacancy::At(slot),
+    }
 }
 
 // Inner: appends the row with its parent as row n, unless all its states are 0 or it is listed already.
@@ -206,24 +252,23 @@ pub fn append(
     parents: &mut [u16],
     n: usize,
     count: u16,
-    heads: &mut [u16],
-    links: &mut [u16],
+    trees: &mut [u16],
     row: Row,
     parent: u16,
 ) -> Appended
-    requires { ⌜ Indexed (now packets) (now left) (now right) count n (now heads) (now links) ⌝ }
+    requires { ⌜ Indexed (now packets) (now left) (now right) count n (now trees) ⌝ }
     requires { ⌜ length (now parents) ≡ length (now packets) ⌝ }
     requires { ⌜ row .packet < count ⌝ }
-    ensures { λ r. ⌜ Appending (lists (now (packets .entry)) (now (left .entry)) (now (right .entry)) (now (parents .entry)) (now (heads .entry)) (now (links .entry))) (lists (now (packets .exit)) (now (left .exit)) (now (right .exit)) (now (parents .exit)) (now (heads .exit)) (now (links .exit))) count n row parent r ⌝ }
+    ensures { λ r. ⌜ Appending (lists (now (packets .entry)) (now (left .entry)) (now (right .entry)) (now (parents .entry)) (now (trees .entry))) (lists (now (packets .exit)) (now (left .exit)) (now (right .exit)) (now (parents .exit)) (now (trees .exit))) count n row parent r ⌝ }
 {
-    if !is_new(packets, left, right, n, count, heads, links, row) {
+    let Vacancy::At(slot) = place_new(packets, left, right, n, count, trees, row) else {
         return Appended::Rows(n);
-    }
+    };
     if packets.len() <= n {
         return Appended::Full;
     }
     put_row(packets, left, right, n, row);
     parents[n] = parent;
-    insert(n, row, count, heads, links);
+    attach(trees, slot, n);
     Appended::Rows(n + 1)
 }

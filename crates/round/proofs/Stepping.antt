@@ -87,7 +87,7 @@ module _ {sizes : List ℕ} {L R : NodeLists} {masksL placesL masksR placesR : L
 
   -- what appending the successors asks
   pub next-ready : (a b : ℕ) → a ≡ length nextL → b ≡ length nextR
-      → Indexed (y .packets) (y .left) (y .right) count n (y .heads) (y .links) × ((length (y .parents) ≡ length (y .packets)) × ((count ≤ a) × (count ≤ b)))
+      → Indexed (y .packets) (y .left) (y .right) count n (y .trees) × ((length (y .parents) ≡ length (y .packets)) × ((count ≤ a) × (count ≤ b)))
   next-ready a b l r = (P .indexed, (P .parents, (omega (arith, P .left-room), omega (arith, P .right-room))))
 
   -- rows have 16-bit numbers

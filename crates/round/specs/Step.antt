@@ -65,7 +65,7 @@ pub record StepReady (sizes : List ℕ) (L R : NodeLists) (masksL placesL masksR
   pub right-legal : Legal sizes R
   pub prepared : BothPrepared L R masksL placesL masksR placesR
   pub packets : count ≡ product sizes
-  pub indexed : Indexed (y .packets) (y .left) (y .right) count n (y .heads) (y .links)
+  pub indexed : Indexed (y .packets) (y .left) (y .right) count n (y .trees)
   pub parents : length (y .parents) ≡ length (y .packets)
   pub row : h < n
   pub small : getD (y .packets) h 0 < count

@@ -45,16 +45,15 @@ pub fn handle(
     lefts: &mut [Mask],
     rights: &mut [Mask],
     parents: &mut [u16],
-    heads: &mut [u16],
-    links: &mut [u16],
+    trees: &mut [u16],
     handled: usize,
     listed: usize,
     next_left: &mut [u32],
     next_right: &mut [u32],
     work: &mut [u32],
 ) -> Handled
-    requires { ⌜ StepReady (now sizes) (asLists (now «left_kind») (now «left_first») (now «left_second»)) (asLists (now «right_kind») (now «right_first») (now «right_second»)) (now «left_masks») (now «left_places») (now «right_masks») (now «right_places») (lists (now packets) (now lefts) (now rights) (now parents) (now heads) (now links)) count listed handled (now «next_left») (now «next_right») (now work) ⌝ }
-    ensures handles { λ r. ⌜ RowHandled (now (sizes .entry)) (policies (asLists (now («left_kind» .entry)) (now («left_first» .entry)) (now («left_second» .entry))) (asLists (now («right_kind» .entry)) (now («right_first» .entry)) (now («right_second» .entry)))) (lists (now (packets .entry)) (now (lefts .entry)) (now (rights .entry)) (now (parents .entry)) (now (heads .entry)) (now (links .entry))) (lists (now (packets .exit)) (now (lefts .exit)) (now (rights .exit)) (now (parents .exit)) (now (heads .exit)) (now (links .exit))) count listed handled r ⌝ }
+    requires { ⌜ StepReady (now sizes) (asLists (now «left_kind») (now «left_first») (now «left_second»)) (asLists (now «right_kind») (now «right_first») (now «right_second»)) (now «left_masks») (now «left_places») (now «right_masks») (now «right_places») (lists (now packets) (now lefts) (now rights) (now parents) (now trees)) count listed handled (now «next_left») (now «next_right») (now work) ⌝ }
+    ensures handles { λ r. ⌜ RowHandled (now (sizes .entry)) (policies (asLists (now («left_kind» .entry)) (now («left_first» .entry)) (now («left_second» .entry))) (asLists (now («right_kind» .entry)) (now («right_first» .entry)) (now («right_second» .entry)))) (lists (now (packets .entry)) (now (lefts .entry)) (now (rights .entry)) (now (parents .entry)) (now (trees .entry))) (lists (now (packets .exit)) (now (lefts .exit)) (now (rights .exit)) (now (parents .exit)) (now (trees .exit))) count listed handled r ⌝ }
     ensures kept { λ _. ⌜ now (work .exit) ≡ now (work .entry) ⌝ }
 {
     let row = index::row_at(packets, lefts, rights, handled);
@@ -89,8 +88,7 @@ pub fn handle(
                 parents,
                 listed,
                 count,
-                heads,
-                links,
+                trees,
                 handled as u16,
                 next_left,
                 next_right,

@@ -7,17 +7,20 @@ use native.Mathlib.Omega.{arith}
 use mathlib.Core.Bool.{Bool, true, false, not, _&&_, _||_}
 use mathlib.Core.List.{List}
 use mathlib.Core.Option.{none}
-use mathlib.Core.Path.{_≡_, refl, sym, _∙_, ap, ap₂}
-use lib.Dec.{eqb}
+use mathlib.Core.Path.{_≡_, refl, sym, _∙_, ap, ap₂, subst}
+use lib.Dec.{eqb, ltb}
 use lib.ListN.{length, getD}
-use borrow.Author.Tests.{eq-eqb, ne-eqb, lt-ltb, le-ltb}
+use borrow.Author.Tests.{ltb-true, eq-eqb, ne-eqb, lt-ltb, le-ltb}
 use Rattle.packet.specs.Lowest.{lowest}
 use Rattle.packet.proofs.Lowest.{lowest-more, lowest-found, lowest-none-whole}
 use Rattle.packet_set.specs.Bits.{onlyBits}
+use Rattle.index.specs.declared.Lookup.{Lookup}
+use Rattle.index.specs.declared.Lookup.the-variants.{Listed}
 use Rattle.index.specs.declared.Row.{Row}
-use Rattle.index.specs.Columns.{rowAt, listedBelow}
+use Rattle.index.specs.Columns.{Small, rowAt, sameRow, listedBelow}
+use Rattle.index.specs.Index.{Indexed, Placed}
 use Rattle.row_rules.specs.declared.Spot.the-variants.{At, Nowhere}
-use Rattle.row_rules.specs.Presence.{spotOf, maskRow, fits, zeroStates, inColumns, strays, startMissing, nextMissing}
+use Rattle.row_rules.specs.Presence.{spotOf, maskRow, fits, zeroStates, inColumns, strays, startMissing, nextMissing, Repeated}
 
 -- ---- one row
 
@@ -94,3 +97,14 @@ module _ (test : ℕ → Bool) (n : ℕ) where
     pub unbroken-all : n ≤ i → spotOf Nowhere ≡ lowest test n
     unfolding spotOf
     unbroken-all h = sym (lowest-none-whole test i n (u .before) (le-antisymm (u .within) h))
+
+-- ---- repeats
+
+module _ {packets lefts rights trees : List ℕ} {count i : ℕ} where
+  pub looked-up : {n : ℕ} → Indexed packets lefts rights count n trees → Small packets count → i < length packets → (x : Row) → x ≡ rowAt packets lefts rights i → x .packet < count
+  looked-up I small l x isRow = subst (λ y. y .packet < count) (sym isRow) (small .small i l)
+
+  pub repeats : {n : ℕ} (x : Row) → x ≡ rowAt packets lefts rights i → {answer : Lookup} → Placed (rowAt packets lefts rights) count n trees x answer → (j : ℕ) → answer ≡ Listed j
+      → ltb j i ≡ true → Repeated packets lefts rights i
+  repeats x isRow p j e l =
+      record { first = j; before = ltb-true j i l; same = subst (λ y. sameRow (rowAt packets lefts rights j) y ≡ true) isRow (p .listed j e .same) }

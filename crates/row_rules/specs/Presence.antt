@@ -1,13 +1,14 @@
 -- The row rules as tests of the lent columns: what each loop of the checker looks for.
-use Prim.Native.Nat.{ℕ}
-use mathlib.Core.Bool.{Bool, not, _&&_, _||_}
+use Prim.Native.Nat.{ℕ, _<_}
+use mathlib.Core.Bool.{Bool, true, not, _&&_, _||_}
 use mathlib.Core.List.{List, [], _∷_}
 use mathlib.Core.Option.{Option, none, some}
+use mathlib.Core.Path.{_≡_}
 use lib.Dec.{eqb, ltb}
 use lib.ListN.{length, getD}
 use Rattle.packet_set.specs.Bits.{onlyBits}
 use Rattle.index.specs.declared.Row.{Row}
-use Rattle.index.specs.Columns.{rowAt, listedBelow}
+use Rattle.index.specs.Columns.{rowAt, sameRow, listedBelow}
 use Rattle.row_rules.specs.declared.Spot.{Spot}
 use Rattle.row_rules.specs.declared.Spot.the-variants.{At, Nowhere}
 
@@ -44,3 +45,9 @@ module _ (packets lefts rights : List ℕ) where
   -- rule (d) is broken at a row whose next at γ are these states
   unfoldable pub nextMissing : ℕ → ℕ → ℕ → Bool
   nextMissing γ l r = not (zeroStates l r || inColumns γ l r)
+
+  -- row i is the same as a row before it
+  pub record Repeated (i : ℕ) : Type 0 where
+    pub first : ℕ
+    pub before : first < i
+    pub same : sameRow (rowAt packets lefts rights first) (rowAt packets lefts rights i) ≡ true

@@ -2,12 +2,14 @@
 // functions here are inner.
 // They need no policy: rule (c), the next states and the order of the rules are in `evidence`.
 ghost use mathlib.Core.Path.{_≡_};
+ghost use mathlib.Core.Bool.{true};
 ghost use Prim.Native.Nat.{_<_, _≤_};
 ghost use lib.ListN.{length, getD};
 ghost use Rattle.packet.specs.Lowest.{lowest};
-ghost use Rattle.index.specs.Columns.{Table};
+ghost use Rattle.index.specs.Columns.{Table, Small};
 ghost use Rattle.index.specs.Index.{Indexed};
-ghost use Rattle.row_rules.specs.Presence.{spotOf, fits, zeroStates, strays, startMissing, nextMissing};
+ghost use Rattle.row_rules.specs.Presence.{spotOf, fits, zeroStates, strays, startMissing, nextMissing, Repeated};
+use index::Lookup;
 use index::Mask;
 use index::Row;
 
@@ -73,10 +75,9 @@ pub fn first_start_missing(
     lefts: &[Mask],
     rights: &[Mask],
     count: u16,
-    heads: &[u16],
-    links: &[u16],
+    trees: &[u16],
 ) -> Spot
-    requires { ⌜ Indexed (now packets) (now lefts) (now rights) count (length (now packets)) (now heads) (now links) ⌝ }
+    requires { ⌜ Indexed (now packets) (now lefts) (now rights) count (length (now packets)) (now trees) ⌝ }
     ensures { λ r. ⌜ spotOf r ≡ lowest (startMissing (now (packets .entry)) (now (lefts .entry)) (now (rights .entry))) count ⌝ }
 {
     let mut alpha: u16 = 0;
@@ -85,16 +86,7 @@ pub fn first_start_missing(
             packet: alpha,
             states: [1, 1],
         };
-        if !index::find(
-            packets,
-            lefts,
-            rights,
-            packets.len(),
-            count,
-            heads,
-            links,
-            row,
-        ) {
+        if !index::find(packets, lefts, rights, packets.len(), count, trees, row) {
             return Spot::At(alpha);
         }
         alpha += 1;
@@ -117,13 +109,12 @@ fn next_missing(
     lefts: &[Mask],
     rights: &[Mask],
     count: u16,
-    heads: &[u16],
-    links: &[u16],
+    trees: &[u16],
     packet: u16,
     left: Mask,
     right: Mask,
 ) -> bool
-    requires { ⌜ Indexed (now packets) (now lefts) (now rights) count (length (now packets)) (now heads) (now links) ⌝ }
+    requires { ⌜ Indexed (now packets) (now lefts) (now rights) count (length (now packets)) (now trees) ⌝ }
     requires { ⌜ packet < count ⌝ }
     ensures { λ r. ⌜ r ≡ nextMissing (now (packets .entry)) (now (lefts .entry)) (now (rights .entry)) packet left right ⌝ }
 {
@@ -134,32 +125,20 @@ fn next_missing(
         packet,
         states: [left, right],
     };
-    !index::find(
-        packets,
-        lefts,
-        rights,
-        packets.len(),
-        count,
-        heads,
-        links,
-        row,
-    )
+    !index::find(packets, lefts, rights, packets.len(), count, trees, row)
 }
 
 // Inner: rule (d) at a row, from its next states: the lowest packet whose next row is missing.
-// In the index no two packets share a chain, so this walks the table at most once, however hostile its rows; where chains are
-// short, a packet takes a fixed time.
 pub fn first_next_missing(
     packets: &[u16],
     lefts: &[Mask],
     rights: &[Mask],
     count: u16,
-    heads: &[u16],
-    links: &[u16],
+    trees: &[u16],
     next_left: &[Mask],
     next_right: &[Mask],
 ) -> Spot
-    requires { ⌜ Indexed (now packets) (now lefts) (now rights) count (length (now packets)) (now heads) (now links) ⌝ }
+    requires { ⌜ Indexed (now packets) (now lefts) (now rights) count (length (now packets)) (now trees) ⌝ }
     requires { ⌜ (count ≤ length (now «next_left»)) × (count ≤ length (now «next_right»)) ⌝ }
     ensures { λ r. ⌜ spotOf r ≡ lowest (λ γ. nextMissing (now (packets .entry)) (now (lefts .entry)) (now (rights .entry)) γ (getD (now («next_left» .entry)) γ 0) (getD (now («next_right» .entry)) γ 0)) count ⌝ }
 {
@@ -171,8 +150,7 @@ pub fn first_next_missing(
             lefts,
             rights,
             count,
-            heads,
-            links,
+            trees,
             gamma,
             next_left[i],
             next_right[i],
@@ -182,4 +160,31 @@ pub fn first_next_missing(
         gamma += 1;
     }
     Spot::Nowhere
+}
+
+// Inner: is row i the same as a row before it? It then keeps rules (c) and (d) if that row does.
+pub fn repeated(
+    packets: &[u16],
+    lefts: &[Mask],
+    rights: &[Mask],
+    i: usize,
+    count: u16,
+    trees: &[u16],
+) -> bool
+    requires { ⌜ Indexed (now packets) (now lefts) (now rights) count (length (now packets)) (now trees) ⌝ }
+    requires { ⌜ (i < length (now packets)) × Small (now packets) count ⌝ }
+    ensures { λ r. ⌜ (r ≡ true → Repeated (now (packets .entry)) (now (lefts .entry)) (now (rights .entry)) i) ⌝ }
+{
+    match index::place(
+        packets,
+        lefts,
+        rights,
+        packets.len(),
+        count,
+        trees,
+        index::row_at(packets, lefts, rights, i),
+    ) {
+        Lookup::Listed(j) => j < i,
+        Lookup::Vacant(_) => false,
+    }
 }

@@ -21,7 +21,7 @@ use Rattle.index.specs.declared.Appended.the-variants.{Rows, Full}
 use Rattle.index.specs.Index.{Indexed}
 use Rattle.index.specs.Appending.{Lists, isAdded, rowsAfter, Appending}
 use Rattle.index.specs.Entries.{rowOf, entriesOf}
-use Rattle.index.proofs.Growth.{length-heads, length-links}
+use Rattle.index.proofs.Growth.{length-trees}
 use Rattle.index.proofs.Starting.{append-start}
 use Rattle.index.proofs.Entries.{grown, grows, stays, Outcome, outcome, added, full, known}
 use Rattle.rows.specs.Standing.{rowsIn, Standing, pairMasks, Nexts, Started, NextAppended}
@@ -33,11 +33,10 @@ pub record SameLengths (x y : Lists) : Type 0 where
   pub left : length (y .left) ≡ length (x .left)
   pub right : length (y .right) ≡ length (x .right)
   pub parents : length (y .parents) ≡ length (x .parents)
-  pub heads : length (y .heads) ≡ length (x .heads)
-  pub links : length (y .links) ≡ length (x .links)
+  pub trees : length (y .trees) ≡ length (x .trees)
 
 pub lengths-none : {x : Lists} → SameLengths x x
-lengths-none = record { packets = refl; left = refl; right = refl; parents = refl; heads = refl; links = refl }
+lengths-none = record { packets = refl; left = refl; right = refl; parents = refl; trees = refl }
 
 pub lengths-then : {x y z : Lists} → SameLengths x y → SameLengths y z → SameLengths x z
 lengths-then a b =
@@ -46,8 +45,7 @@ lengths-then a b =
       left = b .left ∙ a .left;
       right = b .right ∙ a .right;
       parents = b .parents ∙ a .parents;
-      heads = b .heads ∙ a .heads;
-      links = b .links ∙ a .links;
+      trees = b .trees ∙ a .trees;
     }
 
 pub lengths-appended : {x y : Lists} {count n : ℕ} {r : Row} {p : ℕ} {answer : Appended} → Appending x y count n r p answer → SameLengths x y
@@ -63,20 +61,19 @@ lengths-appended {x} {y} {count} {n} {r} {p} A = go (isAdded x n r) refl
           left = length-set (x .left) n _;
           right = length-set (x .right) n _;
           parents = length-set (x .parents) n _;
-          heads = length-heads count r n (x .heads);
-          links = length-links count r n (x .heads) (x .links);
+          trees = length-trees _ count r n (x .trees);
         })
 
 -- n rows are listed in y, which was x
 pub record Going (x y : Lists) (count n : ℕ) : Type 0 where
-  pub indexed : Indexed (y .packets) (y .left) (y .right) count n (y .heads) (y .links)
+  pub indexed : Indexed (y .packets) (y .left) (y .right) count n (y .trees)
   pub same : SameLengths x y
   pub long : length (x .parents) ≡ length (x .packets)
 
 pub going-long : {x y : Lists} {count n : ℕ} → Going x y count n → length (y .parents) ≡ length (y .packets)
 going-long G = G .same .parents ∙ G .long ∙ sym (G .same .packets)
 
-going-none : {x : Lists} {count n : ℕ} → Indexed (x .packets) (x .left) (x .right) count n (x .heads) (x .links) → length (x .parents) ≡ length (x .packets) → Going x x count n
+going-none : {x : Lists} {count n : ℕ} → Indexed (x .packets) (x .left) (x .right) count n (x .trees) → length (x .parents) ≡ length (x .packets) → Going x x count n
 going-none I l = record { indexed = I; same = lengths-none; long = l }
 
 -- one more row, if there is room and it is new
@@ -84,10 +81,10 @@ going-more : {x y z : Lists} {count n m : ℕ} {r : Row} {p : ℕ} {answer : App
 unfolding rowsAfter
 going-more {x} {y} {z} {count} {n} {m} {r} {p} {answer} G A e = record { indexed = linked (outcome A); same = lengths-then (G .same) (lengths-appended A); long = G .long }
   where
-    to : (b : Bool) → isAdded y n r ≡ b → rowsAfter b n ≡ m → Indexed (z .packets) (z .left) (z .right) count m (z .heads) (z .links)
-    to b q s = subst (λ k. Indexed (z .packets) (z .left) (z .right) count k (z .heads) (z .links)) (ap (λ t. rowsAfter t n) q ∙ s) (A .indexed)
+    to : (b : Bool) → isAdded y n r ≡ b → rowsAfter b n ≡ m → Indexed (z .packets) (z .left) (z .right) count m (z .trees)
+    to b q s = subst (λ k. Indexed (z .packets) (z .left) (z .right) count k (z .trees)) (ap (λ t. rowsAfter t n) q ∙ s) (A .indexed)
 
-    linked : Outcome y n r answer → Indexed (z .packets) (z .left) (z .right) count m (z .heads) (z .links)
+    linked : Outcome y n r answer → Indexed (z .packets) (z .left) (z .right) count m (z .trees)
     linked (added new l isIn a) = to true isIn (let q : suc n ≡ m = cc in q)
     linked (known new notIn a) = to false notIn (let q : n ≡ m = cc in q)
     linked (full new l notIn a) = let q : _≡_ {A = ℕ} 0 1 = cc in absurd (omega arith)
@@ -119,7 +116,7 @@ module _ (sizes : List ℕ) (ps : Pair Labelled) where
       → rowOf (pairSystem sizes ps) (pairMasks sizes ps) (nextIn lefts rights γ γ) ≡ nextRow (pairSystem sizes ps) r γ
   next-row r lefts rights N γ l = λ k. record { packet = γ; state = record { left = N .left-next γ l k; right = N .right-next γ l k } }
 
-pub started-none : {x : Lists} {count : ℕ} → Indexed (x .packets) (x .left) (x .right) count 0 (x .heads) (x .links) → length (x .parents) ≡ length (x .packets) → StartedTo x x count 0 0
+pub started-none : {x : Lists} {count : ℕ} → Indexed (x .packets) (x .left) (x .right) count 0 (x .trees) → length (x .parents) ≡ length (x .packets) → StartedTo x x count 0 0
 unfolding starts entriesOf
 started-none {x} {count} I l = record { going = going-none I l; stands = λ sizes ps lawful q. stands-none (pairSystem sizes ps) (pairMasks sizes ps) x count 0 I }
 
@@ -160,7 +157,7 @@ pub record NextTo (x y : Lists) (count before n γ p : ℕ) (lefts rights : List
       → (r : system.Row (pairSystem sizes ps)) → Nexts sizes ps r lefts rights
       → Standing (pairSystem sizes ps) (pairMasks sizes ps) x y count n (appendNext (pairSystem sizes ps) γ p r (rowsIn (pairSystem sizes ps) (pairMasks sizes ps) x before))
 
-pub next-none : {x : Lists} {count n p : ℕ} {lefts rights : List ℕ} → Indexed (x .packets) (x .left) (x .right) count n (x .heads) (x .links) → length (x .parents) ≡ length (x .packets)
+pub next-none : {x : Lists} {count n p : ℕ} {lefts rights : List ℕ} → Indexed (x .packets) (x .left) (x .right) count n (x .trees) → length (x .parents) ≡ length (x .packets)
     → NextTo x x count n n 0 p lefts rights
 unfolding appendNext
 next-none {x} {count} {n} I l = record { going = going-none I l; stands = λ sizes ps lawful q r N. stands-none (pairSystem sizes ps) (pairMasks sizes ps) x count n I }

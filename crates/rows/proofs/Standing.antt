@@ -27,7 +27,7 @@ drop-later a b n m l e = go (m - n) (omega arith)
     go k q = subst (λ i. drop i a ≡ drop i b) q (sym (drop-drop k n a) ∙ ap (drop k) e ∙ drop-drop k n b)
 
 module _ (S : System) (M : Masks S) where
-  pub stands-none : (x : Lists) (count n : ℕ) → Indexed (x .packets) (x .left) (x .right) count n (x .heads) (x .links) → Standing S M x x count n (rowsIn S M x n)
+  pub stands-none : (x : Lists) (count n : ℕ) → Indexed (x .packets) (x .left) (x .right) count n (x .trees) → Standing S M x x count n (rowsIn S M x n)
   stands-none x count n I = record { entries = refl; indexed = I; packets = refl; left = refl; right = refl; parents = refl }
 
   module _ {x y : Lists} {count n : ℕ} {es : List (Entry S)} (T : Standing S M x y count n es) where

@@ -30,7 +30,7 @@ module _ (S : System) (M : Masks S) where
   -- The first n rows of y are es, indexed; beyond, the columns are as in x.
   pub record Standing (x y : Lists) (count n : ℕ) (es : List (Entry S)) : Type 0 where
     pub entries : rowsIn y n ≡ es
-    pub indexed : Indexed (y .packets) (y .left) (y .right) count n (y .heads) (y .links)
+    pub indexed : Indexed (y .packets) (y .left) (y .right) count n (y .trees)
     pub packets : drop n (y .packets) ≡ drop n (x .packets)
     pub left : drop n (y .left) ≡ drop n (x .left)
     pub right : drop n (y .right) ≡ drop n (x .right)

@@ -18,12 +18,11 @@ pub fn start(
     right: &mut [Mask],
     parents: &mut [u16],
     count: u16,
-    heads: &mut [u16],
-    links: &mut [u16],
+    trees: &mut [u16],
 ) -> Appended
-    requires { ⌜ Indexed (now packets) (now left) (now right) count 0 (now heads) (now links) ⌝ }
+    requires { ⌜ Indexed (now packets) (now left) (now right) count 0 (now trees) ⌝ }
     requires { ⌜ length (now parents) ≡ length (now packets) ⌝ }
-    ensures { λ r. ⌜ Started (lists (now (packets .entry)) (now (left .entry)) (now (right .entry)) (now (parents .entry)) (now (heads .entry)) (now (links .entry))) (lists (now (packets .exit)) (now (left .exit)) (now (right .exit)) (now (parents .exit)) (now (heads .exit)) (now (links .exit))) count r ⌝ }
+    ensures { λ r. ⌜ Started (lists (now (packets .entry)) (now (left .entry)) (now (right .entry)) (now (parents .entry)) (now (trees .entry))) (lists (now (packets .exit)) (now (left .exit)) (now (right .exit)) (now (parents .exit)) (now (trees .exit))) count r ⌝ }
 {
     let mut n = 0;
     let mut packet: u16 = 0;
@@ -32,18 +31,8 @@ pub fn start(
             packet,
             states: [1; POLICIES],
         };
-        let Appended::Rows(m) = append(
-            packets,
-            left,
-            right,
-            parents,
-            n,
-            count,
-            heads,
-            links,
-            row,
-            packet,
-        ) else {
+        let Appended::Rows(m) = append(packets, left, right, parents, n, count, trees, row, packet)
+        else {
             return Appended::Full;
         };
         n = m;
@@ -60,17 +49,16 @@ pub fn append_next(
     parents: &mut [u16],
     listed: usize,
     count: u16,
-    heads: &mut [u16],
-    links: &mut [u16],
+    trees: &mut [u16],
     handled: u16,
     lefts: &[Mask],
     rights: &[Mask],
 ) -> Appended
-    requires { ⌜ Indexed (now packets) (now left) (now right) count listed (now heads) (now links) ⌝ }
+    requires { ⌜ Indexed (now packets) (now left) (now right) count listed (now trees) ⌝ }
     requires { ⌜ length (now parents) ≡ length (now packets) ⌝ }
     requires { ⌜ count ≤ length (now lefts) ⌝ }
     requires { ⌜ count ≤ length (now rights) ⌝ }
-    ensures { λ r. ⌜ NextAppended (lists (now (packets .entry)) (now (left .entry)) (now (right .entry)) (now (parents .entry)) (now (heads .entry)) (now (links .entry))) (lists (now (packets .exit)) (now (left .exit)) (now (right .exit)) (now (parents .exit)) (now (heads .exit)) (now (links .exit))) count listed handled (now (lefts .entry)) (now (rights .entry)) r ⌝ }
+    ensures { λ r. ⌜ NextAppended (lists (now (packets .entry)) (now (left .entry)) (now (right .entry)) (now (parents .entry)) (now (trees .entry))) (lists (now (packets .exit)) (now (left .exit)) (now (right .exit)) (now (parents .exit)) (now (trees .exit))) count listed handled (now (lefts .entry)) (now (rights .entry)) r ⌝ }
 {
     let mut n = listed;
     let mut packet: u16 = 0;
@@ -80,18 +68,8 @@ pub fn append_next(
             packet,
             states: [lefts[i], rights[i]],
         };
-        let Appended::Rows(m) = append(
-            packets,
-            left,
-            right,
-            parents,
-            n,
-            count,
-            heads,
-            links,
-            row,
-            handled,
-        ) else {
+        let Appended::Rows(m) = append(packets, left, right, parents, n, count, trees, row, handled)
+        else {
             return Appended::Full;
         };
         n = m;

@@ -102,10 +102,9 @@ module _ {sizes : List ℕ} {L R : NodeLists} {x : Lent} where
 
   module _ {count : ℕ} (A : Accepted sizes L R count x) where
     pub rows-ready : {masksL placesL masksR placesR : List ℕ} → BothPrepared L R masksL placesL masksR placesR → (work′ : List ℕ) → work′ ≡ replicate (length (x .work)) 0
-        → RowsReady sizes L R masksL placesL masksR placesR (lists (x .packets) (x .lefts) (x .rights) (x .parents) (replicate 65536 0) (replicate 65536 0)) count (replicate 1024 0) (replicate 1024 0) work′
+        → RowsReady sizes L R masksL placesL masksR placesR (lists (x .packets) (x .lefts) (x .rights) (x .parents) (replicate 196608 0)) count (replicate 1024 0) (replicate 1024 0) work′
     rows-ready B work′ w =
         let few : product sizes ≤ 1024 = A .legal .small in
-        let l : length (replicate {A = ℕ} 65536 0) ≡ 65536 = length-replicate {A = ℕ} 65536 0 in
         let k : length (replicate {A = ℕ} 1024 0) ≡ 1024 = length-replicate {A = ℕ} 1024 0 in
         record {
           legal = A .legal;
@@ -113,7 +112,7 @@ module _ {sizes : List ℕ} {L R : NodeLists} {x : Lent} where
           right-legal = A .right-legal;
           prepared = B;
           packets = A .packets;
-          indexed = indexed-none (x .packets) (x .lefts) (x .rights) count 65536 (replicate 65536 0) (record { left = A .lefts; right = A .rights }) (omega (arith, A .few)) (omega (arith, A .few, l)) (omega (arith, A .packets, few));
+          indexed = indexed-none (x .packets) (x .lefts) (x .rights) count 196608 (record { left = A .lefts; right = A .rights }) (omega (arith, A .few)) (omega (arith, A .few)) (omega (arith, A .packets, few));
           parents = A .parents;
           left-room = omega (arith, A .packets, few, k);
           right-room = omega (arith, A .packets, few, k);
@@ -121,7 +120,7 @@ module _ {sizes : List ℕ} {L R : NodeLists} {x : Lent} where
           zero = λ i h. ap (λ v. getD v i 0) w ∙ getD-replicate (length (x .work)) i 0 0 (omega (arith, A .long));
         }
 
-    module _ {heads links : List ℕ} {z : Lists} {stop : Stop} (D : RowsRun sizes L R (lists (x .packets) (x .lefts) (x .rights) (x .parents) heads links) z count stop) (long : length (z .parents) ≡ length (z .packets)) (same : length (z .packets) ≡ length (x .packets)) where
+    module _ {trees : List ℕ} {z : Lists} {stop : Stop} (D : RowsRun sizes L R (lists (x .packets) (x .lefts) (x .rights) (x .parents) trees) z count stop) (long : length (z .parents) ≡ length (z .packets)) (same : length (z .packets) ≡ length (x .packets)) where
       answer-here : endedAnswer (length (z .packets)) (length (x .trace)) (z .packets) (z .parents) stop ≡ answerHere sizes L R x
       answer-here = ap (λ n. endedAnswer n (length (x .trace)) (z .packets) (z .parents) stop) same ∙ sym (D .answers (length (x .trace)))
 

@@ -27,7 +27,7 @@ use Rattle.index.specs.Appending.{Lists}
 use Rattle.index.specs.Entries.{Masks}
 use Rattle.rows.specs.Standing.{Standing, pairMasks, Started}
 use Rattle.rows.proofs.Standing.{stands-length}
-use Rattle.rows.proofs.Growing.{SameLengths, lengths-then}
+use Rattle.rows.proofs.Growing.{SameLengths, lengths-none, lengths-then}
 use Rattle.rows.proofs.Searching.{Running, IsFull, stands-then, entry-at, rooted, path-line, entering-line, search-begins, start-full, search-goes, search-fills, search-ends, search-tells}
 use Rattle.verdict.specs.declared.Ended.{Ended}
 use Rattle.verdict.specs.declared.Ended.the-variants.{Done, Full}
@@ -75,14 +75,24 @@ module _ (sizes : List ℕ) (L R : NodeLists) where
           subst (Stepped lent k) (ap (afterRow sizes (policies L R) lent) (run-handle S k e) ∙ sym (rw (e, stepAnswer))) (handled e)
 
   -- A round: n rows are listed and row h is the next to handle.
-  pub record Round (x y : Lists) (count n h : ℕ) (nextL₀ nextR₀ work₀ nextL nextR work : List ℕ) : Type 0 where
+  pub record Round (x y : Lists) (count n h : ℕ) : Type 0 where
     pub rounds : ℕ
     pub running : Running sizes (policies L R) x y count n h rounds
     pub more : h < n
-    pub lengths : SameLengths x y
-    pub left-long : length nextL ≡ length nextL₀
-    pub right-long : length nextR ≡ length nextR₀
-    pub clean : work ≡ work₀
+
+-- What a round keeps: the lengths of the lists, and the work list, since the loop began.
+pub record Kept (b y : Lists) (nextL₀ nextR₀ work₀ nextL nextR work : List ℕ) : Type 0 where
+  pub lengths : SameLengths b y
+  pub left-long : length nextL ≡ length nextL₀
+  pub right-long : length nextR ≡ length nextR₀
+  pub clean : work ≡ work₀
+
+pub kept-none : {b : Lists} {nextL nextR work : List ℕ} → Kept b b nextL nextR work nextL nextR work
+kept-none = record { lengths = lengths-none; left-long = refl; right-long = refl; clean = refl }
+
+pub kept-more : {b y z : Lists} {nextL₀ nextR₀ work₀ nextL nextR work nextL′ nextR′ work′ : List ℕ} → Kept b y nextL₀ nextR₀ work₀ nextL nextR work → Kept y z nextL nextR work nextL′ nextR′ work′
+    → Kept b z nextL₀ nextR₀ work₀ nextL′ nextR′ work′
+kept-more a b = record { lengths = lengths-then (a .lengths) (b .lengths); left-long = b .left-long ∙ a .left-long; right-long = b .right-long ∙ a .right-long; clean = b .clean ∙ a .clean }
 
 pub started-full : {x y : Lists} {count : ℕ} {a : Appended} → Started x y count a → a ≡ FullUp → Started x y count FullUp
 started-full {x} {y} {count} T e = subst (Started x y count) e T
@@ -91,9 +101,9 @@ pub started-rows : {x y : Lists} {count m : ℕ} {a : Appended} → Started x y 
 started-rows {x} {y} {count} T e = subst (Started x y count) e T
 
 -- A round of a row order that started from any columns x and listed its starting rows in b.
-abbrev pub RoundFrom : List ℕ → NodeLists → NodeLists → List ℕ → List ℕ → List ℕ → List ℕ → Lists → Lists → ℕ → ℕ → ℕ → ℕ → List ℕ → List ℕ → List ℕ → List ℕ → List ℕ → List ℕ → Type 0
-RoundFrom sizes L R masksL placesL masksR placesR b y count m n h nextL₀ nextR₀ work₀ nextL nextR work =
-    (x : Lists) → RowsReady sizes L R masksL placesL masksR placesR x count nextL₀ nextR₀ work₀ → Started x b count (Rows m) → SameLengths x b → Round sizes L R x y count n h nextL₀ nextR₀ work₀ nextL nextR work
+abbrev pub RoundFrom : List ℕ → NodeLists → NodeLists → List ℕ → List ℕ → List ℕ → List ℕ → Lists → Lists → ℕ → ℕ → ℕ → ℕ → List ℕ → List ℕ → List ℕ → Type 0
+RoundFrom sizes L R masksL placesL masksR placesR b y count m n h nextL₀ nextR₀ work₀ =
+    (x : Lists) → RowsReady sizes L R masksL placesL masksR placesR x count nextL₀ nextR₀ work₀ → Started x b count (Rows m) → SameLengths x b → Round sizes L R x y count n h
 
 module _ {sizes : List ℕ} {L R : NodeLists} {masksL placesL masksR placesR : List ℕ} {x : Lists} {count : ℕ} {nextL₀ nextR₀ work₀ : List ℕ} (P : RowsReady sizes L R masksL placesL masksR placesR x count nextL₀ nextR₀ work₀) where
   abbrev S′ : System
@@ -121,25 +131,21 @@ module _ {sizes : List ℕ} {L R : NodeLists} {masksL placesL masksR placesR : L
   pub starts-full : {z : Lists} → Started x z count FullUp → RowsRun sizes L R x z count (record { row = 0; listed = 0; ended = Full })
   starts-full T = full-stop (start-full sizes (policies L R) is-lawful (sym (P .packets)) T)
 
-  pub starts-round : {y : Lists} {m : ℕ} → Started x y count (Rows m) → SameLengths x y → Round sizes L R x y count m 0 nextL₀ nextR₀ work₀ nextL₀ nextR₀ work₀
-  starts-round {y} {m} T same =
+  pub starts-round : {y : Lists} {m : ℕ} → Started x y count (Rows m) → Round sizes L R x y count m 0
+  starts-round {y} {m} T =
       let begins = search-begins sizes (policies L R) is-lawful (sym (P .packets)) T in
       record {
         rounds = 0;
         running = begins;
         more = omega (arith, invariant S′ is-lawful 0 .listing .begun, stands-length S′ M′ (begins .standing), product-positive sizes (P .legal .positive));
-        lengths = same;
-        left-long = refl;
-        right-long = refl;
-        clean = refl;
       }
 
-  module _ {y : Lists} {n h : ℕ} {nextL nextR work : List ℕ} (O : Round sizes L R x y count n h nextL₀ nextR₀ work₀ nextL nextR work) where
+  module _ {y : Lists} {n h : ℕ} {nextL nextR work : List ℕ} (O : Round sizes L R x y count n h) (K : Kept x y nextL₀ nextR₀ work₀ nextL nextR work) where
     abbrev k : ℕ
     k = O .rounds
 
     parents-long : length (y .parents) ≡ length (y .packets)
-    parents-long = O .lengths .parents ∙ P .parents ∙ sym (O .lengths .packets)
+    parents-long = K .lengths .parents ∙ P .parents ∙ sym (K .lengths .packets)
 
     is-earlier : Earlier S′ (run S′ k .rows)
     is-earlier = earlier S′ (invariant S′ is-lawful k .listing)
@@ -158,14 +164,14 @@ module _ {sizes : List ℕ} {L R : NodeLists} {masksL placesL masksR placesR : L
           small =
               let at = entry-at sizes (policies L R) (O .running .standing) parents-long h (O .more) in
               omega (arith, P .packets, subst (λ e. e .row .packet < product sizes) at (invariant S′ is-lawful k .listing .small h (omega (arith, O .more, stands-length S′ M′ (O .running .standing)))));
-          left-room = omega (arith, P .left-room, O .left-long);
-          right-room = omega (arith, P .right-room, O .right-long);
-          long = subst (λ w. 16384 ≤ length w) (sym (O .clean)) (P .long);
-          zero = subst (λ w. (i : ℕ) → i < 16384 → getD w i 0 ≡ 0) (sym (O .clean)) (P .zero);
+          left-room = omega (arith, P .left-room, K .left-long);
+          right-room = omega (arith, P .right-room, K .right-long);
+          long = subst (λ w. 16384 ≤ length w) (sym (K .clean)) (P .long);
+          zero = subst (λ w. (i : ℕ) → i < 16384 → getD w i 0 ≡ 0) (sym (K .clean)) (P .zero);
         }
 
     pub round-within : h < length (x .packets)
-    round-within = omega (arith, O .more, O .running .standing .indexed .within, O .lengths .packets)
+    round-within = omega (arith, O .more, O .running .standing .indexed .within, K .lengths .packets)
 
     run-is : runAt sizes (policies L R) y n h ≡ run S′ k
     run-is = ap₂ (λ es i. record { rows = es; handled = i }) (O .running .standing .entries) (sym (O .running .handled))
@@ -199,21 +205,16 @@ module _ {sizes : List ℕ} {L R : NodeLists} {masksL placesL masksR placesR : L
           subst (λ l. Standing S′ M′ y z count l (run S′ k .rows)) (stands-length S′ M′ (O .running .standing)) (subst (λ es. Standing S′ M′ y z count (length es) es) (rw (told, stepRows)) rows-are)
 
       module _ (same : SameLengths y z) where
-        pub round-next : {m : ℕ} {nextL′ nextR′ work′ : List ℕ} → answer ≡ Open m → length nextL′ ≡ length nextL → length nextR′ ≡ length nextR → work′ ≡ work
-            → Round sizes L R x z count m (h + 1) nextL₀ nextR₀ work₀ nextL′ nextR′ work′
-        round-next {m} {nextL′} {nextR′} {work′} e l r w = go (subst (Stepped sizes L R (length (y .packets)) k) e answer-is)
+        pub round-next : {m : ℕ} → answer ≡ Open m → Round sizes L R x z count m (h + 1)
+        round-next {m} e = go (subst (Stepped sizes L R (length (y .packets)) k) e answer-is)
           where
-            go : Stepped sizes L R (length (y .packets)) k (Open m) → Round sizes L R x z count m (h + 1) nextL₀ nextR₀ work₀ nextL′ nextR′ work′
+            go : Stepped sizes L R (length (y .packets)) k (Open m) → Round sizes L R x z count m (h + 1)
             go (opens goes long fits more) =
                 let next = search-goes sizes (policies L R) is-lawful (sym (P .packets)) (O .running) goes (fitting-rows goes long fits) in
                 record {
                   rounds = suc k;
                   running = subst (λ i. Running sizes (policies L R) x z count m i (suc k)) (omega arith) next;
                   more = omega (arith, more, next .handled);
-                  lengths = lengths-then (O .lengths) same;
-                  left-long = l ∙ O .left-long;
-                  right-long = r ∙ O .right-long;
-                  clean = w ∙ O .clean;
                 }
 
         pub round-stops : (e : Ended) → answer ≡ Stopped e → RowsRun sizes L R x z count (record { row = h; listed = n; ended = e })
@@ -224,7 +225,7 @@ module _ {sizes : List ℕ} {L R : NodeLists} {masksL placesL masksR placesR : L
             long = same .parents ∙ parents-long ∙ sym (same .packets)
 
             wide : length (z .packets) ≡ length (x .packets)
-            wide = same .packets ∙ O .lengths .packets
+            wide = same .packets ∙ K .lengths .packets
 
             telling-run : (γ : ℕ) → turn S′ (run S′ k) ≡ telling γ → Running sizes (policies L R) x z count n h k
             telling-run γ told = record { standing = stands-then S′ M′ (O .running .standing) (same-rows γ told) (omega arith); handled = O .running .handled }
@@ -256,5 +257,5 @@ module _ {sizes : List ℕ} {L R : NodeLists} {masksL placesL masksR placesR : L
                 record { standing = held-stands (end 0 .1); readable = tt; answers = λ lent. end lent .0 }
             go e (tells s γ told side is) = subst (λ e. RowsRun sizes L R x z count (record { row = h; listed = n; ended = e })) is (tells-stop s γ told side)
             go e (fills goes over) =
-                full-stop (search-fills sizes (policies L R) is-lawful (sym (P .packets)) (O .running) (O .lengths .packets) over
+                full-stop (search-fills sizes (policies L R) is-lawful (sym (P .packets)) (O .running) (K .lengths .packets) over
                 (subst (λ m. Standing S′ M′ y z count m (take (length (y .packets)) (run S′ (suc k) .rows))) (length-take-le (length (y .packets)) (run S′ (suc k) .rows) (omega (arith, over))) (next-rows goes)))

@@ -24,7 +24,7 @@ pub record RowsReady (sizes : List ℕ) (L R : NodeLists) (masksL placesL masksR
   pub right-legal : Legal sizes R
   pub prepared : BothPrepared L R masksL placesL masksR placesR
   pub packets : count ≡ product sizes
-  pub indexed : Indexed (x .packets) (x .left) (x .right) count 0 (x .heads) (x .links)
+  pub indexed : Indexed (x .packets) (x .left) (x .right) count 0 (x .trees)
   pub parents : length (x .parents) ≡ length (x .packets)
   pub left-room : count ≤ length nextL
   pub right-room : count ≤ length nextR

@@ -12,7 +12,7 @@ use verdict::Ended;
 use verdict::Stop;
 use verdict::Verdict;
 
-// Inner: starts the row order and handles row after row until it ends. heads and links are 0.
+// Inner: starts the row order and handles row after row until it ends. The index is empty.
 fn run(
     sizes: &[u16],
     count: u16,
@@ -30,18 +30,16 @@ fn run(
     lefts: &mut [Mask],
     rights: &mut [Mask],
     parents: &mut [u16],
-    heads: &mut [u16],
-    links: &mut [u16],
+    trees: &mut [u16],
     next_left: &mut [u32],
     next_right: &mut [u32],
     work: &mut [u32],
 ) -> Stop
-    requires { ⌜ RowsReady (now sizes) (asLists (now «left_kind») (now «left_first») (now «left_second»)) (asLists (now «right_kind») (now «right_first») (now «right_second»)) (now «left_masks») (now «left_places») (now «right_masks») (now «right_places») (lists (now packets) (now lefts) (now rights) (now parents) (now heads) (now links)) count (now «next_left») (now «next_right») (now work) ⌝ }
-    ensures runs { λ r. ⌜ RowsRun (now (sizes .entry)) (asLists (now («left_kind» .entry)) (now («left_first» .entry)) (now («left_second» .entry))) (asLists (now («right_kind» .entry)) (now («right_first» .entry)) (now («right_second» .entry))) (lists (now (packets .entry)) (now (lefts .entry)) (now (rights .entry)) (now (parents .entry)) (now (heads .entry)) (now (links .entry))) (lists (now (packets .exit)) (now (lefts .exit)) (now (rights .exit)) (now (parents .exit)) (now (heads .exit)) (now (links .exit))) count r ⌝ }
+    requires { ⌜ RowsReady (now sizes) (asLists (now «left_kind») (now «left_first») (now «left_second»)) (asLists (now «right_kind») (now «right_first») (now «right_second»)) (now «left_masks») (now «left_places») (now «right_masks») (now «right_places») (lists (now packets) (now lefts) (now rights) (now parents) (now trees)) count (now «next_left») (now «next_right») (now work) ⌝ }
+    ensures runs { λ r. ⌜ RowsRun (now (sizes .entry)) (asLists (now («left_kind» .entry)) (now («left_first» .entry)) (now («left_second» .entry))) (asLists (now («right_kind» .entry)) (now («right_first» .entry)) (now («right_second» .entry))) (lists (now (packets .entry)) (now (lefts .entry)) (now (rights .entry)) (now (parents .entry)) (now (trees .entry))) (lists (now (packets .exit)) (now (lefts .exit)) (now (rights .exit)) (now (parents .exit)) (now (trees .exit))) count r ⌝ }
     ensures kept { λ _. ⌜ now (work .exit) ≡ now (work .entry) ⌝ }
 {
-    let Appended::Rows(started) = rows::start(packets, lefts, rights, parents, count, heads, links)
-    else {
+    let Appended::Rows(started) = rows::start(packets, lefts, rights, parents, count, trees) else {
         return Stop {
             row: 0,
             listed: 0,
@@ -68,8 +66,7 @@ fn run(
             lefts,
             rights,
             parents,
-            heads,
-            links,
+            trees,
             handled,
             listed,
             next_left,
@@ -130,8 +127,7 @@ fn search_accepted(
         &mut right_masks,
         &mut right_places,
     );
-    let mut heads = [0u16; 65536];
-    let mut links = [0u16; 65536];
+    let mut trees = [0u16; 196608];
     let mut next_left = [0u32; 1024];
     let mut next_right = [0u32; 1024];
     let stop = run(
@@ -151,8 +147,7 @@ fn search_accepted(
         lefts,
         rights,
         parents,
-        &mut heads,
-        &mut links,
+        &mut trees,
         &mut next_left,
         &mut next_right,
         work,

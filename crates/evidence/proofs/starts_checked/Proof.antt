@@ -8,20 +8,14 @@ use Rattle.evidence.proofs.starts_checked.Tie as tie
 slice-aggregate-index-all : tie.Need-slice-aggregate-index-all
 slice-aggregate-index-all c = search needs
 
-slice-aggregate-index-all-2 : tie.Need-slice-aggregate-index-all-2
-slice-aggregate-index-all-2 c = search needs
-
 index-all-requires : tie.Need-index-all-requires
-index-all-requires c κs = (index-none _ _ _ _ _ _ (c .before .before .before .before .before .before .before .before .before .before .before .before .before .pre) 65536 65536 (lit≤ tt) (lit≤ tt), c .before .before .before .before .before .before .before .before .before .before .before .before .before .pre .small)
+index-all-requires c κs = (index-none _ _ _ _ _ _ (c .before .before .before .before .before .before .before .before .before .before .before .before .pre) 196608 (lit≤ tt), c .before .before .before .before .before .before .before .before .before .before .before .before .pre .small)
 
 slice-aggregate-first-start-missing : tie.Need-slice-aggregate-first-start-missing
 slice-aggregate-first-start-missing c = search needs
 
-slice-aggregate-first-start-missing-2 : tie.Need-slice-aggregate-first-start-missing-2
-slice-aggregate-first-start-missing-2 c = search needs
-
 first-start-missing-requires : tie.Need-first-start-missing-requires
-first-start-missing-requires c κs = c .before .before .before .before .index-all .ensures .0
+first-start-missing-requires c κs = c .before .before .index-all .ensures
 
 enum-known-alpha : tie.Need-enum-known-alpha
 enum-known-alpha c = search needs
@@ -32,35 +26,29 @@ enum-told c = search needs
 slice-aggregate-rows-checked : tie.Need-slice-aggregate-rows-checked
 slice-aggregate-rows-checked c = search needs
 
-slice-aggregate-rows-checked-2 : tie.Need-slice-aggregate-rows-checked-2
-slice-aggregate-rows-checked-2 c = search needs
-
 rows-checked-requires : tie.Need-rows-checked-requires
-rows-checked-requires c κs = record { cleared = c .before .before .before .before .before .before .before .before .before .before .before .before .before .before .before .before .before .before .before .before .before .before .before .before .pre; indexed = c .before .before .before .before .before .before .before .before .before .before .index-all .ensures .0 }
+rows-checked-requires c κs = record { cleared = c .before .before .before .before .before .before .before .before .before .before .before .before .before .before .before .before .before .before .before .before .pre; indexed = c .before .before .before .before .before .before .before .index-all .ensures }
 
 returns : tie.Need-returns
-returns c = starts-broken _ _ _ _ _ _ (c .before .before .before .before .before .before .before .before .before .before .before .before .before .before .before .before .before .before .before .before .before .before .pre) (c .before .before .before .first-start-missing .ensures) _ (c .before .alpha .given .1)
+returns c = starts-broken _ _ _ _ _ _ (c .before .before .before .before .before .before .before .before .before .before .before .before .before .before .before .before .before .before .before .pre) (c .before .before .before .first-start-missing .ensures) _ (c .before .alpha .given .1)
 
 same-length : tie.Need-same-length
-same-length c = c .before .before .rows-checked .kept .1 .1 .1 .1 .1 .1 .1 .1 .1 .1 .1 .1 .1 .0
+same-length c = c .before .before .rows-checked .kept .1 .1 .1 .1 .1 .1 .1 .1 .1 .1 .1 .1 .0
 
 returns-2 : tie.Need-returns-2
-returns-2 c = starts-kept _ _ _ _ _ _ (c .before .before .before .before .before .before .before .before .before .before .before .before .before .before .before .before .before .before .before .before .before .before .before .before .before .before .before .pre) (c .before .before .before .before .before .before .before .before .first-start-missing .ensures) (c .before .before .before .before .before .before .enum-told .given .1) (c .before .before .rows-checked .ensures)
+returns-2 c = starts-kept _ _ _ _ _ _ (c .before .before .before .before .before .before .before .before .before .before .before .before .before .before .before .before .before .before .before .before .before .before .before .pre) (c .before .before .before .before .before .before .before .first-start-missing .ensures) (c .before .before .before .before .before .enum-told .given .1) (c .before .before .rows-checked .ensures)
 
 pub starts-checked-spec : {M : Type 1} → statement M
 starts-checked-spec =
     tie.close
     (tie.spec
     slice-aggregate-index-all
-    slice-aggregate-index-all-2
     index-all-requires
     slice-aggregate-first-start-missing
-    slice-aggregate-first-start-missing-2
     first-start-missing-requires
     enum-known-alpha
     enum-told
     slice-aggregate-rows-checked
-    slice-aggregate-rows-checked-2
     rows-checked-requires
     returns
     same-length

@@ -8,10 +8,10 @@ use Rattle.row_rules.proofs.first_next_missing.Statement.{statement}
 use Rattle.row_rules.proofs.first_next_missing.Tie as tie
 
 abbrev Inv-loop : tie.InvT-loop
-Inv-loop packets lefts rights count heads links next-left next-right gamma₀ gamma = Unbroken (λ γ. nextMissing packets lefts rights γ (getD next-left γ 0) (getD next-right γ 0)) count gamma
+Inv-loop packets lefts rights count trees next-left next-right gamma₀ gamma = Unbroken (λ γ. nextMissing packets lefts rights γ (getD next-left γ 0) (getD next-right γ 0)) count gamma
 
 abbrev μ-loop : tie.MeasureT-loop
-μ-loop packets lefts rights count heads links next-left next-right gamma₀ gamma = count - gamma
+μ-loop packets lefts rights count trees next-left next-right gamma₀ gamma = count - gamma
 
 loop-holds : tie.Need-loop-holds Inv-loop μ-loop
 loop-holds c = unbroken-none _ _
@@ -32,10 +32,10 @@ shared-slice-read-next-missing-2 : tie.Need-shared-slice-read-next-missing-2 Inv
 shared-slice-read-next-missing-2 c = search needs
 
 next-missing-requires : tie.Need-next-missing-requires Inv-loop μ-loop
-next-missing-requires c κs = (c .before .before .before .before .before .before .before .before .before .before .before .before .pre .0, c .before .before .before .loop-test .taken)
+next-missing-requires c κs = (c .before .before .before .before .before .before .before .before .before .before .before .pre .0, c .before .before .before .loop-test .taken)
 
 returns : tie.Need-returns Inv-loop μ-loop
-returns c = broken-here _ _ (c .before .before .before .before .before .before .loop .inv) (c .before .before .before .before .before .loop-test .taken) _ (next-at _ _ _ (c .before .before .before .before .before .before .before .before .before .before .before .before .before .before .args .next-left .now) (c .before .before .before .before .before .before .before .before .before .before .before .before .before .before .args .next-right .now) _ _ (c .before .before .before .before .wide .ensures) _ (c .before .next-missing .ensures)) (c .if1 .taken)
+returns c = broken-here _ _ (c .before .before .before .before .before .before .loop .inv) (c .before .before .before .before .before .loop-test .taken) _ (next-at _ _ _ (c .before .before .before .before .before .before .before .before .before .before .before .before .before .args .next-left .now) (c .before .before .before .before .before .before .before .before .before .before .before .before .before .args .next-right .now) _ _ (c .before .before .before .before .wide .ensures) _ (c .before .next-missing .ensures)) (c .if1 .taken)
 
 add-gamma : tie.Need-add-gamma Inv-loop μ-loop
 add-gamma c = search needs
@@ -44,7 +44,7 @@ loop-less : tie.Need-loop-less Inv-loop μ-loop
 loop-less c = search needs
 
 loop-again : tie.Need-loop-again Inv-loop μ-loop
-loop-again c = unbroken-more _ _ (c .before .before .before .before .before .before .loop .inv) (c .before .before .before .before .before .loop-test .taken) _ (next-at _ _ _ (c .before .before .before .before .before .before .before .before .before .before .before .before .before .before .args .next-left .now) (c .before .before .before .before .before .before .before .before .before .before .before .before .before .before .args .next-right .now) _ _ (c .before .before .before .before .wide .ensures) _ (c .before .next-missing .ensures)) (c .if1 .left)
+loop-again c = unbroken-more _ _ (c .before .before .before .before .before .before .loop .inv) (c .before .before .before .before .before .loop-test .taken) _ (next-at _ _ _ (c .before .before .before .before .before .before .before .before .before .before .before .before .before .args .next-left .now) (c .before .before .before .before .before .before .before .before .before .before .before .before .before .args .next-right .now) _ _ (c .before .before .before .before .wide .ensures) _ (c .before .next-missing .ensures)) (c .if1 .left)
 
 returns-2 : tie.Need-returns-2 Inv-loop μ-loop
 returns-2 c = unbroken-all _ _ (c .before .loop .inv) (c .loop-test .left)

@@ -7,16 +7,16 @@ use Rattle.row_rules.proofs.first_start_missing.Statement.{statement}
 use Rattle.row_rules.proofs.first_start_missing.Tie as tie
 
 abbrev Inv-loop : tie.InvT-loop
-Inv-loop packets lefts rights count heads links alpha₀ alpha = Unbroken (startMissing packets lefts rights) count alpha
+Inv-loop packets lefts rights count trees alpha₀ alpha = Unbroken (startMissing packets lefts rights) count alpha
 
 abbrev μ-loop : tie.MeasureT-loop
-μ-loop packets lefts rights count heads links alpha₀ alpha = count - alpha
+μ-loop packets lefts rights count trees alpha₀ alpha = count - alpha
 
 loop-holds : tie.Need-loop-holds Inv-loop μ-loop
 loop-holds c = unbroken-none _ _
 
 find-requires : tie.Need-find-requires Inv-loop μ-loop
-find-requires c κs = (c .before .before .before .before .before .before .before .pre, c .loop-test .taken)
+find-requires c κs = (c .before .before .before .before .before .before .pre, c .loop-test .taken)
 
 returns : tie.Need-returns Inv-loop μ-loop
 returns c = broken-here _ _ (c .before .before .before .loop .inv) (c .before .before .loop-test .taken) _ (start-at _ _ _ _ _ (c .before .find .ensures)) (c .if1 .taken)

@@ -11,7 +11,7 @@ returns : tie.Need-returns
 returns c = next-zero _ _ _ _ _ _ _ (c .before .zero-states .ensures) (c .if1 .taken)
 
 find-requires : tie.Need-find-requires
-find-requires c κs = (c .before .before .before .before .before .before .before .pre .0, c .before .before .before .before .before .before .before .pre .1)
+find-requires c κs = (c .before .before .before .before .before .before .pre .0, c .before .before .before .before .before .before .pre .1)
 
 returns-2 : tie.Need-returns-2
 returns-2 c = next-looked _ _ _ _ _ _ _ (c .before .before .zero-states .ensures) (c .before .if1 .left) _ (c .find .ensures)

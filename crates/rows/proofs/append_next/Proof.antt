@@ -8,33 +8,33 @@ use Rattle.rows.proofs.append_next.Statement.{statement}
 use Rattle.rows.proofs.append_next.Tie as tie
 
 abbrev Inv-loop : tie.InvT-loop
-Inv-loop packets₀ left₀ right₀ parents₀ listed count heads₀ links₀ handled lefts rights n₀ packet₀ packets left right parents heads links n packet =
-    NextTo (lists packets₀ left₀ right₀ parents₀ heads₀ links₀) (lists packets left right parents heads links) count n₀ n packet handled lefts rights × (packet ≤ count)
+Inv-loop packets₀ left₀ right₀ parents₀ listed count trees₀ handled lefts rights n₀ packet₀ packets left right parents trees n packet =
+    NextTo (lists packets₀ left₀ right₀ parents₀ trees₀) (lists packets left right parents trees) count n₀ n packet handled lefts rights × (packet ≤ count)
 
 abbrev μ-loop : tie.MeasureT-loop
-μ-loop packets₀ left₀ right₀ parents₀ listed count heads₀ links₀ handled lefts rights n₀ packet₀ packets left right parents heads links n packet =
+μ-loop packets₀ left₀ right₀ parents₀ listed count trees₀ handled lefts rights n₀ packet₀ packets left right parents trees n packet =
     count - packet
 
 loop-holds : tie.Need-loop-holds Inv-loop μ-loop
-loop-holds c = (next-none (c .before .before .before .before .before .before .before .before .pre .0) (c .before .before .before .before .before .before .before .before .pre .1 .0), omega arith)
+loop-holds c = (next-none (c .before .before .before .before .before .before .before .pre .0) (c .before .before .before .before .before .before .before .pre .1 .0), omega arith)
 
 wide-requires : tie.Need-wide-requires Inv-loop μ-loop
 wide-requires c κs = search needs
 
-mul-t18 : tie.Need-mul-t18 Inv-loop μ-loop
-mul-t18 c = search needs
+mul-t17 : tie.Need-mul-t17 Inv-loop μ-loop
+mul-t17 c = search needs
 
-shared-slice-read-t20 : tie.Need-shared-slice-read-t20 Inv-loop μ-loop
-shared-slice-read-t20 c = search needs
+shared-slice-read-t19 : tie.Need-shared-slice-read-t19 Inv-loop μ-loop
+shared-slice-read-t19 c = search needs
 
-mul-t21 : tie.Need-mul-t21 Inv-loop μ-loop
-mul-t21 c = search needs
+mul-t20 : tie.Need-mul-t20 Inv-loop μ-loop
+mul-t20 c = search needs
 
-shared-slice-read-t23 : tie.Need-shared-slice-read-t23 Inv-loop μ-loop
-shared-slice-read-t23 c = search needs
+shared-slice-read-t22 : tie.Need-shared-slice-read-t22 Inv-loop μ-loop
+shared-slice-read-t22 c = search needs
 
 append-requires : tie.Need-append-requires Inv-loop μ-loop
-append-requires c κs = ((c .before .before .before .before .before .before .before .before .before .before .loop .inv .0 .going .indexed), (going-long (c .before .before .before .before .before .before .before .before .before .before .loop .inv .0 .going), (c .before .before .before .before .before .before .before .before .before .loop-test .taken)))
+append-requires c κs = ((c .before .before .before .before .before .before .before .before .before .loop .inv .0 .going .indexed), (going-long (c .before .before .before .before .before .before .before .before .before .loop .inv .0 .going), (c .before .before .before .before .before .before .before .before .loop-test .taken)))
 
 enum-known-m : tie.Need-enum-known-m Inv-loop μ-loop
 enum-known-m c = search needs
@@ -43,52 +43,46 @@ enum-told : tie.Need-enum-told Inv-loop μ-loop
 enum-told c = search needs
 
 same-length : tie.Need-same-length Inv-loop μ-loop
-same-length c = lengths-then (c .before .before .before .before .before .before .before .before .before .before .before .before .before .before .before .before .before .before .before .before .before .before .before .before .before .loop .inv .0 .going .same) (lengths-appended (c .before .before .before .before .before .before .before .before .before .before .before .before .before .before .append .ensures)) .packets
+same-length c = lengths-then (c .before .before .before .before .before .before .before .before .before .before .before .before .before .before .before .before .before .before .before .before .before .before .loop .inv .0 .going .same) (lengths-appended (c .before .before .before .before .before .before .before .before .before .before .before .before .append .ensures)) .packets
 
 same-length-2 : tie.Need-same-length-2 Inv-loop μ-loop
-same-length-2 c = lengths-then (c .before .before .before .before .before .before .before .before .before .before .before .before .before .before .before .before .before .before .before .before .before .before .before .before .before .loop .inv .0 .going .same) (lengths-appended (c .before .before .before .before .before .before .before .before .before .before .before .before .before .before .append .ensures)) .left
+same-length-2 c = lengths-then (c .before .before .before .before .before .before .before .before .before .before .before .before .before .before .before .before .before .before .before .before .before .before .loop .inv .0 .going .same) (lengths-appended (c .before .before .before .before .before .before .before .before .before .before .before .before .append .ensures)) .left
 
 same-length-3 : tie.Need-same-length-3 Inv-loop μ-loop
-same-length-3 c = lengths-then (c .before .before .before .before .before .before .before .before .before .before .before .before .before .before .before .before .before .before .before .before .before .before .before .before .before .loop .inv .0 .going .same) (lengths-appended (c .before .before .before .before .before .before .before .before .before .before .before .before .before .before .append .ensures)) .right
+same-length-3 c = lengths-then (c .before .before .before .before .before .before .before .before .before .before .before .before .before .before .before .before .before .before .before .before .before .before .loop .inv .0 .going .same) (lengths-appended (c .before .before .before .before .before .before .before .before .before .before .before .before .append .ensures)) .right
 
 same-length-4 : tie.Need-same-length-4 Inv-loop μ-loop
-same-length-4 c = lengths-then (c .before .before .before .before .before .before .before .before .before .before .before .before .before .before .before .before .before .before .before .before .before .before .before .before .before .loop .inv .0 .going .same) (lengths-appended (c .before .before .before .before .before .before .before .before .before .before .before .before .before .before .append .ensures)) .parents
+same-length-4 c = lengths-then (c .before .before .before .before .before .before .before .before .before .before .before .before .before .before .before .before .before .before .before .before .before .before .loop .inv .0 .going .same) (lengths-appended (c .before .before .before .before .before .before .before .before .before .before .before .before .append .ensures)) .parents
 
 same-length-5 : tie.Need-same-length-5 Inv-loop μ-loop
-same-length-5 c = lengths-then (c .before .before .before .before .before .before .before .before .before .before .before .before .before .before .before .before .before .before .before .before .before .before .before .before .before .loop .inv .0 .going .same) (lengths-appended (c .before .before .before .before .before .before .before .before .before .before .before .before .before .before .append .ensures)) .heads
-
-same-length-6 : tie.Need-same-length-6 Inv-loop μ-loop
-same-length-6 c = lengths-then (c .before .before .before .before .before .before .before .before .before .before .before .before .before .before .before .before .before .before .before .before .before .before .before .before .before .loop .inv .0 .going .same) (lengths-appended (c .before .before .before .before .before .before .before .before .before .before .before .before .before .before .append .ensures)) .links
+same-length-5 c = lengths-then (c .before .before .before .before .before .before .before .before .before .before .before .before .before .before .before .before .before .before .before .before .before .before .loop .inv .0 .going .same) (lengths-appended (c .before .before .before .before .before .before .before .before .before .before .before .before .append .ensures)) .trees
 
 returns : tie.Need-returns Inv-loop μ-loop
-returns c = next-full (c .before .before .before .before .before .before .before .before .before .before .before .before .before .before .before .before .before .before .before .before .before .before .before .before .before .loop .inv .0) (c .before .before .before .before .before .before .before .before .before .before .before .before .before .before .before .before .before .before .before .before .before .before .before .before .loop-test .taken) _ (c .before .before .before .before .before .before .before .before .before .before .before .before .before .before .before .before .before .before .before .before .before .before .before .wide .ensures) (c .before .before .before .before .before .before .before .before .before .before .before .before .before .before .append .ensures) (c .enum-told .given .1)
+returns c = next-full (c .before .before .before .before .before .before .before .before .before .before .before .before .before .before .before .before .before .before .before .before .before .before .loop .inv .0) (c .before .before .before .before .before .before .before .before .before .before .before .before .before .before .before .before .before .before .before .before .before .loop-test .taken) _ (c .before .before .before .before .before .before .before .before .before .before .before .before .before .before .before .before .before .before .before .before .wide .ensures) (c .before .before .before .before .before .before .before .before .before .before .before .before .append .ensures) (c .enum-told .given .1)
 
 add-packet : tie.Need-add-packet Inv-loop μ-loop
-add-packet c = omega (arith, (c .before .before .before .before .before .before .before .before .before .before .before .before .before .before .before .before .before .before .before .before .before .before .before .before .before .loop-test .taken), (c .before .before .before .before .before .before .before .before .before .before .before .before .before .before .before .before .before .before .before .before .before .before .before .before .before .before .before .before .before .before .before .before .before .before .before .fits .count))
+add-packet c = omega (arith, (c .before .before .before .before .before .before .before .before .before .before .before .before .before .before .before .before .before .before .before .before .before .before .loop-test .taken), (c .before .before .before .before .before .before .before .before .before .before .before .before .before .before .before .before .before .before .before .before .before .before .before .before .before .before .before .before .before .before .before .fits .count))
 
 loop-less : tie.Need-loop-less Inv-loop μ-loop
-loop-less c = omega (arith, (c .before .before .before .before .before .before .before .before .before .before .before .before .before .before .before .before .before .before .before .before .before .before .before .before .before .loop-test .taken))
+loop-less c = omega (arith, (c .before .before .before .before .before .before .before .before .before .before .before .before .before .before .before .before .before .before .before .before .before .before .loop-test .taken))
 
 loop-again : tie.Need-loop-again Inv-loop μ-loop
-loop-again c = (next-more (c .before .before .before .before .before .before .before .before .before .before .before .before .before .before .before .before .before .before .before .before .before .before .before .before .before .before .loop .inv .0) (c .before .before .before .before .before .before .before .before .before .before .before .before .before .before .before .before .before .before .before .before .before .before .before .before .before .loop-test .taken) _ (c .before .before .before .before .before .before .before .before .before .before .before .before .before .before .before .before .before .before .before .before .before .before .before .before .wide .ensures) (c .before .before .before .before .before .before .before .before .before .before .before .before .before .before .before .append .ensures) _ (c .before .m .given .1), omega (arith, (c .before .before .before .before .before .before .before .before .before .before .before .before .before .before .before .before .before .before .before .before .before .before .before .before .before .loop-test .taken)))
+loop-again c = (next-more (c .before .before .before .before .before .before .before .before .before .before .before .before .before .before .before .before .before .before .before .before .before .before .before .loop .inv .0) (c .before .before .before .before .before .before .before .before .before .before .before .before .before .before .before .before .before .before .before .before .before .before .loop-test .taken) _ (c .before .before .before .before .before .before .before .before .before .before .before .before .before .before .before .before .before .before .before .before .before .wide .ensures) (c .before .before .before .before .before .before .before .before .before .before .before .before .before .append .ensures) _ (c .before .m .given .1), omega (arith, (c .before .before .before .before .before .before .before .before .before .before .before .before .before .before .before .before .before .before .before .before .before .before .loop-test .taken)))
+
+same-length-6 : tie.Need-same-length-6 Inv-loop μ-loop
+same-length-6 c = (c .before .loop .inv .0 .going .same .packets)
 
 same-length-7 : tie.Need-same-length-7 Inv-loop μ-loop
-same-length-7 c = (c .before .loop .inv .0 .going .same .packets)
+same-length-7 c = (c .before .loop .inv .0 .going .same .left)
 
 same-length-8 : tie.Need-same-length-8 Inv-loop μ-loop
-same-length-8 c = (c .before .loop .inv .0 .going .same .left)
+same-length-8 c = (c .before .loop .inv .0 .going .same .right)
 
 same-length-9 : tie.Need-same-length-9 Inv-loop μ-loop
-same-length-9 c = (c .before .loop .inv .0 .going .same .right)
+same-length-9 c = (c .before .loop .inv .0 .going .same .parents)
 
 same-length-10 : tie.Need-same-length-10 Inv-loop μ-loop
-same-length-10 c = (c .before .loop .inv .0 .going .same .parents)
-
-same-length-11 : tie.Need-same-length-11 Inv-loop μ-loop
-same-length-11 c = (c .before .loop .inv .0 .going .same .heads)
-
-same-length-12 : tie.Need-same-length-12 Inv-loop μ-loop
-same-length-12 c = (c .before .loop .inv .0 .going .same .links)
+same-length-10 c = (c .before .loop .inv .0 .going .same .trees)
 
 returns-2 : tie.Need-returns-2 Inv-loop μ-loop
 returns-2 c = next-all (c .before .loop .inv .0) (c .before .loop .inv .1) (c .loop-test .left)
@@ -101,10 +95,10 @@ append-next-spec =
     μ-loop
     loop-holds
     wide-requires
-    mul-t18
-    shared-slice-read-t20
-    mul-t21
-    shared-slice-read-t23
+    mul-t17
+    shared-slice-read-t19
+    mul-t20
+    shared-slice-read-t22
     append-requires
     enum-known-m
     enum-told
@@ -113,15 +107,13 @@ append-next-spec =
     same-length-3
     same-length-4
     same-length-5
-    same-length-6
     returns
     add-packet
     loop-less
     loop-again
+    same-length-6
     same-length-7
     same-length-8
     same-length-9
     same-length-10
-    same-length-11
-    same-length-12
     returns-2)
