@@ -42,14 +42,14 @@ def first_part():
 def main():
     given, expected, counts = first_part()
     stored = [(FOLDER / name).read_text() for name in ("stdin", "stdout")]
-    held, second, rest = stored[0].partition(SECOND)
+    held, _, rest = stored[0].partition(SECOND)
     lines = sum(not line.isspace() for line in held.splitlines())
     answers = stored[1].splitlines(keepends=True)
     if sys.argv[1:] == ["--check"]:
         if (given, expected) != (held, "".join(answers[:lines])):
             sys.exit("the first part of vectors is not what the scripts work out")
     else:
-        (FOLDER / "stdin").write_text(given + second + rest)
+        (FOLDER / "stdin").write_text(given + SECOND + rest)
         (FOLDER / "stdout").write_text(expected + "".join(answers[lines:]))
     print("vectors: " + ", ".join(counts))
 
