@@ -7,12 +7,13 @@
 import random
 import sys
 
+from calls import numbers_of
 from evaluator_cases import DROP, DUP, EQ, ID, NE, SEQ, SET, STAR, SUM, random_policy
 from policy_cases import answer as legality
 from policy_cases import lists, size_refusal
 from search_cases import run
 from stored import store
-from text_cases import WORD, Refused, damaged, joined, numbers_of, parts_of, read, word_token
+from text_cases import WORD, Refused, damaged, joined, parts_of, read, word_token
 
 MOST = 32768
 ROWS = 4096

@@ -1,20 +1,15 @@
-#!/usr/bin/env python3
-"""Writes the input and the expected output of the program evidence_cases, worked out from document 01, "Row rules for
-evidence" and "Causes, in the order tested"; output and next by way of document 004's right spines.
-
-    tools/evidence_cases.py            write crates/evidence_cases/stdin and stdout
-    tools/evidence_cases.py --check    compare them with what is stored
-"""
+"""Tables checked, with what the evidence checker answers worked out from document 01, "Row rules for evidence" and "Causes,
+in the order tested"; output and next by way of document 004's right spines."""
 import itertools
 import random
-import sys
 
-from evaluator_cases import DROP, DUP, EQ, ID, NE, SEQ, SET, STAR, SUM, World, random_policy, spread, stepped, terms
+from calls import EVIDENCE, call, cleared, lists_of, numbers_of
+from evaluator_cases import DROP, DUP, EQ, ID, NE, SEQ, SET, STAR, SUM, World, random_policy, stepped, terms
 from policy_cases import answer as legality
 from policy_cases import lists
-from stored import store
 
 WORK = 16384
+RULES = ["a", "b", "c", "d"]
 
 
 class Pair:
@@ -76,17 +71,18 @@ class Pair:
 
 
 def answer(sizes, policies, rows, lengths, words, last):
-    """The answer with the rows again and again in lists of these lengths, a row put last instead, and so many words."""
+    """The answer with the rows again and again in lists of these lengths, a row put last instead, and so many words; and
+    whether the work list is set to 0."""
     said = legality(sizes, policies)
     if said.startswith("refused"):
-        return said + ", work 0 found"
+        return said, False
     if len(set(lengths)) > 1 or lengths[0] > 65535 or words < WORK:
-        return "refused 10 0 0, work 0 found"
+        return "refused 10 0 0", False
     pair = Pair(sizes, *(list(zip(*policy)) for policy in policies))
     table = list(itertools.islice(itertools.cycle(rows), lengths[0])) if rows else [(0, 0, 0)] * lengths[0]
     if last and table:
         table[-1] = tuple(last)
-    return "%s, work %d found" % (pair.check(table), words)
+    return pair.check(table), True
 
 
 # ---- policies
@@ -269,31 +265,29 @@ def cases():
         yield sizes, (lists(left), lists(right)), rows, [len(rows)] * 3, WORK, []
 
 
-def halves(masks):
-    """High and low halves; where all high ones are 0, one 0 stands for them."""
-    high = [m >> 16 for m in masks]
-    return [high if any(high) else high[:1], [m & 65535 for m in masks]]
+def column(entries, length, last):
+    """The parts of a column of so many entries: these again and again, but the last."""
+    entries = entries or [0]
+    again, rest = divmod(length - len(last), len(entries))
+    return [(again, entries), (1, entries[:rest]), (1, last)]
 
 
-def main():
-    given, expected = [], []
+def calls():
     places = set()
     for sizes, policies, rows, lengths, words, last in cases():
-        packets, lefts, rights = (list(column) for column in zip(*rows)) if rows else ([], [], [])
-        columns = [sizes, *policies[0], *policies[1], packets, *halves(lefts), *halves(rights)]
-        given.append(" ".join([spread(c) for c in columns] + [str(n) for n in lengths + [words]] + [spread(last)]))
-        expected.append(answer(sizes, policies, rows, lengths, words, last))
-        said = expected[-1].split(",")[0].split()
-        if said[0] in "abcd":
-            spots = World(sizes).count if said[0] == "b" else lengths[0]
-            places.add((said[0], int(said[1]) == 0, int(said[1]) == spots - 1))
+        said, done = answer(sizes, policies, rows, lengths, words, last)
+        columns = zip(*rows) if rows else ([], [], [])
+        inputs = lists_of(sizes, *policies)
+        for place, (entries, length) in enumerate(zip(columns, lengths)):
+            inputs += numbers_of(column(list(entries), length, last[place:place + 1]), wide=place > 0)
+        word, *spot = said.split()
+        if word in RULES:
+            spots = World(sizes).count if word == "b" else lengths[0]
+            places.add((word, spot[0] == "0", int(spot[0]) == spots - 1))
+            said = " ".join(["rejected", str(RULES.index(word) + 1), *spot])
+        yield call(EVIDENCE, inputs + [words], said, cleared(words, done))
     # each rule is broken at a first, a middle and a last spot
-    for rule, place in itertools.product("abcd", ((True, False), (False, False), (False, True))):
+    for rule, place in itertools.product(RULES, ((True, False), (False, False), (False, True))):
         assert (rule, *place) in places, (rule, place)
     assert Pair(*P2).row_order(9) == P2_ROWS and Pair(*P5).row_order(9) == P5_ROWS and Pair(*P10).row_order(9) == P10_ROWS
     assert Pair(*P2).check(P2_ROWS) == "accepted" and Pair(*P2).check(P2_ROWS[:3]) == "d 1 1"
-    store("evidence_cases", given, expected, sys.argv[1:] == ["--check"])
-
-
-if __name__ == "__main__":
-    main()

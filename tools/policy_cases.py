@@ -1,14 +1,8 @@
-#!/usr/bin/env python3
-"""Writes the input and the expected output of the program policy_cases, worked out from document 01, "Policies" and
-"Causes, in the order tested".
-
-    tools/policy_cases.py            write crates/policy_cases/stdin and stdout
-    tools/policy_cases.py --check    compare them with what is stored
-"""
+"""Tests of one policy and of two, with what they answer worked out from document 01, "Policies" and "Causes, in the order
+tested". Two policies are tested by a search with no room at all: where they pass, it refuses by 10."""
 import random
-import sys
 
-from stored import store
+from calls import POLICY, SEARCH, call, lists_of, total
 
 DROP, ID, EQ, NE, SET, DUP, SUM, SEQ, STAR = range(9)
 
@@ -220,19 +214,11 @@ def cases():
         yield sizes, [lists(legal(rng, sizes, 40))]
 
 
-def spread(xs):
-    return "".join(" %d" % x for x in [len(xs)] + xs)
-
-
-def main():
-    given, expected = [], []
+def calls():
     for sizes, policies in cases():
-        given.append("%d%s" % (len(policies), spread(sizes) + "".join(spread(column) for policy in policies for column in policy)))
-        expected.append(answer(sizes, policies))
-    if sum(len(line) + 1 for line in given) > 65536:
-        sys.exit("the cases are longer than the program reads")
-    store("policy_cases", given, expected, sys.argv[1:] == ["--check"])
-
-
-if __name__ == "__main__":
-    main()
+        said, inputs = answer(sizes, policies), lists_of(sizes, *policies)
+        if len(policies) == 1:
+            yield call(POLICY, inputs, said.replace("legal", "done"))
+        else:
+            none = total([], 0)
+            yield call(SEARCH, inputs + [0] * 6, said if said.startswith("refused") else "refused 10 0 0", *[none] * 6)

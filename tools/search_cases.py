@@ -1,48 +1,14 @@
-#!/usr/bin/env python3
-"""Writes the input and the expected output of the program search_cases, worked out from document 01, "States and rows"
-and "Causes, in the order tested"; output and next by way of document 004's right spines.
-
-    tools/search_cases.py            write crates/search_cases/stdin and stdout
-    tools/search_cases.py --check    compare them with what is stored
-"""
+"""Searches, with what they answer and leave in the lists worked out from document 01, "States and rows" and "Causes, in the
+order tested"; output and next by way of document 004's right spines."""
 import random
-import sys
 
-from evaluator_cases import DROP, DUP, EQ, ID, SEQ, SET, STAR, SUM, random_policy, spread, stepped, terms, World
+from calls import SEARCH, call, cleared, lists_of, total
+from evaluator_cases import DROP, DUP, EQ, ID, SET, STAR, World, random_policy, stepped, terms
 from evidence_cases import P2, P5, P10, damaged, dups, equal_pairs, seq_of, starred, sum_of
 from policy_cases import answer as legality
 from policy_cases import lists
-from stored import store
 
 WORK = 16384
-ARRAY = 65537
-WORDS = 20000
-PRIME = 4294967291
-
-
-def found(i):
-    """What entry i of each lent list holds before the call."""
-    return i % 251 + 2001
-
-
-class Filled:
-    """A list filled before the call: the number worked out of all its entries, once the first of them are others."""
-
-    def __init__(self, length):
-        self.powers, self.beyond = [1], [0]
-        for i in reversed(range(length)):
-            self.beyond.append((found(i) * self.powers[-1] + self.beyond[-1]) % PRIME)
-            self.powers.append(self.powers[-1] * 31 % PRIME)
-
-    def total(self, first):
-        total = 0
-        for entry in first:
-            total = (total * 31 + entry) % PRIME
-        rest = len(self.powers) - 1 - len(first)
-        return (total * self.powers[rest] + self.beyond[rest]) % PRIME
-
-
-LIST, WORK_LIST = Filled(ARRAY), Filled(WORDS)
 
 
 def run(sizes, policies, room, most):
@@ -86,24 +52,17 @@ def run(sizes, policies, room, most):
 
 
 def answer(sizes, policies, lengths):
+    """The answer in words, and the sums over the lent lists."""
     *row_lists, most, words = lengths
-    said, rows, trace, cleared = legality(sizes, policies), [], None, 0
+    said, rows, trace, done = legality(sizes, policies), [], None, False
     if not said.startswith("refused"):
         if len(set(row_lists)) > 1 or row_lists[0] > 65535 or words < WORK:
             said = "refused 10 0 0"
         else:
             said, rows, trace = run(sizes, policies, row_lists[0], most)
-            cleared = words
-    trace = trace or []
-    line = said
-    if row_lists[0] <= 8:
-        beyond = [(found(i),) * 4 for i in range(len(rows), row_lists[0])]
-        line += ", rows" + "".join(" %d,%d,%d,%d" % row for row in rows + beyond)
-    if most <= 8:
-        line += ", trace" + "".join(" %d" % p for p in trace + [found(i) for i in range(len(trace), most)])
-    firsts = ([row[column] for row in rows] for column in range(4))
-    sums = [LIST.total(first) for first in (*firsts, trace)] + [WORK_LIST.total([0] * cleared)]
-    return line + ", lists" + "".join(" %d" % n for n in sums)
+            done = True
+    columns = [total([row[column] for row in rows], length) for column, length in enumerate(row_lists)]
+    return said, [*columns, total(trace or [], most), cleared(words, done)]
 
 
 # ---- cases
@@ -206,16 +165,10 @@ def cases():
         yield sizes, (lists(left), lists(right)), [rng.choice((7, 40, 400))] * 4 + [rng.choice((1, 8, 40)), WORK]
 
 
-def main():
-    given, expected = [], []
+def calls():
+    found = set()
     for sizes, policies, lengths in cases():
-        given.append(" ".join([spread(c) for c in [sizes, *policies[0], *policies[1]]] + [str(n) for n in lengths]))
-        expected.append(answer(sizes, policies, lengths))
-    said = [line.split(",")[0].split() for line in expected]
-    assert {s[0] for s in said} == {"equal", "left", "right", "refused"}
-    assert {int(s[1]) for s in said if s[0] == "refused"} == set(range(1, 13))
-    store("search_cases", given, expected, sys.argv[1:] == ["--check"])
-
-
-if __name__ == "__main__":
-    main()
+        said, sums = answer(sizes, policies, lengths)
+        found.add(" ".join(said.split()[:2]) if said.startswith("refused") else said.split()[0])
+        yield call(SEARCH, lists_of(sizes, *policies) + lengths, said, *sums)
+    assert found == {"equal", "left", "right"} | {"refused %d" % number for number in range(1, 13)}

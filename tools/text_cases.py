@@ -1,14 +1,8 @@
-#!/usr/bin/env python3
-"""Writes the input and the expected output of the program text_cases, worked out from document 01, "Text" and causes 14 to 17.
-
-    tools/text_cases.py            write crates/text_cases/stdin and stdout
-    tools/text_cases.py --check    compare them with what is stored
-"""
+"""Texts read, with what the reader answers worked out from document 01, "Text" and causes 14 to 17."""
 import random
 import string
-import sys
 
-from stored import store
+from calls import READ, call, numbers_of, total
 
 WORD = set((string.ascii_letters + string.digits).encode())
 SINGLE = {ord(c): c for c in "=+;*()"}
@@ -137,33 +131,16 @@ def read(text, lengths):
 
 
 def expected(text, lengths):
+    """The answer in words, and the nodes written."""
     try:
         nodes = read(text, lengths)
-        answer = "nodes %d" % len(nodes)
+        return "done %d" % len(nodes), nodes
     except Refused as refused:
-        nodes = []
-        answer = "refused %d 0 %d" % refused.answer
-    lists = []
-    for column, (name, length) in enumerate(zip(("kind", "first", "second"), lengths)):
-        entries = [node[column] for node in nodes] + [7] * (length - len(nodes))
-        lists.append(", " + name + "".join(" %d" % entry for entry in entries))
-    return answer + "".join(lists)
-
-
-def numbers_of(parts):
-    """The number of parts, and for each how often it stands there, its length and its bytes."""
-    numbers = [len(parts)]
-    for times, part in parts:
-        numbers += [times, len(part)] + list(part)
-    return numbers
+        return "refused %d 0 %d" % refused.answer, []
 
 
 def joined(parts):
     return b"".join(part * times for times, part in parts)
-
-
-def given(parts, lengths):
-    return " ".join(map(str, list(lengths) + numbers_of(parts)))
 
 
 def parts_of(*parts):
@@ -276,24 +253,20 @@ LONG = [
     (["f1=1", (255, ";dup")], 512),
     (["id", (256, ";id")], 600),
     (["id;;", (512, "*")], 600),
-    # a megabyte
-    (["id", (349524, ";id")], 5),
-    (["id", (349524, "+id"), ";"], 5),
-    ([(1048576, " ")], 5),
-    ([(1048576, "1")], 5),
-    ([(524288, "( ")], 5),
-    (["dup", (1048573, "*")], 5),
-    (["dup", (1048572, "*"), "!"], 5),
-    ([(64, "("), "id", (64, ")"), (1048000, " "), "?"], 5),
+    # as long as the program that runs them holds
+    (["id", (2730, ";id")], 5),
+    (["id", (2729, "+id"), ";"], 5),
+    ([(8192, " ")], 5),
+    ([(8192, "1")], 5),
+    ([(4096, "( ")], 5),
+    (["dup", (8189, "*")], 5),
+    (["dup", (8188, "*"), "!"], 5),
+    ([(64, "("), "id", (64, ")"), (8061, " "), "?"], 5),
 ]
 
 
-def main():
-    cases = list(all_cases())
-    lines = [given(parts, lengths) for parts, lengths in cases]
-    answers = [expected(joined(parts), lengths) for parts, lengths in cases]
-    store("text_cases", lines, answers, "--check" in sys.argv[1:])
-
-
-if __name__ == "__main__":
-    main()
+def calls():
+    for parts, lengths in all_cases():
+        said, nodes = expected(joined(parts), lengths)
+        sums = (total([node[column] for node in nodes], length) for column, length in enumerate(lengths))
+        yield call(READ, numbers_of(parts) + list(lengths), said, *sums)

@@ -1,17 +1,11 @@
-#!/usr/bin/env python3
-"""Writes the input and the expected output of the program traces_cases, worked out from document 01 by a reading of
-document 000's Figure 1: which part of a trace each node of a policy can have written, and, for short traces, the sets of
-traces themselves.
-
-    tools/traces_cases.py            write crates/traces_cases/stdin and stdout
-    tools/traces_cases.py --check    compare them with what is stored
-"""
+"""Traces checked, with what the trace checker answers worked out from document 01 by a reading of document 000's Figure 1: which
+part of a trace each node of a policy can have written, and, for short traces, the sets of traces themselves."""
 import random
 import sys
 
+from calls import TRACE, call, cleared, lists_of, numbers_of
 from policy_cases import DROP, ID, EQ, NE, SET, DUP, SUM, SEQ, STAR, chain, legal, lists, stars
 from policy_cases import answer as legality
-from stored import store
 
 sys.setrecursionlimit(10000)
 WORDS = 16384
@@ -137,21 +131,12 @@ class Case:
         self.left, self.right = (p if isinstance(p, tuple) else lists(p) for p in (left, right))
         self.part, self.rest = list(part), list(rest)
 
-    def given(self):
-        columns = [self.sizes, *self.left, *self.right]
-        return " ".join(
-            [spread(c) for c in columns]
-            + [str(self.entering), str(self.words), str(self.times), spread(self.part), spread(self.rest)]
-        )
-
-    def expected(self):
+    def call(self):
         trace = self.part * self.times + self.rest
-        said, cleared = answer(self.sizes, self.left, self.right, self.entering, trace, self.words)
-        return "%s, work %d %d" % (said, self.words if cleared else 0, 0 if cleared else self.words)
-
-
-def spread(xs):
-    return "%d%s" % (len(xs), "".join(" %d" % x for x in xs))
+        said, done = answer(self.sizes, self.left, self.right, self.entering, trace, self.words)
+        parts = numbers_of([(self.times, self.part), (1, self.rest)])
+        inputs = [*lists_of(self.sizes, self.left, self.right), self.entering, *parts, self.words]
+        return said, call(TRACE, inputs, said, cleared(self.words, done))
 
 
 def leaf(kind, a=0, b=0):
@@ -288,16 +273,8 @@ def random_pairs():
                 yield Case(sizes, left, right, entering, trace)
 
 
-def main():
-    cases = [c for group in (pairs, out_of_range, work_lists, refusals, long, random_pairs) for c in group()]
-    expected = [c.expected() for c in cases]
-    for said in ("left", "right", "both", "neither"):
-        assert sum(e.startswith(said) for e in expected) > 20, said
-    given = [c.given() for c in cases]
-    # the program reads no more
-    assert sum(len(line) + 1 for line in given) <= 65536
-    store("traces_cases", given, expected, sys.argv[1:] == ["--check"])
-
-
-if __name__ == "__main__":
-    main()
+def calls():
+    cases = [c.call() for group in (pairs, out_of_range, work_lists, refusals, long, random_pairs) for c in group()]
+    for word in ("left", "right", "both", "neither"):
+        assert sum(said == word for said, _ in cases) > 20, word
+    return [stored for _, stored in cases]

@@ -1,12 +1,5 @@
-#!/usr/bin/env python3
-"""Writes the input and the expected output of the program turning_cases, worked out from document 01, "Packets".
-
-    tools/turning_cases.py            write crates/turning_cases/stdin and stdout
-    tools/turning_cases.py --check    compare them with what is stored
-"""
-import sys
-
-from stored import store
+"""Calls that turn numbers into values and back, with what they answer worked out from document 01, "Packets"."""
+from calls import BEFORE, NUMBER, VALUES, call, numbers_of, once, total
 
 
 def refusal(sizes, length):
@@ -26,20 +19,20 @@ def refusal(sizes, length):
     return None
 
 
-def values_of(sizes, number, lent):
-    refused = refusal(sizes, len(lent))
+def values_of(sizes, number, length):
+    refused = refusal(sizes, length)
     count = 1
     for size in sizes:
         count *= size
     if not refused and number >= count:
         refused = (13, 0)
     if refused:
-        return "refused %d 0 %d" % refused, lent
+        return "refused %d 0 %d" % refused, [BEFORE] * length
     values = []
     for size in reversed(sizes):
         number, value = divmod(number, size)
         values.insert(0, value)
-    return "written", values
+    return "done", values
 
 
 def number_of(sizes, values):
@@ -54,7 +47,7 @@ def number_of(sizes, values):
     number = 0
     for size, value in zip(sizes, values):
         number = number * size + value
-    return "packet %d" % number
+    return "done %d" % number
 
 
 SIZES = [
@@ -64,40 +57,32 @@ SIZES = [
 
 
 def cases():
+    """Of values the sizes, the number and the length of the lent list; of number the sizes and the values."""
     for sizes in SIZES:
         for number in (0, 1, 11, 12, 33, 59, 60, 119, 120, 129, 1023, 1024, 65535):
-            yield 0, sizes, number, [7] * len(sizes)
+            yield VALUES, sizes, number, len(sizes)
         for length in (len(sizes) - 1, len(sizes) + 1):
             if length >= 0:
-                yield 0, sizes, 0, list(range(100, 100 + length))
-                yield 0, sizes, 65535, list(range(100, 100 + length))
-                yield 1, sizes, 0, [65535] * length
+                yield VALUES, sizes, 0, length
+                yield VALUES, sizes, 65535, length
+                yield NUMBER, sizes, [65535] * length
         top = [max(size, 1) - 1 for size in sizes]
-        yield 1, sizes, 0, top
-        yield 1, sizes, 0, [0] * len(sizes)
+        yield NUMBER, sizes, top
+        yield NUMBER, sizes, [0] * len(sizes)
         for field in range(len(sizes)):
             high = list(top)
             high[field] = sizes[field]
-            yield 1, sizes, 0, high
-            yield 1, sizes, 0, [0] * field + [65535] * (len(sizes) - field)
-            yield 1, sizes, 0, [t if i == field else 0 for i, t in enumerate(top)]
+            yield NUMBER, sizes, high
+            yield NUMBER, sizes, [0] * field + [65535] * (len(sizes) - field)
+            yield NUMBER, sizes, [t if i == field else 0 for i, t in enumerate(top)]
 
 
-def spread(xs):
-    return "".join(" %d" % x for x in xs)
-
-
-def main():
-    given, expected = [], []
-    for call, sizes, number, lent in cases():
-        given.append("%d %d%s %d %d%s" % (call, len(sizes), spread(sizes), number, len(lent), spread(lent)))
-        if call == 0:
-            answer, left = values_of(sizes, number, lent)
-            expected.append("%s, list%s" % (answer, spread(left)))
+def calls():
+    for which, sizes, *given in cases():
+        inputs = numbers_of(once(sizes))
+        if which == VALUES:
+            number, length = given
+            said, values = values_of(sizes, number, length)
+            yield call(VALUES, inputs + [number, length], said, total(values, length))
         else:
-            expected.append(number_of(sizes, lent))
-    store("turning_cases", given, expected, sys.argv[1:] == ["--check"])
-
-
-if __name__ == "__main__":
-    main()
+            yield call(NUMBER, inputs + numbers_of(once(*given)), number_of(sizes, *given))

@@ -1,9 +1,8 @@
-// Reading the numbers of cases from standard input and writing the answers, for the programs that run cases through
-// the public calls. What such a program writes is held to its stored output.
+// Reading the numbers of cases from standard input and writing the answers, for the programs that run cases. What such a
+// program writes is held to its stored output.
 ghost use mathlib.Core.Path.{_≡_};
 ghost use Prim.Native.Nat.{_≤_};
 ghost use lib.ListN.{length};
-use packet::Refusal;
 
 // A number of the input, and the place behind it.
 pub struct Scanned {
@@ -246,23 +245,4 @@ pub fn space() {
 
 pub fn line_end() {
     io::write_all(1, b"\n");
-}
-
-pub fn refused(r: Refusal) {
-    io::write_all(1, b"refused ");
-    number(r.number as u64);
-    space();
-    number(r.side as u64);
-    space();
-    number(r.place);
-}
-
-// A list's numbers, each after a space.
-pub fn list(xs: &[u16]) {
-    let mut i = 0;
-    while i < xs.len() {
-        space();
-        number(wide(xs[i]));
-        i += 1;
-    }
 }

@@ -1,95 +1,191 @@
 // Runs the calls of its input through the C interface, and writes of each the eight numbers of the answer, then a sum over each
-// list that the call may write, as it stands after the call. What it must write is worked out by the second implementation.
+// list that the call may write, as it stands after the call. What it must write is worked out by the scripts tools/*_cases.py
+// and by the second implementation (reference/).
 //
-// A call is its number (0 values, 1 number, 2 policy, 3 read, 4 search, 5 evidence, 6 trace, 7 search on texts), then its inputs in the order of
-// include/netkat.h. A list is its length, how many of its numbers are given, and these; the last of them stands for the
-// rest. A number of 32 bits is given as its upper and its lower half.
+// A call is its number (0 values, 1 number, 2 policy, 3 read, 4 search, 5 evidence, 6 trace, 7 search on texts), then what it
+// takes, in the order of include/netkat.h. A list that the call may write is its length; each entry is 7 before the call. A
+// list that it only reads is the number of its parts, and for each part how often it stands there, at least once, how many
+// entries it has, at least one, and these. An entry of 32 bits is its upper and its lower half.
 use harness::Scanned;
 ghost use mathlib.Core.Path.{_≡_};
 ghost use Prim.Native.Nat.{_≤_};
 ghost use lib.ListN.{length};
 
-// A list read: how many entries, and the place behind it in the input.
-struct Filled {
-    count: usize,
+// Where a list is being read: the parts and the turns of the part that are left, where the part's entries start and how many
+// they are, those left of this turn; whether there was a further entry, and which.
+struct Place {
+    parts: u32,
+    turns: u32,
+    start: usize,
+    count: u32,
+    left: u32,
     at: usize,
+    more: bool,
+    entry: u32,
 }
 
-// The next number where one is given, else the last again.
-fn next(input: &[u8], at: usize, given: bool, last: u32) -> Scanned {
-    if given {
-        return harness::scan(input, at);
+fn less(n: u32) -> u32 {
+    if n == 0 {
+        return 0;
     }
-    Scanned { value: last, at }
+    n - 1
 }
 
-fn next_wide(input: &[u8], at: usize, given: bool, last: u32) -> Scanned {
-    if given {
-        let upper = harness::scan(input, at);
+fn list_at(input: &[u8], from: usize) -> Place {
+    let parts = harness::scan(input, from);
+    Place {
+        parts: parts.value,
+        turns: 0,
+        start: parts.at,
+        count: 0,
+        left: 0,
+        at: parts.at,
+        more: false,
+        entry: 0,
+    }
+}
+
+fn entry(input: &[u8], from: usize, wide: bool) -> Scanned {
+    let upper = harness::scan(input, from);
+    if wide {
         let lower = harness::scan(input, upper.at);
         return Scanned {
             value: upper.value % 65536 * 65536 + lower.value % 65536,
             at: lower.at,
         };
     }
-    Scanned { value: last, at }
+    upper
 }
 
-fn fill8(input: &[u8], from: usize, list: &mut [u8]) -> Filled
-    ensures { λ r. ⌜ r .count ≤ length (now (list .entry)) ⌝ }
-{
-    let wanted = harness::scan(input, from);
-    let given = harness::scan(input, wanted.at);
-    let count = harness::least(harness::size(wanted.value), list.len());
-    let mut at = given.at;
-    let mut last: u32 = 0;
-    let mut i: usize = 0;
-    while i < count {
-        let s = next(input, at, i < harness::size(given.value), last);
-        last = s.value;
-        at = s.at;
-        list[i] = (last % 256) as u8;
-        i += 1;
+// With the next entry read, at a place where entries of the turn are left.
+fn taken(input: &[u8], p: Place, wide: bool) -> Place {
+    let e = entry(input, p.at, wide);
+    Place {
+        parts: p.parts,
+        turns: p.turns,
+        start: p.start,
+        count: p.count,
+        left: less(p.left),
+        at: e.at,
+        more: true,
+        entry: e.value,
     }
-    Filled { count, at }
 }
 
-fn fill16(input: &[u8], from: usize, list: &mut [u16]) -> Filled
-    ensures { λ r. ⌜ r .count ≤ length (now (list .entry)) ⌝ }
-{
-    let wanted = harness::scan(input, from);
-    let given = harness::scan(input, wanted.at);
-    let count = harness::least(harness::size(wanted.value), list.len());
-    let mut at = given.at;
-    let mut last: u32 = 0;
-    let mut i: usize = 0;
-    while i < count {
-        let s = next(input, at, i < harness::size(given.value), last);
-        last = s.value;
-        at = s.at;
-        list[i] = (last % 65536) as u16;
-        i += 1;
+// The next entry, in this turn, in the part's next turn or in the next part; or the list's end.
+fn next(input: &[u8], p: Place, wide: bool) -> Place {
+    if p.left != 0 {
+        return taken(input, p, wide);
     }
-    Filled { count, at }
+    if p.turns != 0 {
+        return taken(
+            input,
+            Place {
+                parts: p.parts,
+                turns: less(p.turns),
+                start: p.start,
+                count: p.count,
+                left: p.count,
+                at: p.start,
+                more: true,
+                entry: 0,
+            },
+            wide,
+        );
+    }
+    if p.parts != 0 {
+        let turns = harness::scan(input, p.at);
+        let count = harness::scan(input, turns.at);
+        return taken(
+            input,
+            Place {
+                parts: less(p.parts),
+                turns: less(turns.value),
+                start: count.at,
+                count: count.value,
+                left: count.value,
+                at: count.at,
+                more: true,
+                entry: 0,
+            },
+            wide,
+        );
+    }
+    Place {
+        parts: 0,
+        turns: 0,
+        start: p.start,
+        count: 0,
+        left: 0,
+        at: p.at,
+        more: false,
+        entry: 0,
+    }
 }
 
-fn fill32(input: &[u8], from: usize, list: &mut [u32]) -> Filled
-    ensures { λ r. ⌜ r .count ≤ length (now (list .entry)) ⌝ }
+// How many entries a list has, and the place behind it in the input.
+struct Counted {
+    count: usize,
+    at: usize,
+}
+
+// The length of a list that the call may write.
+fn lent(input: &[u8], from: usize, most: usize) -> Counted
+    ensures { λ r. ⌜ r .count ≤ most ⌝ }
 {
     let wanted = harness::scan(input, from);
-    let given = harness::scan(input, wanted.at);
-    let count = harness::least(harness::size(wanted.value), list.len());
-    let mut at = given.at;
-    let mut last: u32 = 0;
+    Counted {
+        count: harness::least(harness::size(wanted.value), most),
+        at: wanted.at,
+    }
+}
+
+fn fill8(input: &[u8], from: usize, list: &mut [u8]) -> Counted
+    ensures { λ r. ⌜ r .count ≤ length (now (list .exit)) ⌝ }
+{
+    let mut p = list_at(input, from);
     let mut i: usize = 0;
-    while i < count {
-        let s = next_wide(input, at, i < harness::size(given.value), last);
-        last = s.value;
-        at = s.at;
-        list[i] = last;
+    while i < list.len() {
+        p = next(input, p, false);
+        if !p.more {
+            return Counted { count: i, at: p.at };
+        }
+        list[i] = (p.entry % 256) as u8;
         i += 1;
     }
-    Filled { count, at }
+    Counted { count: i, at: p.at }
+}
+
+fn fill16(input: &[u8], from: usize, list: &mut [u16]) -> Counted
+    ensures { λ r. ⌜ r .count ≤ length (now (list .exit)) ⌝ }
+{
+    let mut p = list_at(input, from);
+    let mut i: usize = 0;
+    while i < list.len() {
+        p = next(input, p, false);
+        if !p.more {
+            return Counted { count: i, at: p.at };
+        }
+        list[i] = (p.entry % 65536) as u16;
+        i += 1;
+    }
+    Counted { count: i, at: p.at }
+}
+
+fn fill32(input: &[u8], from: usize, list: &mut [u32]) -> Counted
+    ensures { λ r. ⌜ r .count ≤ length (now (list .exit)) ⌝ }
+{
+    let mut p = list_at(input, from);
+    let mut i: usize = 0;
+    while i < list.len() {
+        p = next(input, p, true);
+        if !p.more {
+            return Counted { count: i, at: p.at };
+        }
+        list[i] = p.entry;
+        i += 1;
+    }
+    Counted { count: i, at: p.at }
 }
 
 fn added(sum: u64, x: u64) -> u64 {
@@ -113,30 +209,34 @@ fn show_sum(sum: u64) {
     harness::number(sum);
 }
 
-fn sum8(list: &[u8]) {
+// The sum over the first entries.
+fn sum8(list: &[u8; 600], count: usize) {
+    let n = harness::least(count, 600);
     let mut sum: u64 = 1;
-    let mut i = 0;
-    while i < list.len() {
+    let mut i: usize = 0;
+    while i < n {
         sum = added(sum, wide8(list[i]));
         i += 1;
     }
     show_sum(sum);
 }
 
-fn sum16(list: &[u16]) {
+fn sum16(list: &[u16; 66000], count: usize) {
+    let n = harness::least(count, 66000);
     let mut sum: u64 = 1;
-    let mut i = 0;
-    while i < list.len() {
+    let mut i: usize = 0;
+    while i < n {
         sum = added(sum, harness::wide(list[i]));
         i += 1;
     }
     show_sum(sum);
 }
 
-fn sum32(list: &[u32]) {
+fn sum32(list: &[u32; 66000], count: usize) {
+    let n = harness::least(count, 66000);
     let mut sum: u64 = 1;
-    let mut i = 0;
-    while i < list.len() {
+    let mut i: usize = 0;
+    while i < n {
         sum = added(sum, wide32(list[i]));
         i += 1;
     }
@@ -151,46 +251,37 @@ fn show(answer: &[u64; 8]) {
     }
 }
 
-fn values_shown(sizes: &[u16], number: u16, values: &mut [u16]) {
-    let mut answer = [7u64; 8];
-    exports::netkat_values(sizes, number, values, &mut answer);
-    show(&answer);
-    sum16(values);
-}
-
 fn values(input: &[u8], from: usize) -> usize {
     let mut sizes = [0u16; 32];
-    let s = fill16(input, from, &mut sizes);
-    let number = harness::scan(input, s.at);
-    let mut values = [0u16; 32];
-    let v = fill16(input, number.at, &mut values);
-    let d = s.count;
-    let n = v.count;
-    values_shown(&sizes[..d], (number.value % 65536) as u16, &mut values[..n]);
-    v.at
-}
-
-fn number_shown(sizes: &[u16], values: &[u16]) {
+    let z = fill16(input, from, &mut sizes);
+    let number = harness::scan(input, z.at);
+    let v = lent(input, number.at, 66000);
+    let mut values = [7u16; 66000];
+    let zn = z.count;
+    let vn = v.count;
     let mut answer = [7u64; 8];
-    exports::netkat_number(sizes, values, &mut answer);
+    exports::netkat_values(
+        &sizes[..zn],
+        (number.value % 65536) as u16,
+        &mut values[..vn],
+        &mut answer,
+    );
     show(&answer);
+    sum16(&values, vn);
+    v.at
 }
 
 fn number(input: &[u8], from: usize) -> usize {
     let mut sizes = [0u16; 32];
-    let s = fill16(input, from, &mut sizes);
+    let z = fill16(input, from, &mut sizes);
     let mut values = [0u16; 32];
-    let v = fill16(input, s.at, &mut values);
-    let d = s.count;
-    let n = v.count;
-    number_shown(&sizes[..d], &values[..n]);
-    v.at
-}
-
-fn policy_shown(sizes: &[u16], kind: &[u8], first: &[u16], second: &[u16]) {
+    let v = fill16(input, z.at, &mut values);
+    let zn = z.count;
+    let vn = v.count;
     let mut answer = [7u64; 8];
-    exports::netkat_policy(sizes, kind, first, second, &mut answer);
+    exports::netkat_number(&sizes[..zn], &values[..vn], &mut answer);
     show(&answer);
+    v.at
 }
 
 fn policy(input: &[u8], from: usize) -> usize {
@@ -199,87 +290,51 @@ fn policy(input: &[u8], from: usize) -> usize {
     let mut kind = [0u8; 600];
     let k = fill8(input, z.at, &mut kind);
     let mut first = [0u16; 600];
-    let f = fill16(input, k.at, &mut first);
+    let fi = fill16(input, k.at, &mut first);
     let mut second = [0u16; 600];
-    let s = fill16(input, f.at, &mut second);
+    let se = fill16(input, fi.at, &mut second);
     let zn = z.count;
     let kn = k.count;
-    let fnn = f.count;
-    let sn = s.count;
-    policy_shown(&sizes[..zn], &kind[..kn], &first[..fnn], &second[..sn]);
-    s.at
-}
-
-fn read_shown(text: &[u8], kind: &mut [u8], first: &mut [u16], second: &mut [u16]) {
+    let fin = fi.count;
+    let sen = se.count;
     let mut answer = [7u64; 8];
-    exports::netkat_read(text, kind, first, second, &mut answer);
+    exports::netkat_policy(
+        &sizes[..zn],
+        &kind[..kn],
+        &first[..fin],
+        &second[..sen],
+        &mut answer,
+    );
     show(&answer);
-    sum8(kind);
-    sum16(first);
-    sum16(second);
+    se.at
 }
 
 fn read(input: &[u8], from: usize) -> usize {
     let mut text = [0u8; 8192];
     let t = fill8(input, from, &mut text);
-    let mut kind = [0u8; 600];
-    let k = fill8(input, t.at, &mut kind);
-    let mut first = [0u16; 600];
-    let f = fill16(input, k.at, &mut first);
-    let mut second = [0u16; 600];
-    let s = fill16(input, f.at, &mut second);
+    let k = lent(input, t.at, 600);
+    let mut kind = [7u8; 600];
+    let fi = lent(input, k.at, 66000);
+    let mut first = [7u16; 66000];
+    let se = lent(input, fi.at, 66000);
+    let mut second = [7u16; 66000];
     let tn = t.count;
     let kn = k.count;
-    let fnn = f.count;
-    let sn = s.count;
-    read_shown(
+    let fin = fi.count;
+    let sen = se.count;
+    let mut answer = [7u64; 8];
+    exports::netkat_read(
         &text[..tn],
         &mut kind[..kn],
-        &mut first[..fnn],
-        &mut second[..sn],
-    );
-    s.at
-}
-
-fn search_shown(
-    sizes: &[u16],
-    left_kind: &[u8],
-    left_first: &[u16],
-    left_second: &[u16],
-    right_kind: &[u8],
-    right_first: &[u16],
-    right_second: &[u16],
-    packet: &mut [u16],
-    left: &mut [u32],
-    right: &mut [u32],
-    parent: &mut [u16],
-    trace: &mut [u16],
-    work: &mut [u32],
-) {
-    let mut answer = [7u64; 8];
-    exports::netkat_search(
-        sizes,
-        left_kind,
-        left_first,
-        left_second,
-        right_kind,
-        right_first,
-        right_second,
-        packet,
-        left,
-        right,
-        parent,
-        trace,
-        work,
+        &mut first[..fin],
+        &mut second[..sen],
         &mut answer,
     );
     show(&answer);
-    sum16(packet);
-    sum32(left);
-    sum32(right);
-    sum16(parent);
-    sum16(trace);
-    sum32(work);
+    sum8(&kind, kn);
+    sum16(&first, fin);
+    sum16(&second, sen);
+    se.at
 }
 
 fn search(
@@ -293,25 +348,26 @@ fn search(
     right_first: &[u16],
     right_second: &[u16],
 ) -> usize {
-    let mut packet = [0u16; 66000];
-    let p = fill16(input, from, &mut packet);
-    let mut left = [0u32; 66000];
-    let l = fill32(input, p.at, &mut left);
-    let mut right = [0u32; 66000];
-    let r = fill32(input, l.at, &mut right);
-    let mut parent = [0u16; 66000];
-    let q = fill16(input, r.at, &mut parent);
-    let mut trace = [0u16; 66000];
-    let t = fill16(input, q.at, &mut trace);
-    let mut work = [0u32; 20000];
-    let w = fill32(input, t.at, &mut work);
+    let p = lent(input, from, 66000);
+    let mut packet = [7u16; 66000];
+    let l = lent(input, p.at, 66000);
+    let mut left = [7u32; 66000];
+    let r = lent(input, l.at, 66000);
+    let mut right = [7u32; 66000];
+    let q = lent(input, r.at, 66000);
+    let mut parent = [7u16; 66000];
+    let t = lent(input, q.at, 66000);
+    let mut trace = [7u16; 66000];
+    let w = lent(input, t.at, 66000);
+    let mut work = [7u32; 66000];
     let pn = p.count;
     let ln = l.count;
     let rn = r.count;
     let qn = q.count;
     let tn = t.count;
     let wn = w.count;
-    search_shown(
+    let mut answer = [7u64; 8];
+    exports::netkat_search(
         sizes,
         left_kind,
         left_first,
@@ -325,125 +381,16 @@ fn search(
         &mut parent[..qn],
         &mut trace[..tn],
         &mut work[..wn],
-    );
-    w.at
-}
-
-fn texts_shown(
-    sizes: &[u16],
-    left_text: &[u8],
-    right_text: &[u8],
-    packet: &mut [u16],
-    left: &mut [u32],
-    right: &mut [u32],
-    parent: &mut [u16],
-    trace: &mut [u16],
-    work: &mut [u32],
-) {
-    let mut answer = [7u64; 8];
-    exports::netkat_search_texts(
-        sizes,
-        left_text,
-        right_text,
-        packet,
-        left,
-        right,
-        parent,
-        trace,
-        work,
         &mut answer,
     );
     show(&answer);
-    sum16(packet);
-    sum32(left);
-    sum32(right);
-    sum16(parent);
-    sum16(trace);
-    sum32(work);
-}
-
-fn texts_lent(
-    input: &[u8],
-    from: usize,
-    sizes: &[u16],
-    left_text: &[u8],
-    right_text: &[u8],
-) -> usize {
-    let mut packet = [0u16; 66000];
-    let p = fill16(input, from, &mut packet);
-    let mut left = [0u32; 66000];
-    let l = fill32(input, p.at, &mut left);
-    let mut right = [0u32; 66000];
-    let r = fill32(input, l.at, &mut right);
-    let mut parent = [0u16; 66000];
-    let q = fill16(input, r.at, &mut parent);
-    let mut trace = [0u16; 66000];
-    let t = fill16(input, q.at, &mut trace);
-    let mut work = [0u32; 20000];
-    let w = fill32(input, t.at, &mut work);
-    let pn = p.count;
-    let ln = l.count;
-    let rn = r.count;
-    let qn = q.count;
-    let tn = t.count;
-    let wn = w.count;
-    texts_shown(
-        sizes,
-        left_text,
-        right_text,
-        &mut packet[..pn],
-        &mut left[..ln],
-        &mut right[..rn],
-        &mut parent[..qn],
-        &mut trace[..tn],
-        &mut work[..wn],
-    );
+    sum16(&packet, pn);
+    sum32(&left, ln);
+    sum32(&right, rn);
+    sum16(&parent, qn);
+    sum16(&trace, tn);
+    sum32(&work, wn);
     w.at
-}
-
-fn texts(input: &[u8], from: usize) -> usize {
-    let mut sizes = [0u16; 32];
-    let z = fill16(input, from, &mut sizes);
-    let mut left = [0u8; 8192];
-    let l = fill8(input, z.at, &mut left);
-    let mut right = [0u8; 8192];
-    let r = fill8(input, l.at, &mut right);
-    let zn = z.count;
-    let ln = l.count;
-    let rn = r.count;
-    texts_lent(input, r.at, &sizes[..zn], &left[..ln], &right[..rn])
-}
-
-fn evidence_shown(
-    sizes: &[u16],
-    left_kind: &[u8],
-    left_first: &[u16],
-    left_second: &[u16],
-    right_kind: &[u8],
-    right_first: &[u16],
-    right_second: &[u16],
-    packet: &[u16],
-    left: &[u32],
-    right: &[u32],
-    work: &mut [u32],
-) {
-    let mut answer = [7u64; 8];
-    exports::netkat_evidence(
-        sizes,
-        left_kind,
-        left_first,
-        left_second,
-        right_kind,
-        right_first,
-        right_second,
-        packet,
-        left,
-        right,
-        work,
-        &mut answer,
-    );
-    show(&answer);
-    sum32(work);
 }
 
 fn evidence(
@@ -463,13 +410,14 @@ fn evidence(
     let l = fill32(input, p.at, &mut left);
     let mut right = [0u32; 66000];
     let r = fill32(input, l.at, &mut right);
-    let mut work = [0u32; 20000];
-    let w = fill32(input, r.at, &mut work);
+    let w = lent(input, r.at, 66000);
+    let mut work = [7u32; 66000];
     let pn = p.count;
     let ln = l.count;
     let rn = r.count;
     let wn = w.count;
-    evidence_shown(
+    let mut answer = [7u64; 8];
+    exports::netkat_evidence(
         sizes,
         left_kind,
         left_first,
@@ -481,38 +429,11 @@ fn evidence(
         &left[..ln],
         &right[..rn],
         &mut work[..wn],
-    );
-    w.at
-}
-
-fn trace_shown(
-    sizes: &[u16],
-    left_kind: &[u8],
-    left_first: &[u16],
-    left_second: &[u16],
-    right_kind: &[u8],
-    right_first: &[u16],
-    right_second: &[u16],
-    entering: u16,
-    trace: &[u16],
-    work: &mut [u32],
-) {
-    let mut answer = [7u64; 8];
-    exports::netkat_trace(
-        sizes,
-        left_kind,
-        left_first,
-        left_second,
-        right_kind,
-        right_first,
-        right_second,
-        entering,
-        trace,
-        work,
         &mut answer,
     );
     show(&answer);
-    sum32(work);
+    sum32(&work, wn);
+    w.at
 }
 
 fn trace(
@@ -529,11 +450,12 @@ fn trace(
     let entering = harness::scan(input, from);
     let mut trace = [0u16; 66000];
     let t = fill16(input, entering.at, &mut trace);
-    let mut work = [0u32; 20000];
-    let w = fill32(input, t.at, &mut work);
+    let w = lent(input, t.at, 66000);
+    let mut work = [7u32; 66000];
     let tn = t.count;
     let wn = w.count;
-    trace_shown(
+    let mut answer = [7u64; 8];
+    exports::netkat_trace(
         sizes,
         left_kind,
         left_first,
@@ -544,8 +466,78 @@ fn trace(
         (entering.value % 65536) as u16,
         &trace[..tn],
         &mut work[..wn],
+        &mut answer,
     );
+    show(&answer);
+    sum32(&work, wn);
     w.at
+}
+
+fn texts_read(
+    input: &[u8],
+    from: usize,
+    sizes: &[u16],
+    left_text: &[u8],
+    right_text: &[u8],
+) -> usize {
+    let p = lent(input, from, 66000);
+    let mut packet = [7u16; 66000];
+    let l = lent(input, p.at, 66000);
+    let mut left = [7u32; 66000];
+    let r = lent(input, l.at, 66000);
+    let mut right = [7u32; 66000];
+    let q = lent(input, r.at, 66000);
+    let mut parent = [7u16; 66000];
+    let t = lent(input, q.at, 66000);
+    let mut trace = [7u16; 66000];
+    let w = lent(input, t.at, 66000);
+    let mut work = [7u32; 66000];
+    let pn = p.count;
+    let ln = l.count;
+    let rn = r.count;
+    let qn = q.count;
+    let tn = t.count;
+    let wn = w.count;
+    let mut answer = [7u64; 8];
+    exports::netkat_search_texts(
+        sizes,
+        left_text,
+        right_text,
+        &mut packet[..pn],
+        &mut left[..ln],
+        &mut right[..rn],
+        &mut parent[..qn],
+        &mut trace[..tn],
+        &mut work[..wn],
+        &mut answer,
+    );
+    show(&answer);
+    sum16(&packet, pn);
+    sum32(&left, ln);
+    sum32(&right, rn);
+    sum16(&parent, qn);
+    sum16(&trace, tn);
+    sum32(&work, wn);
+    w.at
+}
+
+fn texts(input: &[u8], from: usize) -> usize {
+    let mut sizes = [0u16; 32];
+    let z = fill16(input, from, &mut sizes);
+    let mut left_text = [0u8; 8192];
+    let lt = fill8(input, z.at, &mut left_text);
+    let mut right_text = [0u8; 8192];
+    let rt = fill8(input, lt.at, &mut right_text);
+    let zn = z.count;
+    let ltn = lt.count;
+    let rtn = rt.count;
+    texts_read(
+        input,
+        rt.at,
+        &sizes[..zn],
+        &left_text[..ltn],
+        &right_text[..rtn],
+    )
 }
 
 // A call on two policies.
@@ -604,21 +596,21 @@ fn pair(call: u32, input: &[u8], from: usize) -> usize {
     let mut sizes = [0u16; 32];
     let z = fill16(input, from, &mut sizes);
     let mut left_kind = [0u8; 600];
-    let k = fill8(input, z.at, &mut left_kind);
+    let lk = fill8(input, z.at, &mut left_kind);
     let mut left_first = [0u16; 600];
-    let f = fill16(input, k.at, &mut left_first);
+    let lf = fill16(input, lk.at, &mut left_first);
     let mut left_second = [0u16; 600];
-    let s = fill16(input, f.at, &mut left_second);
+    let ls = fill16(input, lf.at, &mut left_second);
     let mut right_kind = [0u8; 600];
-    let rk = fill8(input, s.at, &mut right_kind);
+    let rk = fill8(input, ls.at, &mut right_kind);
     let mut right_first = [0u16; 600];
     let rf = fill16(input, rk.at, &mut right_first);
     let mut right_second = [0u16; 600];
     let rs = fill16(input, rf.at, &mut right_second);
     let zn = z.count;
-    let kn = k.count;
-    let fnn = f.count;
-    let sn = s.count;
+    let lkn = lk.count;
+    let lfn = lf.count;
+    let lsn = ls.count;
     let rkn = rk.count;
     let rfn = rf.count;
     let rsn = rs.count;
@@ -627,9 +619,9 @@ fn pair(call: u32, input: &[u8], from: usize) -> usize {
         input,
         rs.at,
         &sizes[..zn],
-        &left_kind[..kn],
-        &left_first[..fnn],
-        &left_second[..sn],
+        &left_kind[..lkn],
+        &left_first[..lfn],
+        &left_second[..lsn],
         &right_kind[..rkn],
         &right_first[..rfn],
         &right_second[..rsn],

@@ -11,6 +11,7 @@ pub fn cases() -> Vec<Case> {
     cases.extend(turning());
     cases.extend(policies());
     cases.extend(texts().iter().map(|text| read(text, 512)));
+    cases.extend(long_texts().iter().map(|text| read(text, 5)));
     cases.extend([read("dup*;id", 4), read("dup*;id", 3), read("id", 0)]);
     for pair in pairs() {
         cases.push(search_nodes(&pair, lent(&pair)));
@@ -206,6 +207,21 @@ fn texts() -> Vec<String> {
     texts.push(format!("id{};", "*".repeat(512)));
     texts.push(vec!["id"; 300].join("+"));
     texts
+}
+
+/// Texts of about a megabyte.
+fn long_texts() -> Vec<String> {
+    const MEGABYTE: usize = 1 << 20;
+    vec![
+        " ".repeat(MEGABYTE),
+        "1".repeat(MEGABYTE),
+        "( ".repeat(MEGABYTE / 2),
+        format!("dup{}", "*".repeat(MEGABYTE - 3)),
+        format!("dup{}!", "*".repeat(MEGABYTE - 4)),
+        format!("id{}", ";id".repeat(MEGABYTE / 3 - 1)),
+        format!("id{};", "+id".repeat(MEGABYTE / 3 - 1)),
+        format!("{}{}?", nested(64), " ".repeat(MEGABYTE - 131)),
+    ]
 }
 
 /// Sizes, two texts, rows and trace to lend.

@@ -1,8 +1,7 @@
--- `vectors::evidence`: the lists that it lends are within the lists read. Assumes nothing.
-use borrow.Author.Needs.{needs}
-use native.Mathlib.Omega.{arith}
+-- `vectors::evidence`: the lists that it lends are within the lists read or made. Assumes nothing.
 use mathlib.Core.Path.{refl, sym}
 use lib.Seq.{length-take-le}
+use Rattle.vectors.proofs.Made.{within, counted}
 use Rattle.vectors.proofs.evidence.Statement.{statement}
 use Rattle.vectors.proofs.evidence.Tie as tie
 
@@ -24,38 +23,41 @@ slice-aggregate-fill32-2 c = refl
 fill32-requires-2 : tie.Need-fill32-requires-2
 fill32-requires-2 c κs = tt
 
-slice-aggregate-fill32-3 : tie.Need-slice-aggregate-fill32-3
-slice-aggregate-fill32-3 c = refl
-
-fill32-requires-3 : tie.Need-fill32-requires-3
-fill32-requires-3 c κs = tt
+lent-requires : tie.Need-lent-requires
+lent-requires c κs = tt
 
 array-share-prefix-packet : tie.Need-array-share-prefix-packet
-array-share-prefix-packet c = omega (arith, c .before .before .before .before .before .before .before .before .before .before .fill16 .ensures, c .before .before .before .before .before .before .before .before .before .before .fill16 .kept .1 .1 .0)
+array-share-prefix-packet c = c .before .before .before .before .before .before .before .before .fill16 .ensures
 
-slice-aggregate-evidence-shown : tie.Need-slice-aggregate-evidence-shown
-slice-aggregate-evidence-shown c = sym (length-take-le _ _ (omega (arith, c .before .before .before .before .before .before .before .before .before .before .before .fill16 .ensures, c .before .before .before .before .before .before .before .before .before .before .before .fill16 .kept .1 .1 .0)))
+slice-aggregate-netkat-evidence : tie.Need-slice-aggregate-netkat-evidence
+slice-aggregate-netkat-evidence c = sym (length-take-le _ _ (c .before .before .before .before .before .before .before .before .before .fill16 .ensures))
 
 array-share-prefix-left : tie.Need-array-share-prefix-left
-array-share-prefix-left c = omega (arith, c .before .before .before .before .before .before .before .before .fill32 .ensures, c .before .before .before .before .before .before .before .before .fill32 .kept .1 .1 .0)
+array-share-prefix-left c = c .before .before .before .before .before .before .fill32 .ensures
 
-slice-aggregate-evidence-shown-2 : tie.Need-slice-aggregate-evidence-shown-2
-slice-aggregate-evidence-shown-2 c = sym (length-take-le _ _ (omega (arith, c .before .before .before .before .before .before .before .before .before .fill32 .ensures, c .before .before .before .before .before .before .before .before .before .fill32 .kept .1 .1 .0)))
+slice-aggregate-netkat-evidence-2 : tie.Need-slice-aggregate-netkat-evidence-2
+slice-aggregate-netkat-evidence-2 c = sym (length-take-le _ _ (c .before .before .before .before .before .before .before .fill32 .ensures))
 
 array-share-prefix-right : tie.Need-array-share-prefix-right
-array-share-prefix-right c = omega (arith, c .before .before .before .before .before .before .fill322 .ensures, c .before .before .before .before .before .before .fill322 .kept .1 .1 .0)
+array-share-prefix-right c = c .before .before .before .before .fill322 .ensures
 
-slice-aggregate-evidence-shown-3 : tie.Need-slice-aggregate-evidence-shown-3
-slice-aggregate-evidence-shown-3 c = sym (length-take-le _ _ (omega (arith, c .before .before .before .before .before .before .before .fill322 .ensures, c .before .before .before .before .before .before .before .fill322 .kept .1 .1 .0)))
+slice-aggregate-netkat-evidence-3 : tie.Need-slice-aggregate-netkat-evidence-3
+slice-aggregate-netkat-evidence-3 c = sym (length-take-le _ _ (c .before .before .before .before .before .fill322 .ensures))
 
 array-borrow-prefix-work : tie.Need-array-borrow-prefix-work
-array-borrow-prefix-work c = omega (arith, c .before .before .before .before .fill323 .ensures, c .before .before .before .before .fill323 .kept .1 .1 .0)
+array-borrow-prefix-work c = within 66000 7 (c .before .before .before .lent .result .count) (c .before .before .before .lent .ensures)
 
-slice-aggregate-evidence-shown-4 : tie.Need-slice-aggregate-evidence-shown-4
-slice-aggregate-evidence-shown-4 c = sym (length-take-le _ _ (omega (arith, c .before .before .before .before .before .fill323 .ensures, c .before .before .before .before .before .fill323 .kept .1 .1 .0)))
+slice-aggregate-netkat-evidence-4 : tie.Need-slice-aggregate-netkat-evidence-4
+slice-aggregate-netkat-evidence-4 c = counted 66000 7 (c .before .before .before .before .lent .result .count) (c .before .before .before .before .lent .ensures)
 
-evidence-shown-requires : tie.Need-evidence-shown-requires
-evidence-shown-requires c κs = tt
+netkat-evidence-requires : tie.Need-netkat-evidence-requires
+netkat-evidence-requires c κs = tt
+
+show-requires : tie.Need-show-requires
+show-requires c κs = tt
+
+sum32-requires : tie.Need-sum32-requires
+sum32-requires c κs = tt
 
 returns : tie.Need-returns
 returns c = tt
@@ -70,15 +72,16 @@ evidence-spec =
     fill32-requires
     slice-aggregate-fill32-2
     fill32-requires-2
-    slice-aggregate-fill32-3
-    fill32-requires-3
+    lent-requires
     array-share-prefix-packet
-    slice-aggregate-evidence-shown
+    slice-aggregate-netkat-evidence
     array-share-prefix-left
-    slice-aggregate-evidence-shown-2
+    slice-aggregate-netkat-evidence-2
     array-share-prefix-right
-    slice-aggregate-evidence-shown-3
+    slice-aggregate-netkat-evidence-3
     array-borrow-prefix-work
-    slice-aggregate-evidence-shown-4
-    evidence-shown-requires
+    slice-aggregate-netkat-evidence-4
+    netkat-evidence-requires
+    show-requires
+    sum32-requires
     returns)

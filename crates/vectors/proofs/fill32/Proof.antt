@@ -7,31 +7,25 @@ use Rattle.vectors.proofs.fill32.Statement.{statement}
 use Rattle.vectors.proofs.fill32.Tie as tie
 
 abbrev Inv-loop : tie.InvT-loop
-Inv-loop input from list₀ given count at₀ last₀ i₀ list at last i = (length list ≡ length list₀) × (count ≤ length list₀)
+Inv-loop input from list₀ p₀ i₀ list p i = (length list ≡ length list₀) × (i ≤ length list₀)
 
 abbrev μ-loop : tie.MeasureT-loop
-μ-loop input from list₀ given count at₀ last₀ i₀ list at last i = count - i
+μ-loop input from list₀ p₀ i₀ list p i = length list₀ - i
 
-scan-requires : tie.Need-scan-requires Inv-loop μ-loop
-scan-requires c κs = tt
-
-scan-requires-2 : tie.Need-scan-requires-2 Inv-loop μ-loop
-scan-requires-2 c κs = tt
-
-size-requires : tie.Need-size-requires Inv-loop μ-loop
-size-requires c κs = tt
-
-least-requires : tie.Need-least-requires Inv-loop μ-loop
-least-requires c κs = tt
+list-at-requires : tie.Need-list-at-requires Inv-loop μ-loop
+list-at-requires c κs = tt
 
 loop-holds : tie.Need-loop-holds Inv-loop μ-loop
 loop-holds c = search needs
 
-size-requires-2 : tie.Need-size-requires-2 Inv-loop μ-loop
-size-requires-2 c κs = tt
+next-requires : tie.Need-next-requires Inv-loop μ-loop
+next-requires c κs = tt
 
-next-wide-requires : tie.Need-next-wide-requires Inv-loop μ-loop
-next-wide-requires c κs = tt
+same-length : tie.Need-same-length Inv-loop μ-loop
+same-length c = search needs
+
+returns : tie.Need-returns Inv-loop μ-loop
+returns c = search needs
 
 mul-list : tie.Need-mul-list Inv-loop μ-loop
 mul-list c = search needs
@@ -48,11 +42,11 @@ loop-less c = search needs
 loop-again : tie.Need-loop-again Inv-loop μ-loop
 loop-again c = search needs
 
-same-length : tie.Need-same-length Inv-loop μ-loop
-same-length c = search needs
+same-length-2 : tie.Need-same-length-2 Inv-loop μ-loop
+same-length-2 c = search needs
 
-returns : tie.Need-returns Inv-loop μ-loop
-returns c = search needs
+returns-2 : tie.Need-returns-2 Inv-loop μ-loop
+returns-2 c = search needs
 
 pub fill32-spec : {M : Type 1} → statement M
 fill32-spec =
@@ -60,17 +54,15 @@ fill32-spec =
     (tie.spec
     Inv-loop
     μ-loop
-    scan-requires
-    scan-requires-2
-    size-requires
-    least-requires
+    list-at-requires
     loop-holds
-    size-requires-2
-    next-wide-requires
+    next-requires
+    same-length
+    returns
     mul-list
     slice-write-list
     add-i
     loop-less
     loop-again
-    same-length
-    returns)
+    same-length-2
+    returns-2)

@@ -1,6 +1,4 @@
--- `vectors::pair`: the lists that it lends are within the lists read. Assumes nothing.
-use borrow.Author.Needs.{needs}
-use native.Mathlib.Omega.{arith}
+-- `vectors::pair`: the lists that it lends are within the lists read or made. Assumes nothing.
 use mathlib.Core.Path.{refl, sym}
 use lib.Seq.{length-take-le}
 use Rattle.vectors.proofs.pair.Statement.{statement}
@@ -49,46 +47,46 @@ fill16-requires-5 : tie.Need-fill16-requires-5
 fill16-requires-5 c κs = tt
 
 array-share-prefix-sizes : tie.Need-array-share-prefix-sizes
-array-share-prefix-sizes c = omega (arith, c .before .before .before .before .before .before .before .before .before .before .before .before .before .before .before .before .before .before .before .fill16 .ensures, c .before .before .before .before .before .before .before .before .before .before .before .before .before .before .before .before .before .before .before .fill16 .kept .1 .1 .0)
+array-share-prefix-sizes c = c .before .before .before .before .before .before .before .before .before .before .before .before .before .before .before .before .before .before .before .fill16 .ensures
 
 slice-aggregate-of-pair : tie.Need-slice-aggregate-of-pair
-slice-aggregate-of-pair c = sym (length-take-le _ _ (omega (arith, c .before .before .before .before .before .before .before .before .before .before .before .before .before .before .before .before .before .before .before .before .fill16 .ensures, c .before .before .before .before .before .before .before .before .before .before .before .before .before .before .before .before .before .before .before .before .fill16 .kept .1 .1 .0)))
+slice-aggregate-of-pair c = sym (length-take-le _ _ (c .before .before .before .before .before .before .before .before .before .before .before .before .before .before .before .before .before .before .before .before .fill16 .ensures))
 
 array-share-prefix-left-kind : tie.Need-array-share-prefix-left-kind
-array-share-prefix-left-kind c = omega (arith, c .before .before .before .before .before .before .before .before .before .before .before .before .before .before .before .before .before .fill8 .ensures, c .before .before .before .before .before .before .before .before .before .before .before .before .before .before .before .before .before .fill8 .kept .1 .1 .0)
+array-share-prefix-left-kind c = c .before .before .before .before .before .before .before .before .before .before .before .before .before .before .before .before .before .fill8 .ensures
 
 slice-aggregate-of-pair-2 : tie.Need-slice-aggregate-of-pair-2
-slice-aggregate-of-pair-2 c = sym (length-take-le _ _ (omega (arith, c .before .before .before .before .before .before .before .before .before .before .before .before .before .before .before .before .before .before .fill8 .ensures, c .before .before .before .before .before .before .before .before .before .before .before .before .before .before .before .before .before .before .fill8 .kept .1 .1 .0)))
+slice-aggregate-of-pair-2 c = sym (length-take-le _ _ (c .before .before .before .before .before .before .before .before .before .before .before .before .before .before .before .before .before .before .fill8 .ensures))
 
 array-share-prefix-left-first : tie.Need-array-share-prefix-left-first
-array-share-prefix-left-first c = omega (arith, c .before .before .before .before .before .before .before .before .before .before .before .before .before .before .before .fill162 .ensures, c .before .before .before .before .before .before .before .before .before .before .before .before .before .before .before .fill162 .kept .1 .1 .0)
+array-share-prefix-left-first c = c .before .before .before .before .before .before .before .before .before .before .before .before .before .before .before .fill162 .ensures
 
 slice-aggregate-of-pair-3 : tie.Need-slice-aggregate-of-pair-3
-slice-aggregate-of-pair-3 c = sym (length-take-le _ _ (omega (arith, c .before .before .before .before .before .before .before .before .before .before .before .before .before .before .before .before .fill162 .ensures, c .before .before .before .before .before .before .before .before .before .before .before .before .before .before .before .before .fill162 .kept .1 .1 .0)))
+slice-aggregate-of-pair-3 c = sym (length-take-le _ _ (c .before .before .before .before .before .before .before .before .before .before .before .before .before .before .before .before .fill162 .ensures))
 
 array-share-prefix-left-second : tie.Need-array-share-prefix-left-second
-array-share-prefix-left-second c = omega (arith, c .before .before .before .before .before .before .before .before .before .before .before .before .before .fill163 .ensures, c .before .before .before .before .before .before .before .before .before .before .before .before .before .fill163 .kept .1 .1 .0)
+array-share-prefix-left-second c = c .before .before .before .before .before .before .before .before .before .before .before .before .before .fill163 .ensures
 
 slice-aggregate-of-pair-4 : tie.Need-slice-aggregate-of-pair-4
-slice-aggregate-of-pair-4 c = sym (length-take-le _ _ (omega (arith, c .before .before .before .before .before .before .before .before .before .before .before .before .before .before .fill163 .ensures, c .before .before .before .before .before .before .before .before .before .before .before .before .before .before .fill163 .kept .1 .1 .0)))
+slice-aggregate-of-pair-4 c = sym (length-take-le _ _ (c .before .before .before .before .before .before .before .before .before .before .before .before .before .before .fill163 .ensures))
 
 array-share-prefix-right-kind : tie.Need-array-share-prefix-right-kind
-array-share-prefix-right-kind c = omega (arith, c .before .before .before .before .before .before .before .before .before .before .before .fill82 .ensures, c .before .before .before .before .before .before .before .before .before .before .before .fill82 .kept .1 .1 .0)
+array-share-prefix-right-kind c = c .before .before .before .before .before .before .before .before .before .before .before .fill82 .ensures
 
 slice-aggregate-of-pair-5 : tie.Need-slice-aggregate-of-pair-5
-slice-aggregate-of-pair-5 c = sym (length-take-le _ _ (omega (arith, c .before .before .before .before .before .before .before .before .before .before .before .before .fill82 .ensures, c .before .before .before .before .before .before .before .before .before .before .before .before .fill82 .kept .1 .1 .0)))
+slice-aggregate-of-pair-5 c = sym (length-take-le _ _ (c .before .before .before .before .before .before .before .before .before .before .before .before .fill82 .ensures))
 
 array-share-prefix-right-first : tie.Need-array-share-prefix-right-first
-array-share-prefix-right-first c = omega (arith, c .before .before .before .before .before .before .before .before .before .fill164 .ensures, c .before .before .before .before .before .before .before .before .before .fill164 .kept .1 .1 .0)
+array-share-prefix-right-first c = c .before .before .before .before .before .before .before .before .before .fill164 .ensures
 
 slice-aggregate-of-pair-6 : tie.Need-slice-aggregate-of-pair-6
-slice-aggregate-of-pair-6 c = sym (length-take-le _ _ (omega (arith, c .before .before .before .before .before .before .before .before .before .before .fill164 .ensures, c .before .before .before .before .before .before .before .before .before .before .fill164 .kept .1 .1 .0)))
+slice-aggregate-of-pair-6 c = sym (length-take-le _ _ (c .before .before .before .before .before .before .before .before .before .before .fill164 .ensures))
 
 array-share-prefix-right-second : tie.Need-array-share-prefix-right-second
-array-share-prefix-right-second c = omega (arith, c .before .before .before .before .before .before .before .fill165 .ensures, c .before .before .before .before .before .before .before .fill165 .kept .1 .1 .0)
+array-share-prefix-right-second c = c .before .before .before .before .before .before .before .fill165 .ensures
 
 slice-aggregate-of-pair-7 : tie.Need-slice-aggregate-of-pair-7
-slice-aggregate-of-pair-7 c = sym (length-take-le _ _ (omega (arith, c .before .before .before .before .before .before .before .before .fill165 .ensures, c .before .before .before .before .before .before .before .before .fill165 .kept .1 .1 .0)))
+slice-aggregate-of-pair-7 c = sym (length-take-le _ _ (c .before .before .before .before .before .before .before .before .fill165 .ensures))
 
 of-pair-requires : tie.Need-of-pair-requires
 of-pair-requires c κs = tt

@@ -1,61 +1,63 @@
--- `vectors::read`: the lists that it lends are within the lists read. Assumes nothing.
-use borrow.Author.Needs.{needs}
-use native.Mathlib.Omega.{arith}
-use mathlib.Core.Path.{sym}
+-- `vectors::read`: the lists that it lends are within the lists read or made. Assumes nothing.
+use mathlib.Core.Path.{refl, sym}
 use lib.Seq.{length-take-le}
+use Rattle.vectors.proofs.Made.{within, counted}
 use Rattle.vectors.proofs.read.Statement.{statement}
 use Rattle.vectors.proofs.read.Tie as tie
 
 slice-aggregate-fill8 : tie.Need-slice-aggregate-fill8
-slice-aggregate-fill8 c = search needs
+slice-aggregate-fill8 c = refl
 
 fill8-requires : tie.Need-fill8-requires
 fill8-requires c κs = tt
 
-slice-aggregate-fill8-2 : tie.Need-slice-aggregate-fill8-2
-slice-aggregate-fill8-2 c = search needs
+lent-requires : tie.Need-lent-requires
+lent-requires c κs = tt
 
-fill8-requires-2 : tie.Need-fill8-requires-2
-fill8-requires-2 c κs = tt
+lent-requires-2 : tie.Need-lent-requires-2
+lent-requires-2 c κs = tt
 
-slice-aggregate-fill16 : tie.Need-slice-aggregate-fill16
-slice-aggregate-fill16 c = search needs
-
-fill16-requires : tie.Need-fill16-requires
-fill16-requires c κs = tt
-
-slice-aggregate-fill16-2 : tie.Need-slice-aggregate-fill16-2
-slice-aggregate-fill16-2 c = search needs
-
-fill16-requires-2 : tie.Need-fill16-requires-2
-fill16-requires-2 c κs = tt
+lent-requires-3 : tie.Need-lent-requires-3
+lent-requires-3 c κs = tt
 
 array-share-prefix-text : tie.Need-array-share-prefix-text
-array-share-prefix-text c = omega (arith, c .before .before .before .before .before .before .before .before .before .before .fill8 .ensures, c .before .before .before .before .before .before .before .before .before .before .fill8 .kept .1 .1 .0)
+array-share-prefix-text c = c .before .before .before .before .fill8 .ensures
 
-slice-aggregate-read-shown : tie.Need-slice-aggregate-read-shown
-slice-aggregate-read-shown c = sym (length-take-le _ _ (omega (arith, c .before .before .before .before .before .before .before .before .before .before .before .fill8 .ensures, c .before .before .before .before .before .before .before .before .before .before .before .fill8 .kept .1 .1 .0)))
+slice-aggregate-netkat-read : tie.Need-slice-aggregate-netkat-read
+slice-aggregate-netkat-read c = sym (length-take-le _ _ (c .before .before .before .before .before .fill8 .ensures))
 
 array-borrow-prefix-kind : tie.Need-array-borrow-prefix-kind
-array-borrow-prefix-kind c = omega (arith, c .before .before .before .before .before .before .before .before .fill82 .ensures, c .before .before .before .before .before .before .before .before .fill82 .kept .1 .1 .0)
+array-borrow-prefix-kind c = within 600 7 (c .before .before .before .lent .result .count) (c .before .before .before .lent .ensures)
 
-slice-aggregate-read-shown-2 : tie.Need-slice-aggregate-read-shown-2
-slice-aggregate-read-shown-2 c = sym (length-take-le _ _ (omega (arith, c .before .before .before .before .before .before .before .before .before .fill82 .ensures, c .before .before .before .before .before .before .before .before .before .fill82 .kept .1 .1 .0)))
+slice-aggregate-netkat-read-2 : tie.Need-slice-aggregate-netkat-read-2
+slice-aggregate-netkat-read-2 c = counted 600 7 (c .before .before .before .before .lent .result .count) (c .before .before .before .before .lent .ensures)
 
 array-borrow-prefix-first : tie.Need-array-borrow-prefix-first
-array-borrow-prefix-first c = omega (arith, c .before .before .before .before .before .before .fill16 .ensures, c .before .before .before .before .before .before .fill16 .kept .1 .1 .0)
+array-borrow-prefix-first c = within 66000 7 (c .before .before .before .lent2 .result .count) (c .before .before .before .lent2 .ensures)
 
-slice-aggregate-read-shown-3 : tie.Need-slice-aggregate-read-shown-3
-slice-aggregate-read-shown-3 c = sym (length-take-le _ _ (omega (arith, c .before .before .before .before .before .before .before .fill16 .ensures, c .before .before .before .before .before .before .before .fill16 .kept .1 .1 .0)))
+slice-aggregate-netkat-read-3 : tie.Need-slice-aggregate-netkat-read-3
+slice-aggregate-netkat-read-3 c = counted 66000 7 (c .before .before .before .before .lent2 .result .count) (c .before .before .before .before .lent2 .ensures)
 
 array-borrow-prefix-second : tie.Need-array-borrow-prefix-second
-array-borrow-prefix-second c = omega (arith, c .before .before .before .before .fill162 .ensures, c .before .before .before .before .fill162 .kept .1 .1 .0)
+array-borrow-prefix-second c = within 66000 7 (c .before .before .before .lent3 .result .count) (c .before .before .before .lent3 .ensures)
 
-slice-aggregate-read-shown-4 : tie.Need-slice-aggregate-read-shown-4
-slice-aggregate-read-shown-4 c = sym (length-take-le _ _ (omega (arith, c .before .before .before .before .before .fill162 .ensures, c .before .before .before .before .before .fill162 .kept .1 .1 .0)))
+slice-aggregate-netkat-read-4 : tie.Need-slice-aggregate-netkat-read-4
+slice-aggregate-netkat-read-4 c = counted 66000 7 (c .before .before .before .before .lent3 .result .count) (c .before .before .before .before .lent3 .ensures)
 
-read-shown-requires : tie.Need-read-shown-requires
-read-shown-requires c κs = tt
+netkat-read-requires : tie.Need-netkat-read-requires
+netkat-read-requires c κs = tt
+
+show-requires : tie.Need-show-requires
+show-requires c κs = tt
+
+sum8-requires : tie.Need-sum8-requires
+sum8-requires c κs = tt
+
+sum16-requires : tie.Need-sum16-requires
+sum16-requires c κs = tt
+
+sum16-requires-2 : tie.Need-sum16-requires-2
+sum16-requires-2 c κs = tt
 
 returns : tie.Need-returns
 returns c = tt
@@ -66,19 +68,20 @@ read-spec =
     (tie.spec
     slice-aggregate-fill8
     fill8-requires
-    slice-aggregate-fill8-2
-    fill8-requires-2
-    slice-aggregate-fill16
-    fill16-requires
-    slice-aggregate-fill16-2
-    fill16-requires-2
+    lent-requires
+    lent-requires-2
+    lent-requires-3
     array-share-prefix-text
-    slice-aggregate-read-shown
+    slice-aggregate-netkat-read
     array-borrow-prefix-kind
-    slice-aggregate-read-shown-2
+    slice-aggregate-netkat-read-2
     array-borrow-prefix-first
-    slice-aggregate-read-shown-3
+    slice-aggregate-netkat-read-3
     array-borrow-prefix-second
-    slice-aggregate-read-shown-4
-    read-shown-requires
+    slice-aggregate-netkat-read-4
+    netkat-read-requires
+    show-requires
+    sum8-requires
+    sum16-requires
+    sum16-requires-2
     returns)

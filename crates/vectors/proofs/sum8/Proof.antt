@@ -1,21 +1,23 @@
 -- `vectors::sum8` is safe and ends. Assumes nothing.
 use borrow.Author.Needs.{needs}
-use Prim.Native.Nat.{_-_}
-use lib.ListN.{length}
+use Prim.Native.Nat.{_-_, _≤_}
 use Rattle.vectors.proofs.sum8.Statement.{statement}
 use Rattle.vectors.proofs.sum8.Tie as tie
 
 abbrev Inv-loop : tie.InvT-loop
-Inv-loop list sum₀ i₀ sum i = Unit {0}
+Inv-loop list count n sum₀ i₀ sum i = n ≤ 600
 
 abbrev μ-loop : tie.MeasureT-loop
-μ-loop list sum₀ i₀ sum i = length list - i
+μ-loop list count n sum₀ i₀ sum i = n - i
+
+least-requires : tie.Need-least-requires Inv-loop μ-loop
+least-requires c κs = tt
 
 loop-holds : tie.Need-loop-holds Inv-loop μ-loop
 loop-holds c = search needs
 
-shared-slice-read-wide8 : tie.Need-shared-slice-read-wide8 Inv-loop μ-loop
-shared-slice-read-wide8 c = search needs
+element-copy-out-wide8 : tie.Need-element-copy-out-wide8 Inv-loop μ-loop
+element-copy-out-wide8 c = search needs
 
 wide8-requires : tie.Need-wide8-requires Inv-loop μ-loop
 wide8-requires c κs = tt
@@ -44,8 +46,9 @@ sum8-spec =
     (tie.spec
     Inv-loop
     μ-loop
+    least-requires
     loop-holds
-    shared-slice-read-wide8
+    element-copy-out-wide8
     wide8-requires
     added-requires
     add-i

@@ -1,8 +1,8 @@
--- `vectors::trace`: the lists that it lends are within the lists read. Assumes nothing.
+-- `vectors::trace`: the lists that it lends are within the lists read or made. Assumes nothing.
 use borrow.Author.Needs.{needs}
-use native.Mathlib.Omega.{arith}
 use mathlib.Core.Path.{refl, sym}
 use lib.Seq.{length-take-le}
+use Rattle.vectors.proofs.Made.{within, counted}
 use Rattle.vectors.proofs.trace.Statement.{statement}
 use Rattle.vectors.proofs.trace.Tie as tie
 
@@ -15,29 +15,32 @@ slice-aggregate-fill16 c = refl
 fill16-requires : tie.Need-fill16-requires
 fill16-requires c κs = tt
 
-slice-aggregate-fill32 : tie.Need-slice-aggregate-fill32
-slice-aggregate-fill32 c = refl
+lent-requires : tie.Need-lent-requires
+lent-requires c κs = tt
 
-fill32-requires : tie.Need-fill32-requires
-fill32-requires c κs = tt
-
-cast-trace-shown : tie.Need-cast-trace-shown
-cast-trace-shown c = search needs
+cast-netkat-trace : tie.Need-cast-netkat-trace
+cast-netkat-trace c = search needs
 
 array-share-prefix-trace : tie.Need-array-share-prefix-trace
-array-share-prefix-trace c = omega (arith, c .before .before .before .before .before .fill16 .ensures, c .before .before .before .before .before .fill16 .kept .1 .1 .0)
+array-share-prefix-trace c = c .before .before .before .fill16 .ensures
 
-slice-aggregate-trace-shown : tie.Need-slice-aggregate-trace-shown
-slice-aggregate-trace-shown c = sym (length-take-le _ _ (omega (arith, c .before .before .before .before .before .before .fill16 .ensures, c .before .before .before .before .before .before .fill16 .kept .1 .1 .0)))
+slice-aggregate-netkat-trace : tie.Need-slice-aggregate-netkat-trace
+slice-aggregate-netkat-trace c = sym (length-take-le _ _ (c .before .before .before .before .fill16 .ensures))
 
 array-borrow-prefix-work : tie.Need-array-borrow-prefix-work
-array-borrow-prefix-work c = omega (arith, c .before .before .before .fill32 .ensures, c .before .before .before .fill32 .kept .1 .1 .0)
+array-borrow-prefix-work c = within 66000 7 (c .before .before .lent .result .count) (c .before .before .lent .ensures)
 
-slice-aggregate-trace-shown-2 : tie.Need-slice-aggregate-trace-shown-2
-slice-aggregate-trace-shown-2 c = sym (length-take-le _ _ (omega (arith, c .before .before .before .before .fill32 .ensures, c .before .before .before .before .fill32 .kept .1 .1 .0)))
+slice-aggregate-netkat-trace-2 : tie.Need-slice-aggregate-netkat-trace-2
+slice-aggregate-netkat-trace-2 c = counted 66000 7 (c .before .before .before .lent .result .count) (c .before .before .before .lent .ensures)
 
-trace-shown-requires : tie.Need-trace-shown-requires
-trace-shown-requires c κs = tt
+netkat-trace-requires : tie.Need-netkat-trace-requires
+netkat-trace-requires c κs = tt
+
+show-requires : tie.Need-show-requires
+show-requires c κs = tt
+
+sum32-requires : tie.Need-sum32-requires
+sum32-requires c κs = tt
 
 returns : tie.Need-returns
 returns c = tt
@@ -49,12 +52,13 @@ trace-spec =
     scan-requires
     slice-aggregate-fill16
     fill16-requires
-    slice-aggregate-fill32
-    fill32-requires
-    cast-trace-shown
+    lent-requires
+    cast-netkat-trace
     array-share-prefix-trace
-    slice-aggregate-trace-shown
+    slice-aggregate-netkat-trace
     array-borrow-prefix-work
-    slice-aggregate-trace-shown-2
-    trace-shown-requires
+    slice-aggregate-netkat-trace-2
+    netkat-trace-requires
+    show-requires
+    sum32-requires
     returns)

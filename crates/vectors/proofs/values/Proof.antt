@@ -1,13 +1,13 @@
--- `vectors::values`: the lists that it lends are within the lists read. Assumes nothing.
+-- `vectors::values`: the lists that it lends are within the lists read or made. Assumes nothing.
 use borrow.Author.Needs.{needs}
-use native.Mathlib.Omega.{arith}
-use mathlib.Core.Path.{sym}
+use mathlib.Core.Path.{refl, sym}
 use lib.Seq.{length-take-le}
+use Rattle.vectors.proofs.Made.{within, counted}
 use Rattle.vectors.proofs.values.Statement.{statement}
 use Rattle.vectors.proofs.values.Tie as tie
 
 slice-aggregate-fill16 : tie.Need-slice-aggregate-fill16
-slice-aggregate-fill16 c = search needs
+slice-aggregate-fill16 c = refl
 
 fill16-requires : tie.Need-fill16-requires
 fill16-requires c κs = tt
@@ -15,29 +15,32 @@ fill16-requires c κs = tt
 scan-requires : tie.Need-scan-requires
 scan-requires c κs = tt
 
-slice-aggregate-fill16-2 : tie.Need-slice-aggregate-fill16-2
-slice-aggregate-fill16-2 c = search needs
-
-fill16-requires-2 : tie.Need-fill16-requires-2
-fill16-requires-2 c κs = tt
+lent-requires : tie.Need-lent-requires
+lent-requires c κs = tt
 
 array-share-prefix-sizes : tie.Need-array-share-prefix-sizes
-array-share-prefix-sizes c = omega (arith, c .before .before .before .before .before .fill16 .ensures, c .before .before .before .before .before .fill16 .kept .1 .1 .0)
+array-share-prefix-sizes c = c .before .before .before .fill16 .ensures
 
-slice-aggregate-values-shown : tie.Need-slice-aggregate-values-shown
-slice-aggregate-values-shown c = sym (length-take-le _ _ (omega (arith, c .before .before .before .before .before .before .fill16 .ensures, c .before .before .before .before .before .before .fill16 .kept .1 .1 .0)))
+slice-aggregate-netkat-values : tie.Need-slice-aggregate-netkat-values
+slice-aggregate-netkat-values c = sym (length-take-le _ _ (c .before .before .before .before .fill16 .ensures))
 
-cast-values-shown : tie.Need-cast-values-shown
-cast-values-shown c = search needs
+cast-netkat-values : tie.Need-cast-netkat-values
+cast-netkat-values c = search needs
 
 array-borrow-prefix-values : tie.Need-array-borrow-prefix-values
-array-borrow-prefix-values c = omega (arith, c .before .before .before .fill162 .ensures, c .before .before .before .fill162 .kept .1 .1 .0)
+array-borrow-prefix-values c = within 66000 7 (c .before .before .lent .result .count) (c .before .before .lent .ensures)
 
-slice-aggregate-values-shown-2 : tie.Need-slice-aggregate-values-shown-2
-slice-aggregate-values-shown-2 c = sym (length-take-le _ _ (omega (arith, c .before .before .before .before .fill162 .ensures, c .before .before .before .before .fill162 .kept .1 .1 .0)))
+slice-aggregate-netkat-values-2 : tie.Need-slice-aggregate-netkat-values-2
+slice-aggregate-netkat-values-2 c = counted 66000 7 (c .before .before .before .lent .result .count) (c .before .before .before .lent .ensures)
 
-values-shown-requires : tie.Need-values-shown-requires
-values-shown-requires c κs = tt
+netkat-values-requires : tie.Need-netkat-values-requires
+netkat-values-requires c κs = tt
+
+show-requires : tie.Need-show-requires
+show-requires c κs = tt
+
+sum16-requires : tie.Need-sum16-requires
+sum16-requires c κs = tt
 
 returns : tie.Need-returns
 returns c = tt
@@ -49,12 +52,13 @@ values-spec =
     slice-aggregate-fill16
     fill16-requires
     scan-requires
-    slice-aggregate-fill16-2
-    fill16-requires-2
+    lent-requires
     array-share-prefix-sizes
-    slice-aggregate-values-shown
-    cast-values-shown
+    slice-aggregate-netkat-values
+    cast-netkat-values
     array-borrow-prefix-values
-    slice-aggregate-values-shown-2
-    values-shown-requires
+    slice-aggregate-netkat-values-2
+    netkat-values-requires
+    show-requires
+    sum16-requires
     returns)
