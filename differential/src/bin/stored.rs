@@ -28,7 +28,7 @@ const BLOCK: usize = 65_536;
 const SECOND: &str = "calls of the second implementation\n";
 /// Each entry of a list that a call may write, before the call.
 const BEFORE: u8 = 7;
-/// Longest lists that the program holds.
+/// Longest lists that are stored; the program has room for them.
 const MOST_SIZES: usize = 32;
 const MOST_NODES: usize = 600;
 const MOST_TEXT: usize = 8192;
@@ -73,7 +73,7 @@ impl Entry for u32 {
     }
 }
 
-/// A case as numbers; none if a list is longer than the program holds.
+/// A case as numbers; none if a list is longer than is stored.
 struct Numbers(String);
 
 impl Numbers {
