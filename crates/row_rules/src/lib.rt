@@ -162,7 +162,8 @@ pub fn first_next_missing(
     Spot::Nowhere
 }
 
-// Inner: is row i the same as a row before it? It then keeps rules (c) and (d) if that row does.
+// Inner: is row i the same as a row before it? It then keeps rules (c) and (d) if that row does. Nothing is promised where the answer is
+// no: the row is checked then, which costs time and nothing else.
 pub fn repeated(
     packets: &[u16],
     lefts: &[Mask],
