@@ -22,7 +22,7 @@ use Rattle.packet_set.specs.Bits.{bit}
 use Rattle.packet_set.specs.Members.{member, wordsFor, Members, Within}
 use Rattle.packet_set.proofs.Digits.{bits-same, bit-of-zero}
 use Rattle.packet_set.proofs.Words.{words-hold, words-within}
-use Rattle.packet_set.proofs.Work.{member-slot}
+use Rattle.packet_set.proofs.Work.{slot-end, slots-fit, slot-fits, member-slot}
 use Rattle.automaton.specs.Remainder.{Evaluable}
 use Rattle.automaton.specs.State.{PacketSet, passedOn, flow, enter, outputSet, outputMask, next, nextMask}
 use Rattle.automaton.proofs.Tests.{same-test, both, eqb-true, T-false}
@@ -68,8 +68,12 @@ module _ (sizes : List ℕ) (L : NodeLists) (masks places : List ℕ) (count roo
     hold : product sizes ≤ 32 * k
     hold = subst (λ (x : ℕ). product sizes ≤ 32 * x) (sym words-are) (words-hold (product sizes))
 
-    pub clear-ready : (k ≤ 32) × (32 * nodeCount L ≤ length work)
-    clear-ready = let a = few in let b = rd .well .few in let d = rd .long in omega arith
+    -- all slots lie in the words that a step is lent
+    pub all-fit : k * nodeCount L ≤ 16384
+    all-fit = slots-fit k (nodeCount L) few (rd .well .few)
+
+    pub clear-ready : k * nodeCount L ≤ length work
+    clear-ready = let a = all-fit in let d = rd .long in omega arith
 
     module _ (state : ℕ) (X : List ℕ) (ex : (γ : ℕ) → member X γ ≡ bit state 0 && eqb γ β) where
       at-β : (γ : ℕ) → T (member X γ) → T (bit state 0) × (γ ≡ β)
@@ -113,10 +117,10 @@ module _ (sizes : List ℕ) (L : NodeLists) (masks places : List ℕ) (count roo
         nothing : (j γ : ℕ) → j < 512 → T (slots k work j γ) → ⊥
         unfolding slots
         nothing j γ b t =
-            let a = few in
+            let a = slot-fits k j few b in
             let d = rd .long in
             let g = slot-within k j work (omega arith) γ t in
-            subst T (member-slot k j work γ g (omega arith) ∙ ap (λ (x : ℕ). bit x (γ % 32)) (rd .zero (32 * j + γ / 32) (omega arith)) ∙ bit-of-zero (γ % 32)) t
+            subst T (member-slot k j work γ g (omega arith) ∙ ap (λ (x : ℕ). bit x (γ % 32)) (rd .zero (k * j + γ / 32) (omega arith)) ∙ bit-of-zero (γ % 32)) t
 
         -- nothing has entered a node of the tree before
         none-before : Settled sizes L β (λ _. false) (slots k work) p root (λ _. false)
@@ -149,7 +153,7 @@ module _ (sizes : List ℕ) (L : NodeLists) (masks places : List ℕ) (count roo
         gather-ready = record {
           few = few;
           labels = let h = rd .well .dups in let e = rd .prepared .placed .count in omega arith;
-          slotRoom = λ i l. let a = rd .well .few in let b = rd .long in let c = at-place i l .within in let d = few in omega arith;
+          slotRoom = λ i l. let a = slot-fits k (getD places i 0) few (let b = rd .well .few in let c = at-place i l .within in omega arith) in let d = rd .long in omega arith;
           words = let h = hold in let e = rd .packets in omega arith;
           room = let h = rd .room in let e = rd .packets in omega arith;
           below = λ i l γ t.
@@ -158,7 +162,7 @@ module _ (sizes : List ℕ) (L : NodeLists) (masks places : List ℕ) (count roo
               let e = rd .packets in omega arith;
         }
 
-        module _ (next1 work2 : List ℕ) (ga : Gathered places k count (length places) work1 nexts next1) (fits : (γ : ℕ) → getD next1 γ 0 < 2 ^ 32) (cl : Cleared k (nodeCount L) work1 work2)
+        module _ (next1 work2 : List ℕ) (ga : Gathered places k count (length places) work1 nexts next1) (fits : (γ : ℕ) → getD next1 γ 0 < 2 ^ 32) (cl : Cleared (k * nodeCount L) work1 work2)
             (l2 : length work2 ≡ length work1) where
           ok : Evaluable sizes (dupsBelow L (nodeCount L)) p
           unfolding treeOf
@@ -202,12 +206,13 @@ module _ (sizes : List ℕ) (L : NodeLists) (masks places : List ℕ) (count roo
                   }
 
           as-found : work2 ≡ work
-          as-found = ext-getD 0 work2 work (l2 ∙ l1) (λ i _. word i (decLt (i / 32) (nodeCount L)) (decLt (i % 32) k))
+          as-found = ext-getD 0 work2 work (l2 ∙ l1) (λ i _. word i (decLt i (k * nodeCount L)))
             where
-              word : (i : ℕ) → Dec (i / 32 < nodeCount L) → Dec (i % 32 < k) → getD work2 i 0 ≡ getD work i 0
-              word i (yes a) (yes b) = cl .inside i a b ∙ sym (rd .zero i (let f = rd .well .few in omega arith))
-              word i (no a) b = cl .beyond i (λ x _. a x) ∙ ev .elsewhere i (λ t _. a (let h = in-tree-le L (children-below (rd .well)) root (i / 32) (rd .node) t in let n = rd .node in omega arith))
-              word i (yes a) (no b) = cl .beyond i (λ _ x. b x) ∙ ev .elsewhere i (λ _ x. b x)
+              word : (i : ℕ) → Dec (i < k * nodeCount L) → getD work2 i 0 ≡ getD work i 0
+              word i (yes a) = cl .inside i a ∙ sym (rd .zero i (let f = all-fit in omega arith))
+              word i (no a) =
+                  cl .beyond i (omega arith)
+                  ∙ ev .elsewhere i (λ j t _ b. a (let h = in-tree-le L (children-below (rd .well)) root j (rd .node) t in let n = rd .node in omega (arith, slot-end k j (nodeCount L) (omega arith))))
 
           pub stepped : Stepped sizes L root state β nexts work out next1 work2
           stepped = record { output = outputs; nexts = next-at; beyond = λ γ b. ga .beyond γ (let e = rd .packets in omega arith); kept = as-found }

@@ -18,12 +18,12 @@ use Rattle.packet_set.specs.Members.{member, emptySet, unionOf, differenceOf, M
 use Rattle.packet_set.specs.Slots.{slotAt}
 use Rattle.packet_set.proofs.Digits.{bit-and, bit-of-zero}
 use Rattle.packet_set.proofs.Words.{length-union, wordwise-above, member-union, member-difference, words-hold, words-within}
-use Rattle.packet_set.proofs.Work.{length-with-slot, word-other, slot-stored, length-slot, member-first}
+use Rattle.packet_set.proofs.Work.{slot-of, slot-fits, length-with-slot, slot-stored, word-outside, length-slot, member-first}
 use Rattle.automaton.specs.Remainder.{HasDup}
 use Rattle.automaton.proofs.Tests.{either, both, true-T}
 use Rattle.actions.specs.Actions.{Below}
 use Rattle.slots.specs.Slots.{slots, Took}
-use Rattle.evaluator.specs.Evaluation.{or, treeOf, DupMasks, Ready}
+use Rattle.evaluator.specs.Evaluation.{or, treeOf, DupMasks, Outside, Ready}
 use Rattle.evaluator.proofs.Settling.{or-left, or-right}
 use Rattle.evaluator.proofs.Passing.{TakesIn, Live, Apart}
 
@@ -56,11 +56,11 @@ first-beyond k s h γ l =
     ∙ getD-drop k emptySet (γ / 32 - k) 0 ∙ empty-word (k + (γ / 32 - k)))
     ∙ bit-of-zero (γ % 32)
 
-pub slot-beyond : (k n : ℕ) (work : List ℕ) → 32 * n + k ≤ length work → (γ : ℕ) → 32 * k ≤ γ → member (slotAt k n work) γ ≡ false
+pub slot-beyond : (k n : ℕ) (work : List ℕ) → k * n + k ≤ length work → (γ : ℕ) → 32 * k ≤ γ → member (slotAt k n work) γ ≡ false
 unfolding slotAt
-slot-beyond k n work h γ l = first-beyond k (drop (32 * n) work) (omega (arith, length-drop (32 * n) work)) γ l
+slot-beyond k n work h γ l = first-beyond k (drop (k * n) work) (omega (arith, length-drop (k * n) work)) γ l
 
-pub slot-within : (k n : ℕ) (work : List ℕ) → 32 * n + k ≤ length work → (γ : ℕ) → T (member (slotAt k n work) γ) → γ < 32 * k
+pub slot-within : (k n : ℕ) (work : List ℕ) → k * n + k ≤ length work → (γ : ℕ) → T (member (slotAt k n work) γ) → γ < 32 * k
 slot-within k n work h γ t = go (decLt γ (32 * k))
   where
     go : Dec (γ < 32 * k) → γ < 32 * k
@@ -68,25 +68,24 @@ slot-within k n work h γ t = go (decLt γ (32 * k))
     go (no m) = absurd (subst T (slot-beyond k n work h γ (omega arith)) t)
 
 -- a slot is its words
-pub slot-by-words : (k j : ℕ) (a b : List ℕ) → length a ≡ length b → ((i : ℕ) → i < k → getD a (32 * j + i) 0 ≡ getD b (32 * j + i) 0) → slotAt k j a ≡ slotAt k j b
+pub slot-by-words : (k j : ℕ) (a b : List ℕ) → length a ≡ length b → ((i : ℕ) → i < k → getD a (k * j + i) 0 ≡ getD b (k * j + i) 0) → slotAt k j a ≡ slotAt k j b
 unfolding slotAt
 slot-by-words k j a b e h =
     ap (λ (r : List ℕ). r ++ drop k emptySet)
-    (ext-getD 0 (take k (drop (32 * j) a)) (take k (drop (32 * j) b))
-    (length-take k (drop (32 * j) a) ∙ ap (λ (n : ℕ). min k n) (length-drop (32 * j) a ∙ ap (λ (n : ℕ). n - 32 * j) e ∙ sym (length-drop (32 * j) b)) ∙ sym (length-take k (drop (32 * j) b)))
+    (ext-getD 0 (take k (drop (k * j) a)) (take k (drop (k * j) b))
+    (length-take k (drop (k * j) a) ∙ ap (λ (n : ℕ). min k n) (length-drop (k * j) a ∙ ap (λ (n : ℕ). n - k * j) e ∙ sym (length-drop (k * j) b)) ∙ sym (length-take k (drop (k * j) b)))
     (λ i l.
-    let l′ : i < k = omega (arith, length-take k (drop (32 * j) a)) in
-    getD-take k (drop (32 * j) a) i 0 l′ ∙ getD-drop (32 * j) a i 0 ∙ h i l′ ∙ sym (getD-drop (32 * j) b i 0) ∙ sym (getD-take k (drop (32 * j) b) i 0 l′)))
+    let l′ : i < k = omega (arith, length-take k (drop (k * j) a)) in
+    getD-take k (drop (k * j) a) i 0 l′ ∙ getD-drop (k * j) a i 0 ∙ h i l′ ∙ sym (getD-drop (k * j) b i 0) ∙ sym (getD-take k (drop (k * j) b) i 0 l′)))
 
 -- words as they were make slots as they were
-pub apart-slots : (L : NodeLists) (k n : ℕ) (a b : List ℕ) → k ≤ 32 → length b ≡ length a → ((i : ℕ) → (InTree L n (i / 32) → i % 32 < k → ⊥) → getD b i 0 ≡ getD a i 0)
+pub apart-slots : (L : NodeLists) (k n : ℕ) (a b : List ℕ) → length b ≡ length a → ((i : ℕ) → Outside L k n i → getD b i 0 ≡ getD a i 0)
     → Apart L n (slots k a) (slots k b)
 unfolding slots
-apart-slots L k n a b few e h j out γ =
+apart-slots L k n a b e h j out γ =
     ap (λ (s : List ℕ). member s γ)
     (slot-by-words k j a b (sym e) (λ i l.
-    let q : (32 * j + i) / 32 ≡ j = omega arith in
-    sym (h (32 * j + i) (λ t _. out (subst (InTree L n) q t)))))
+    sym (h (k * j + i) (λ m t a b. out (subst (InTree L n) (sym (slot-of k m j i l a b)) t)))))
 
 module _ (sizes : List ℕ) (L : NodeLists) (k β n : ℕ) (masks X work : List ℕ) (rd : Ready sizes L k β n masks X work) where
   pub few-words : k ≤ 32
@@ -95,8 +94,8 @@ module _ (sizes : List ℕ) (L : NodeLists) (k β n : ℕ) (masks X work : List 
   pub hold-all : product sizes ≤ 32 * k
   hold-all = subst (λ (x : ℕ). product sizes ≤ 32 * x) (sym (rd .words)) (words-hold (product sizes))
 
-  pub slot-room : 32 * n + k ≤ length work
-  slot-room = let a = few-words in let b = rd .node in let c = rd .well .few in let d = rd .long in omega arith
+  pub slot-room : k * n + k ≤ length work
+  slot-room = let a = slot-fits k n few-words (let b = rd .node in let c = rd .well .few in omega arith) in let d = rd .long in omega arith
 
   pub within-words : (Y : Members) → Below sizes Y → (γ : ℕ) → T (Y γ) → γ < 32 * k
   unfolding Below
@@ -128,7 +127,7 @@ module _ (sizes : List ℕ) (L : NodeLists) (k β n : ℕ) (masks X work : List 
   unfolding DupMasks
   live-dup marks i t = rd .dups n (rd .node) i .0 (both (bit marks i) (bit (getD masks n 0) i) .0 (subst T (bit-and marks (getD masks n 0) i) t) .1)
 
-module _ (k n : ℕ) (work X new work′ : List ℕ) (few : k ≤ 32) (room : 32 * n + k ≤ length work) (inside : (γ : ℕ) → T (member X γ) → γ < 32 * k)
+module _ (k n : ℕ) (work X new work′ : List ℕ) (few : k ≤ 32) (room : k * n + k ≤ length work) (inside : (γ : ℕ) → T (member X γ) → γ < 32 * k)
     (tk : Took k n work X new work′) where
   abbrev old : List ℕ
   old = slotAt k n work
@@ -145,13 +144,8 @@ module _ (k n : ℕ) (work X new work′ : List ℕ) (few : k ≤ 32) (room : 32
   pub took-length : length work′ ≡ length work
   took-length = ap length (tk .stored) ∙ length-with-slot k n work stored room long-stored
 
-  pub took-elsewhere : (i : ℕ) → (i / 32 ≡ n → i % 32 < k → ⊥) → getD work′ i 0 ≡ getD work i 0
-  took-elsewhere i h = ap (λ (l : List ℕ). getD l i 0) (tk .stored) ∙ word-other n work stored k room long-stored i (place (decLt i (32 * n)) (decLt i (32 * n + k)))
-    where
-      place : Dec (i < 32 * n) → Dec (i < 32 * n + k) → (i < 32 * n) ⊎ (32 * n + k ≤ i)
-      place (yes a) b = inl a
-      place (no a) (yes b) = absurd (h (omega arith) (omega arith))
-      place (no a) (no b) = inr (omega arith)
+  pub took-elsewhere : (i : ℕ) → (k * n ≤ i → i < k * n + k → ⊥) → getD work′ i 0 ≡ getD work i 0
+  took-elsewhere i h = ap (λ (l : List ℕ). getD l i 0) (tk .stored) ∙ word-outside k n work stored room long-stored i h
 
   in-slot : (γ : ℕ) → γ < 32 * k → member (slotAt k n work′) γ ≡ member old γ || member X γ
   in-slot γ l =
@@ -161,7 +155,7 @@ module _ (k n : ℕ) (work X new work′ : List ℕ) (few : k ≤ 32) (room : 32
   pub is-new : (γ : ℕ) → γ < 32 * k → member new γ ≡ member X γ && not (member old γ)
   is-new γ l = ap (λ (s : List ℕ). member s γ) (tk .fresh) ∙ member-difference k X old γ l (let h = tk .wide in omega arith)
 
-  room′ : 32 * n + k ≤ length work′
+  room′ : k * n + k ≤ length work′
   room′ = let e = took-length in omega arith
 
   pub takes-in : TakesIn n (slots k work) (member X) (member new) (slots k work′)
@@ -172,12 +166,9 @@ module _ (k n : ℕ) (work X new work′ : List ℕ) (few : k ≤ 32) (room : 32
     keeps = λ γ t. let l = slot-within k n work room γ t in subst T (sym (in-slot γ l)) (either (member old γ) (member X γ) .1 (inl t));
     gains = λ γ t. subst T (sym (in-slot γ (inside γ t))) (either (member old γ) (member X γ) .1 (inr t));
     others = λ j d γ. ap (λ (s : List ℕ). member s γ) (slot-by-words k j work work′ (sym took-length) (λ i l.
-        sym (took-elsewhere (32 * j + i) (λ e _. d (same j i l e)))));
+        sym (took-elsewhere (k * j + i) (λ a b. d (slot-of k n j i l a b)))));
   }
     where
-      same : (j i : ℕ) → i < k → (32 * j + i) / 32 ≡ n → j ≡ n
-      same j i l e = omega arith
-
       fresh : (γ : ℕ) → T (member new γ) → Dec (γ < 32 * k) → T (member X γ)
       fresh γ t (yes l) = both (member X γ) (not (member old γ)) .0 (subst T (is-new γ l) t) .0
       fresh γ t (no l) = subst T (ap (λ (s : List ℕ). member s γ) (tk .fresh) ∙ difference-beyond k X old γ (omega arith)) t

@@ -1,5 +1,5 @@
 -- Each way out of the evaluator.
-use Prim.Native.Nat.{ℕ, zero, suc, _+_, _-_, _*_, _/_, _%_, _≤_, _<_}
+use Prim.Native.Nat.{ℕ, zero, suc, _+_, _-_, _*_, _≤_, _<_}
 use mathlib.Core.Bool.{Bool, true, false, _||_, not, cond, true≢false}
 use mathlib.Core.List.{List, [], _∷_}
 use mathlib.Core.Logic.{_⊎_, inl, inr}
@@ -30,7 +30,7 @@ use Rattle.automaton.proofs.Tests.{either, both, true-T, T-false, eqb-true}
 use Rattle.actions.specs.Actions.{Below, Image, Acting}
 use Rattle.slots.specs.Slots.{slots, Took}
 use Rattle.actions.proofs.Packets.{below-within, packets-fit}
-use Rattle.evaluator.specs.Evaluation.{or, treeOf, Passes, Evaluated, Ready}
+use Rattle.evaluator.specs.Evaluation.{or, treeOf, Passes, Outside, Evaluated, Ready}
 use Rattle.evaluator.proofs.Settling.{or-left, or-elim}
 use Rattle.evaluator.proofs.Passing.{TakesIn, Live, Apart, below-flow, tree-at, fields, skips, drops, lets, acts, passes-on, sums, seqs}
 use Rattle.evaluator.proofs.Looping.{Rounds, rounds-start, rounds-turn, rounds-end, rounds-below}
@@ -93,7 +93,7 @@ no-member s e γ t = subst T (ap (λ (x : List ℕ). member x γ) e ∙ member-e
 -- where a star's loop stands: `new` entered at its start, with work list work1; w is the work list now
 pub record Turning (sizes : List ℕ) (L : NodeLists) (k β n c live : ℕ) (new work1 w D O : List ℕ) (left : ℕ) (again : Bool) : Type 0 where
   pub rounds : Rounds sizes L β n c (bit live) (member new) (slots k work1) (slots k w) (member D) (member O) (bit left)
-  pub elsewhere : (i : ℕ) → (InTree L n (i / 32) → i % 32 < k → ⊥) → getD w i 0 ≡ getD work1 i 0
+  pub elsewhere : (i : ℕ) → Outside L k n i → getD w i 0 ≡ getD work1 i 0
   pub same : length w ≡ length work1
   pub longD : length D ≡ 32
   pub longO : length O ≡ 32
@@ -119,7 +119,7 @@ module _ (sizes : List ℕ) (L : NodeLists) (k β n : ℕ) (masks X work : List 
   few : k ≤ 32
   few = few-words sizes L k β n masks X work rd
 
-  room : 32 * n + k ≤ length work
+  room : k * n + k ≤ length work
   room = slot-room sizes L k β n masks X work rd
 
   ti : TakesIn n (slots k work) (member X) (member new) (slots k work1)
@@ -135,8 +135,8 @@ module _ (sizes : List ℕ) (L : NodeLists) (k β n : ℕ) (masks X work : List 
   entry-below = below-within sizes (member new) (member X) (ti .fresh) (rd .below)
 
   -- the words that the entry leaves
-  entry-words : (i : ℕ) → (InTree L n (i / 32) → i % 32 < k → ⊥) → getD work1 i 0 ≡ getD work i 0
-  entry-words i h = took-elsewhere k n work X new work1 few room inside tk i (λ e m. h (subst (InTree L n) (sym e) (in-tree-self L (children-below (rd .well)) n (rd .node))) m)
+  entry-words : (i : ℕ) → Outside L k n i → getD work1 i 0 ≡ getD work i 0
+  entry-words i h = took-elsewhere k n work X new work1 few room inside tk i (h n (in-tree-self L (children-below (rd .well)) n (rd .node)))
 
   here : (r : List ℕ) → Passes sizes L β (treeOf L n) n (bit marks) (member X) (slots k work) (member r) (slots k work1) → Evaluated sizes L k β n marks X work r work1
   here r p = record { passes = p; elsewhere = entry-words }
@@ -227,10 +227,10 @@ module _ (sizes : List ℕ) (L : NodeLists) (k β n : ℕ) (masks X work : List 
 
   -- the words that a node with two children leaves
   two-words : (x y : ℕ) → children (nodeAt L n) ≡ x ∷ y ∷ [] → (m m′ : ℕ) (A A′ a b w2 w3 : List ℕ) → Evaluated sizes L k β x m A work1 a w2 → Evaluated sizes L k β y m′ A′ w2 b w3
-      → (i : ℕ) → (InTree L n (i / 32) → i % 32 < k → ⊥) → getD w3 i 0 ≡ getD work i 0
+      → (i : ℕ) → Outside L k n i → getD w3 i 0 ≡ getD work i 0
   two-words x y e m m′ A A′ a b w2 w3 ea eb i h =
-      eb .elsewhere i (λ t. h (in-tree-right L (children-below (rd .well)) n x y (i / 32) (rd .node) e t))
-      ∙ ea .elsewhere i (λ t. h (in-tree-left L (children-below (rd .well)) n x y (i / 32) (rd .node) e t)) ∙ entry-words i h
+      eb .elsewhere i (λ j t. h j (in-tree-right L (children-below (rd .well)) n x y j (rd .node) e t))
+      ∙ ea .elsewhere i (λ j t. h j (in-tree-left L (children-below (rd .well)) n x y j (rd .node) e t)) ∙ entry-words i h
 
   pub eval-sum : (x y : ℕ) → nodeAt L n ≡ Sum x y → (a b w2 w3 : List ℕ) → Evaluated sizes L k β x live new work1 a w2 → length w2 ≡ length work1
       → Evaluated sizes L k β y live new w2 b w3 → length w3 ≡ length w2 → length a ≡ 32 → (r : List ℕ) → r ≡ unionOf k a b → Evaluated sizes L k β n marks X work r w3
@@ -240,7 +240,7 @@ module _ (sizes : List ℕ) (L : NodeLists) (k β n : ℕ) (masks X work : List 
       subst (λ (r : List ℕ). Evaluated sizes L k β n marks X work r w3) (sym er) (record {
         passes =
             sums (rd .well) β (bit marks) (bit live) (member X) (member new) (slots k work) (slots k work1) n (rd .node) ti (rd .below) v x y e (member a) (member b) (member (unionOf k a b))
-            (slots k w2) (slots k w3) (ea .passes) (apart-slots L k x work1 w2 few l2 (ea .elsewhere)) (eb .passes) (apart-slots L k y w2 w3 few l3 (eb .elsewhere)) (u .0) (u .1);
+            (slots k w2) (slots k w3) (ea .passes) (apart-slots L k x work1 w2 l2 (ea .elsewhere)) (eb .passes) (apart-slots L k y w2 w3 l3 (eb .elsewhere)) (u .0) (u .1);
         elsewhere = two-words x y (ap children e) live live new new a b w2 w3 ea eb;
       })
 
@@ -250,7 +250,7 @@ module _ (sizes : List ℕ) (L : NodeLists) (k β n : ℕ) (masks X work : List 
   eval-seq x y e a r w2 w3 ea l2 eb l3 = record {
     passes =
         seqs (rd .well) β (bit marks) (bit live) (member X) (member new) (slots k work) (slots k work1) n (rd .node) ti (rd .below) v x y e (member a) (member r)
-        (slots k w2) (slots k w3) (ea .passes) (apart-slots L k x work1 w2 few l2 (ea .elsewhere)) (eb .passes) (apart-slots L k y w2 w3 few l3 (eb .elsewhere));
+        (slots k w2) (slots k w3) (ea .passes) (apart-slots L k x work1 w2 l2 (ea .elsewhere)) (eb .passes) (apart-slots L k y w2 w3 l3 (eb .elsewhere));
     elsewhere = two-words x y (ap children e) live live new a a r w2 w3 ea eb;
   }
 
@@ -287,7 +287,7 @@ module _ (sizes : List ℕ) (L : NodeLists) (k β n : ℕ) (masks X work : List 
         belowA : Below sizes (member A)
         belowA = child-below c left D w A w2 ev
 
-        pub turning-room : 32 * n + k ≤ length w2
+        pub turning-room : k * n + k ≤ length w2
         turning-room = let a = room in let b = tg .same in let d = entry-length in omega arith
 
         module _ (G w3 : List ℕ) (tk2 : Took k n w2 A G w3) where
@@ -301,7 +301,7 @@ module _ (sizes : List ℕ) (L : NodeLists) (k β n : ℕ) (masks X work : List 
           l3 = took-length k n w2 A G w3 few turning-room insideA tk2
 
           apart2 : Apart L c (slots k w) (slots k w2)
-          apart2 = apart-slots L k c w w2 few l2 (ev .elsewhere)
+          apart2 = apart-slots L k c w w2 l2 (ev .elsewhere)
 
           pub turning-turn : (O′ : List ℕ) (again′ : Bool) → O′ ≡ unionOf k O G → again′ ≡ not (isEmpty k G)
               → Turning sizes L k β n c live new work1 w3 G O′ 0 again′
@@ -312,8 +312,8 @@ module _ (sizes : List ℕ) (L : NodeLists) (k β n : ℕ) (masks X work : List 
                     (slots k w3) (member G) (member O′) (bit 0) apart2 ti2 (subst (λ (o : List ℕ). Within (or (member O) (member G)) (member o)) (sym eO) (u .1))
                     (subst (λ (o : List ℕ). Within (member o) (or (member O) (member G))) (sym eO) (u .0)) (no-bit 0 refl);
                 elsewhere = λ i h.
-                    took-elsewhere k n w2 A G w3 few turning-room insideA tk2 i (λ q m. h (subst (InTree L n) (sym q) (in-tree-self L (children-below (rd .well)) n (rd .node))) m)
-                    ∙ ev .elsewhere i (λ t. h (in-tree-one L (children-below (rd .well)) n c (i / 32) (rd .node) kid t)) ∙ tg .elsewhere i h;
+                    took-elsewhere k n w2 A G w3 few turning-room insideA tk2 i (h n (in-tree-self L (children-below (rd .well)) n (rd .node)))
+                    ∙ ev .elsewhere i (λ j t. h j (in-tree-one L (children-below (rd .well)) n c j (rd .node) kid t)) ∙ tg .elsewhere i h;
                 same = l3 ∙ l2 ∙ tg .same;
                 longD = tk2 .long;
                 longO = ap length eO ∙ length-union k O G ∙ tg .longO;

@@ -1,5 +1,5 @@
 -- A packet set through a node, with a record of what has entered each node so far.
-use Prim.Native.Nat.{ℕ, suc, _/_, _%_, _<_, _≤_}
+use Prim.Native.Nat.{ℕ, suc, _+_, _*_, _<_, _≤_}
 use mathlib.Core.Bool.{_||_}
 use mathlib.Core.List.{List}
 use mathlib.Core.Logic.{_↔_}
@@ -82,10 +82,14 @@ pub record Passes (sizes : List ℕ) (L : NodeLists) (β : ℕ) (p : Policy) (n 
   -- no less: what had gone on before and what is new has gone on
   pub settled : (before : Marks) (Q : Members) → Settled sizes L β before S p n Q → Settled sizes L β (or before marks) S′ p n (or Q R)
 
--- the same of sets and work lists; only the first k words of the slots of the tree are written
+-- word i of the work list lies in no slot of the tree of node n
+abbrev pub Outside : NodeLists → ℕ → ℕ → ℕ → Type 0
+Outside L k n i = (m : ℕ) → InTree L n m → k * m ≤ i → i < k * m + k → ⊥
+
+-- the same of sets and work lists; only the slots of the tree are written
 pub record Evaluated (sizes : List ℕ) (L : NodeLists) (k β n marks : ℕ) (X work r work′ : List ℕ) : Type 0 where
   pub passes : Passes sizes L β (treeOf L n) n (bit marks) (member X) (slots k work) (member r) (slots k work′)
-  pub elsewhere : (i : ℕ) → (InTree L n (i / 32) → i % 32 < k → ⊥) → getD work′ i 0 ≡ getD work i 0
+  pub elsewhere : (i : ℕ) → Outside L k n i → getD work′ i 0 ≡ getD work i 0
 
 -- what the evaluator asks: legal sizes, well-formed lists and a node of them, k words for N packets, β and X below N, room for the slots
 pub record Ready (sizes : List ℕ) (L : NodeLists) (k β n : ℕ) (masks X work : List ℕ) : Type 0 where

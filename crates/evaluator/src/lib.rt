@@ -243,6 +243,6 @@ pub fn step(
         work,
     );
     slots::gather(places, words, n, work, next);
-    slots::clear(work, kind.len(), words);
+    slots::clear(work, words * kind.len());
     out
 }

@@ -18,7 +18,7 @@ use Rattle.packet_set.proofs.Digits.{bit-of-zero, bit-marked}
 use Rattle.packet_set.proofs.Walk.{LowestIn, found-at, found-none}
 use Rattle.packet_set.proofs.Work.{member-slot}
 use Rattle.automaton.proofs.Tests.{either, true-T, eqb-true}
-use Rattle.slots.specs.Slots.{slots, Marked, Entered, Gathered, Zeroed, GatherReady, Cleared}
+use Rattle.slots.specs.Slots.{slots, Marked, Entered, Gathered, GatherReady, Cleared}
 
 -- ---- marking the members of a set
 
@@ -74,65 +74,30 @@ module _ (k label : ℕ) (X next₀ next : List ℕ) (from : ℕ) (m : Marking k
 
 -- ---- entries become 0
 
-pub record Zeroing (m n : ℕ) (list₀ list : List ℕ) (i : ℕ) : Type 0 where
+pub record Clearing (n : ℕ) (list₀ list : List ℕ) (i : ℕ) : Type 0 where
+  pub at : i ≤ n
   pub long : length list ≡ length list₀
-  pub zeroed : Zeroed m i list₀ list
-  pub from : m ≤ i
-  -- where there is nothing to do the loop begins past the end
-  pub at : (i ≡ m) ⊎ (i ≤ n)
+  pub cleared : Cleared i list₀ list
 
-pub zeroing-start : (m n : ℕ) (list : List ℕ) → Zeroing m n list list m
-zeroing-start m n list = record { long = refl; zeroed = record { inside = λ j a b. absurd (omega arith); beyond = λ j h. refl }; from = omega arith; at = inl refl }
+pub clearing-start : (n : ℕ) (list : List ℕ) → Clearing n list list 0
+clearing-start n list = record { at = omega arith; long = refl; cleared = record { inside = λ j h. absurd (omega arith); beyond = λ j h. refl } }
 
-pub zeroing-turn : (m n : ℕ) (list₀ list : List ℕ) (i : ℕ) → Zeroing m n list₀ list i → n ≤ length list₀ → i < n → Zeroing m n list₀ (set list i 0) (i + 1)
-zeroing-turn m n list₀ list i z f l = record {
-  long = length-set list i 0 ∙ z .long;
-  zeroed = record {
-    inside = λ j a h. split j a h (ℕ-discrete j i);
-    beyond = λ j h. getD-set-other list i j 0 0 (λ e. h (omega (arith, z .from)) (omega arith)) ∙ z .zeroed .beyond j (λ a b. h a (omega arith));
-  };
-  from = omega (arith, z .from);
-  at = inr (omega arith);
-}
-  where
-    split : (j : ℕ) → m ≤ j → j < i + 1 → Dec (j ≡ i) → getD (set list i 0) j 0 ≡ 0
-    split j a h (yes e) = ap (λ (x : ℕ). getD (set list i 0) x 0) e ∙ getD-set-same list i 0 0 (omega (arith, z .long))
-    split j a h (no e) = getD-set-other list i j 0 0 e ∙ z .zeroed .inside j a (omega arith)
-
-pub zeroing-end : (m n : ℕ) (list₀ list : List ℕ) (i : ℕ) → Zeroing m n list₀ list i → n ≤ i → Zeroed m n list₀ list
-zeroing-end m n list₀ list i z l = record { inside = λ j a b. z .zeroed .inside j a (omega arith); beyond = λ j h. z .zeroed .beyond j (outside j h (z .at)) }
-  where
-    outside : (j : ℕ) → (m ≤ j → j < n → ⊥) → (i ≡ m) ⊎ (i ≤ n) → m ≤ j → j < i → ⊥
-    outside j h (inl e) a b = omega arith
-    outside j h (inr e) a b = h a (omega arith)
-
--- ---- the slots become 0
-
-pub record Clearing (k slots : ℕ) (work₀ work : List ℕ) (n : ℕ) : Type 0 where
-  pub at : n ≤ slots
-  pub long : length work ≡ length work₀
-  pub cleared : Cleared k n work₀ work
-
-pub clearing-start : (k slots : ℕ) (work : List ℕ) → Clearing k slots work work 0
-clearing-start k slots work = record { at = omega arith; long = refl; cleared = record { inside = λ i a b. absurd (omega arith); beyond = λ i h. refl } }
-
-pub clearing-turn : (k slots : ℕ) (work₀ work : List ℕ) (n : ℕ) → Clearing k slots work₀ work n → k ≤ 32 → n < slots → (work′ : List ℕ) → length work′ ≡ length work
-    → Zeroed (32 * n) (32 * n + k) work work′ → Clearing k slots work₀ work′ (n + 1)
-clearing-turn k slots work₀ work n c few l work′ same z = record {
+pub clearing-turn : (n : ℕ) (list₀ list : List ℕ) (i : ℕ) → Clearing n list₀ list i → n ≤ length list₀ → i < n → Clearing n list₀ (set list i 0) (i + 1)
+clearing-turn n list₀ list i c f l = record {
   at = omega arith;
-  long = same ∙ c .long;
+  long = length-set list i 0 ∙ c .long;
   cleared = record {
-    inside = λ i a b. in-part i b (ℕ-discrete (i / 32) n) a;
-    beyond = λ i h. z .beyond i (λ a b. h (omega arith) (omega arith)) ∙ c .cleared .beyond i (λ a b. h (omega arith) b);
+    inside = λ j h. split j h (ℕ-discrete j i);
+    beyond = λ j h. getD-set-other list i j 0 0 (omega arith) ∙ c .cleared .beyond j (omega arith);
   };
 }
   where
-    in-part : (i : ℕ) → i % 32 < k → Dec (i / 32 ≡ n) → i / 32 < n + 1 → getD work′ i 0 ≡ 0
-    in-part i b (yes q) a = z .inside i (omega arith) (omega arith)
-    in-part i b (no q) a = z .beyond i (λ x y. q (omega arith)) ∙ c .cleared .inside i (omega arith) b
+    split : (j : ℕ) → j < i + 1 → Dec (j ≡ i) → getD (set list i 0) j 0 ≡ 0
+    split j h (yes e) = ap (λ (x : ℕ). getD (set list i 0) x 0) e ∙ getD-set-same list i 0 0 (omega (arith, c .long))
+    split j h (no e) = getD-set-other list i j 0 0 e ∙ c .cleared .inside j (omega arith)
 
-pub clearing-end : (k slots : ℕ) (work₀ work : List ℕ) (n : ℕ) → Clearing k slots work₀ work n → slots ≤ n → Cleared k slots work₀ work
-clearing-end k slots work₀ work n c l = subst (λ (x : ℕ). Cleared k x work₀ work) (omega (arith, c .at)) (c .cleared)
+pub clearing-end : (n : ℕ) (list₀ list : List ℕ) (i : ℕ) → Clearing n list₀ list i → n ≤ i → Cleared n list₀ list
+clearing-end n list₀ list i c l = subst (λ (x : ℕ). Cleared x list₀ list) (omega (arith, c .at)) (c .cleared)
 
 -- ---- gathering
 
@@ -142,27 +107,30 @@ pub record Gathering (places : List ℕ) (k N : ℕ) (work next₀ next : List �
   pub gathered : Gathered places k N n work next₀ next
 
 module _ (places : List ℕ) (k N : ℕ) (work : List ℕ) where
-  pub gathering-start : (next next₀ : List ℕ) → Zeroed 0 N next next₀ → Gathering places k N work next₀ next₀ 0
+  pub gathering-start : (next next₀ : List ℕ) → Cleared N next next₀ → Gathering places k N work next₀ next₀ 0
   gathering-start next next₀ z = record {
     at = omega arith;
     long = refl;
     gathered = record {
-      inside = λ γ i l. (λ t. absurd (subst T (ap (λ (x : ℕ). bit x i) (z .inside γ (omega arith) l) ∙ bit-of-zero i) t), λ e. absurd (let h = e .within in omega arith));
+      inside = λ γ i l. (λ t. absurd (subst T (ap (λ (x : ℕ). bit x i) (z .inside γ l) ∙ bit-of-zero i) t), λ e. absurd (let h = e .within in omega arith));
       beyond = λ γ l. refl;
     };
   }
 
-  module _ (next₀ next : List ℕ) (rd : GatherReady places k N work next₀) (n : ℕ) (g : Gathering places k N work next₀ next n) (l : n < length places) (start : ℕ) (es : start ≡ 32 * getD places n 0) where
+  module _ (next₀ next : List ℕ) (rd : GatherReady places k N work next₀) (n : ℕ) (g : Gathering places k N work next₀ next n) (l : n < length places) (node : ℕ) (en : node ≡ getD places n 0) where
+    abbrev start : ℕ
+    start = k * node
+
     abbrev rest : List ℕ
     rest = take (length work - start) (drop start work)
 
-    room : 32 * getD places n 0 + k ≤ length work
+    room : k * getD places n 0 + k ≤ length work
     room = rd .slotRoom n l
 
-    pub start-fits : start + k ≤ length work
-    start-fits = let h = room in omega arith
+    pub start-fits : k * node + k ≤ length work
+    start-fits = subst (λ (x : ℕ). k * x + k ≤ length work) (sym en) room
 
-    pub words-fit : k ≤ length (take (length work - start) (drop start work))
+    pub words-fit : k ≤ length (take (length work - k * node) (drop (k * node) work))
     words-fit = let h = length-take-le (length work - start) (drop start work) (let e = length-drop start work in omega arith) in let f = start-fits in omega arith
 
     -- the slot where it lies
@@ -170,14 +138,14 @@ module _ (places : List ℕ) (k N : ℕ) (work : List ℕ) where
     unfolding member
     there γ h =
         ap (λ (x : ℕ). bit x (γ % 32))
-        (getD-take (length work - start) (drop start work) (γ / 32) 0 (let f = start-fits in omega arith) ∙ getD-drop start work (γ / 32) 0 ∙ ap (λ (x : ℕ). getD work (x + γ / 32) 0) es)
+        (getD-take (length work - start) (drop start work) (γ / 32) 0 (let f = start-fits in omega arith) ∙ getD-drop start work (γ / 32) 0 ∙ ap (λ (x : ℕ). getD work (k * x + γ / 32) 0) en)
         ∙ sym (unfold member in member-slot k (getD places n 0) work γ h room)
 
-    pub gathering-room : (γ : ℕ) → γ < 32 * k → T (member (take (length work - start) (drop start work)) γ) → γ < length next
+    pub gathering-room : (γ : ℕ) → γ < 32 * k → T (member (take (length work - k * node) (drop (k * node) work)) γ) → γ < length next
     unfolding slots
     gathering-room γ h t = let b = rd .below n l γ (subst T (there γ h) t) in let r = rd .room in omega (arith, g .long)
 
-    pub gathering-turn : (after : ℕ) → after ≡ n + 1 → (next′ : List ℕ) → length next′ ≡ length next → Marked k after (take (length work - start) (drop start work)) next next′ → Gathering places k N work next₀ next′ (n + 1)
+    pub gathering-turn : (after : ℕ) → after ≡ n + 1 → (next′ : List ℕ) → length next′ ≡ length next → Marked k after (take (length work - k * node) (drop (k * node) work)) next next′ → Gathering places k N work next₀ next′ (n + 1)
     gathering-turn after ea next′ ln m = record {
       at = omega arith;
       long = ln ∙ g .long;
@@ -222,11 +190,11 @@ module _ (places : List ℕ) (k N : ℕ) (work : List ℕ) where
             m .inside γ h ∙ unmarked2 (member rest γ) (marked (getD next γ 0) after) (getD next γ 0) (λ t. let x = rd .below n l γ (unfold slots in subst T (there γ h) t) in absurd (omega arith))
         outside γ b (no h) = m .beyond γ (omega arith)
 
-  pub gathering-end : (next next₀ next′ : List ℕ) (n : ℕ) → Zeroed 0 N next next₀ → Gathering places k N work next₀ next′ n → length places ≤ n → Gathered places k N (length places) work next next′
+  pub gathering-end : (next next₀ next′ : List ℕ) (n : ℕ) → Cleared N next next₀ → Gathering places k N work next₀ next′ n → length places ≤ n → Gathered places k N (length places) work next next′
   gathering-end next next₀ next′ n z g l =
       let e : n ≡ length places = omega (arith, g .at) in
       let h = subst (λ (x : ℕ). Gathered places k N x work next₀ next′) e (g .gathered) in
-      record { inside = h .inside; beyond = λ γ b. h .beyond γ b ∙ z .beyond γ (λ _ x. absurd (omega arith)) }
+      record { inside = h .inside; beyond = λ γ b. h .beyond γ b ∙ z .beyond γ b }
 
   pub gather-after : (next next₀ : List ℕ) → GatherReady places k N work next → length next₀ ≡ length next → GatherReady places k N work next₀
   gather-after next next₀ r e = record { few = r .few; labels = r .labels; slotRoom = r .slotRoom; words = r .words; room = let h = r .room in omega arith; below = r .below }

@@ -1,5 +1,5 @@
--- What the functions of the work list do, a slot of 32 words for each node.
-use Prim.Native.Nat.{ℕ, suc, _+_, _*_, _/_, _%_, _<_, _≤_}
+-- What the functions of the work list do, a slot of k words for each node.
+use Prim.Native.Nat.{ℕ, suc, _+_, _*_, _<_, _≤_}
 use mathlib.Core.Bool.{cond}
 use mathlib.Core.List.{List}
 use mathlib.Core.Logic.{_↔_}
@@ -38,21 +38,16 @@ pub record Gathered (places : List ℕ) (k N n : ℕ) (work next next′ : List 
   pub inside : (γ i : ℕ) → γ < N → T (bit (getD next′ γ 0) i) ↔ Entered places k n work γ i
   pub beyond : (γ : ℕ) → N ≤ γ → getD next′ γ 0 ≡ getD next γ 0
 
--- the entries from m to before n are 0, the others as they were
-pub record Zeroed (m n : ℕ) (list list′ : List ℕ) : Type 0 where
-  pub inside : (i : ℕ) → m ≤ i → i < n → getD list′ i 0 ≡ 0
-  pub beyond : (i : ℕ) → (m ≤ i → i < n → ⊥) → getD list′ i 0 ≡ getD list i 0
+-- the first n entries are 0, the others as they were
+pub record Cleared (n : ℕ) (list list′ : List ℕ) : Type 0 where
+  pub inside : (i : ℕ) → i < n → getD list′ i 0 ≡ 0
+  pub beyond : (i : ℕ) → n ≤ i → getD list′ i 0 ≡ getD list i 0
 
 -- what gathering asks: only packets below N have entered the dups
 pub record GatherReady (places : List ℕ) (k N : ℕ) (work next : List ℕ) : Type 0 where
   pub few : k ≤ 32
   pub labels : length places < 32
-  pub slotRoom : (i : ℕ) → i < length places → 32 * getD places i 0 + k ≤ length work
+  pub slotRoom : (i : ℕ) → i < length places → k * getD places i 0 + k ≤ length work
   pub words : N ≤ 32 * k
   pub room : N ≤ length next
   pub below : (i : ℕ) → i < length places → (γ : ℕ) → T (slots k work (getD places i 0) γ) → γ < N
-
--- the first k words of the first n slots are 0, and all else is as it was
-pub record Cleared (k n : ℕ) (work work′ : List ℕ) : Type 0 where
-  pub inside : (i : ℕ) → i / 32 < n → i % 32 < k → getD work′ i 0 ≡ 0
-  pub beyond : (i : ℕ) → (i / 32 < n → i % 32 < k → ⊥) → getD work′ i 0 ≡ getD work i 0

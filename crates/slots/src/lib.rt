@@ -1,20 +1,21 @@
-// The work list of one step: slot n, the 32 words from word 32 n on, is the packet set that has entered node n. Sets are taken in,
-// what entered the dups is gathered, and the slots are cleared. All functions here are inner.
+// The work list of one step: slot n, as many words as N packets need, is the packet set that has entered node n. The slots lie side
+// by side: that of node n starts at word words * n. Sets are taken in, what entered the dups is gathered, and the slots are cleared
+// in one go. All functions here are inner.
 ghost use Prim.Native.Nat.{ℕ, _+_, _*_, _<_, _≤_};
 ghost use mathlib.Core.Path.{_≡_};
 ghost use lib.Dec.{T};
 ghost use lib.ListN.{length};
 ghost use Rattle.packet_set.specs.Members.{member};
-ghost use Rattle.slots.specs.Slots.{Took, Marked, Gathered, Zeroed, GatherReady, Cleared};
+ghost use Rattle.slots.specs.Slots.{Took, Marked, Gathered, GatherReady, Cleared};
 use packet_set::Lowest;
 use packet_set::PacketSet;
 
 // Inner. Slot n of the work list takes the set; what was not there before stays in the set.
 pub fn take_in(work: &mut [u32], n: usize, words: usize, set: &mut PacketSet)
-    requires { ⌜ (words ≤ 32) × (32 * n + words ≤ length (now work)) × (length (now set) ≡ 32) ⌝ }
+    requires { ⌜ (words ≤ 32) × (words * n + words ≤ length (now work)) × (length (now set) ≡ 32) ⌝ }
     ensures { λ _. ⌜ Took words n (now (work .entry)) (now (set .entry)) (now (set .exit)) (now (work .exit)) ⌝ }
 {
-    let start = 32 * n;
+    let start = words * n;
     let mut i = 0;
     while i < words {
         let old = work[start + i];
@@ -41,13 +42,13 @@ fn mark_members(set: &[u32], words: usize, label: u32, next: &mut [u32])
     }
 }
 
-// Inner. The entries from start to before end become 0.
-fn zero_range(list: &mut [u32], start: usize, end: usize)
-    requires { ⌜ end ≤ length (now list) ⌝ }
-    ensures { λ _. ⌜ Zeroed start end (now (list .entry)) (now (list .exit)) ⌝ }
+// Inner. The first n entries become 0.
+pub fn clear(list: &mut [u32], n: usize)
+    requires { ⌜ n ≤ length (now list) ⌝ }
+    ensures { λ _. ⌜ Cleared n (now (list .entry)) (now (list .exit)) ⌝ }
 {
-    let mut i = start;
-    while i < end {
+    let mut i = 0;
+    while i < n {
         list[i] = 0;
         i += 1;
     }
@@ -64,24 +65,11 @@ pub fn gather(places: &[u16], words: usize, count: usize, work: &[u32], next: &m
     requires { ⌜ GatherReady (now places) words count (now work) (now next) ⌝ }
     ensures { λ _. ⌜ Gathered (now (places .entry)) words count (length (now (places .entry))) (now (work .entry)) (now (next .entry)) (now (next .exit)) ⌝ }
 {
-    zero_range(next, 0, count);
+    clear(next, count);
     let mut i = 0;
     while i < places.len() {
-        let start = 32 * wide(places[i]);
+        let start = words * wide(places[i]);
         i += 1;
         mark_members(&work[start..], words, i as u32, next);
-    }
-}
-
-// Inner. The first words of the first slots become 0.
-pub fn clear(work: &mut [u32], slots: usize, words: usize)
-    requires { ⌜ (words ≤ 32) × (32 * slots ≤ length (now work)) ⌝ }
-    ensures { λ _. ⌜ Cleared words slots (now (work .entry)) (now (work .exit)) ⌝ }
-{
-    let mut n = 0;
-    while n < slots {
-        let start = 32 * n;
-        zero_range(work, start, start + words);
-        n += 1;
     }
 }

@@ -1,7 +1,7 @@
 -- `step` meets its contract. Assumes nothing.
 use native.Mathlib.Omega.{arith}
 use Rattle.policy.specs.NodeLists.{nodeCount}
-use Rattle.evaluator.proofs.Answering.{count-small, clear-ready, eval-ready, gather-ready, stepped}
+use Rattle.evaluator.proofs.Answering.{count-small, all-fit, clear-ready, eval-ready, gather-ready, stepped}
 use borrow.Author.Needs.{needs}
 use Rattle.evaluator.proofs.step.Statement.{statement}
 use Rattle.evaluator.proofs.step.Tie as tie
@@ -19,6 +19,10 @@ through-requires c κs = (eval-ready _ _ _ _ _ _ _ _ _ (c .before .before .befor
 gather-requires : tie.Need-gather-requires
 unfolding nodeCount
 gather-requires c κs = gather-ready _ _ _ _ _ _ _ _ _ (c .before .before .before .before .before .before .before .before .before .before .before .before .before .before .before .before .before .pre) _ (c .before .before .before .before .before .before .before .before .words-for .ensures) _ _ (c .before .before .before .before .before .before .before .start-set .ensures) _ _ (c .before .before .before .before .through .ensures .0) (search needs)
+
+mul-clear : tie.Need-mul-clear
+unfolding nodeCount
+mul-clear c = let h = all-fit _ _ _ _ _ _ _ _ _ (c .before .before .before .before .before .before .before .before .before .before .before .before .before .before .before .before .before .before .before .before .before .pre) _ (c .before .before .before .before .before .before .before .before .before .before .before .before .words-for .ensures) in omega arith
 
 clear-requires : tie.Need-clear-requires
 unfolding nodeCount
@@ -42,6 +46,7 @@ step-spec =
     start-set-requires
     through-requires
     gather-requires
+    mul-clear
     clear-requires
     same-length
     same-length-2

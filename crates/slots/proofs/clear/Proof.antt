@@ -7,37 +7,34 @@ use Rattle.slots.proofs.clear.Statement.{statement}
 use Rattle.slots.proofs.clear.Tie as tie
 
 abbrev Inv-loop : tie.InvT-loop
-Inv-loop work₀ slots words n₀ work n = Clearing words slots work₀ work n
+Inv-loop list₀ n i₀ list i = Clearing n list₀ list i
 
 abbrev μ-loop : tie.MeasureT-loop
-μ-loop work₀ slots words n₀ work n = slots - n
+μ-loop list₀ n i₀ list i = n - i
 
 loop-holds : tie.Need-loop-holds Inv-loop μ-loop
-loop-holds c = clearing-start _ _ _
+loop-holds c = clearing-start _ _
 
-mul-start : tie.Need-mul-start Inv-loop μ-loop
-mul-start c = omega (arith, c .before .loop .inv .long, c .before .before .before .pre)
+mul-list : tie.Need-mul-list Inv-loop μ-loop
+mul-list c = omega (arith, c .before .loop .inv .long)
 
-add-zero-range : tie.Need-add-zero-range Inv-loop μ-loop
-add-zero-range c = omega (arith, c .before .before .loop .inv .long, c .before .before .before .before .pre)
+slice-write-list : tie.Need-slice-write-list Inv-loop μ-loop
+slice-write-list c = omega (arith, c .before .loop .inv .long)
 
-zero-range-requires : tie.Need-zero-range-requires Inv-loop μ-loop
-zero-range-requires c κs = omega (arith, c .before .before .loop .inv .long, c .before .before .before .before .pre)
-
-add-n : tie.Need-add-n Inv-loop μ-loop
-add-n c = search needs
+add-i : tie.Need-add-i Inv-loop μ-loop
+add-i c = search needs
 
 loop-less : tie.Need-loop-less Inv-loop μ-loop
 loop-less c = search needs
 
 loop-again : tie.Need-loop-again Inv-loop μ-loop
-loop-again c = clearing-turn _ _ _ _ _ (c .before .before .before .before .before .loop .inv) (c .before .before .before .before .before .before .before .pre .0) (c .before .before .before .before .loop-test .taken) _ (search needs) (c .before .before .zero-range .ensures)
+loop-again c = clearing-turn _ _ _ _ (c .before .loop .inv) (c .before .before .pre) (c .loop-test .taken)
 
 same-length : tie.Need-same-length Inv-loop μ-loop
 same-length c = c .before .loop .inv .long
 
 returns : tie.Need-returns Inv-loop μ-loop
-returns c = clearing-end _ _ _ _ _ (c .before .loop .inv) (c .loop-test .left)
+returns c = clearing-end _ _ _ _ (c .before .loop .inv) (c .loop-test .left)
 
 pub clear-spec : {M : Type 1} → statement M
 clear-spec =
@@ -46,10 +43,9 @@ clear-spec =
     Inv-loop
     μ-loop
     loop-holds
-    mul-start
-    add-zero-range
-    zero-range-requires
-    add-n
+    mul-list
+    slice-write-list
+    add-i
     loop-less
     loop-again
     same-length
