@@ -90,6 +90,26 @@ no-bit m e i t = subst T (ap (λ (x : ℕ). bit x i) e ∙ bit-of-zero i) t
 no-member : (s : List ℕ) → s ≡ emptySet → (γ : ℕ) → T (member s γ) → ⊥
 no-member s e γ t = subst T (ap (λ (x : List ℕ). member x γ) e ∙ member-empty γ) t
 
+-- nothing enters a node and none of its dups is marked: it need not be visited
+pub eval-idle : (sizes : List ℕ) (L : NodeLists) (k β n : ℕ) (masks X work : List ℕ) (rd : Ready sizes L k β n masks X work) (marks : ℕ) → bitAnd marks (getD masks n 0) ≡ 0 → isEmpty k X ≡ true
+    → Evaluated sizes L k β n marks X work X work
+eval-idle sizes L k β n masks X work rd marks z e = record {
+  passes =
+      skips (rd .well) β (bit marks) (bit (bitAnd marks (getD masks n 0))) (member X) (member X) (slots k work) (slots k work) n (rd .node)
+      (record {
+        fresh = λ γ t. t;
+        stored = λ γ t. or-left (slots k work n) (member X) γ t;
+        keeps = λ γ t. t;
+        gains = λ γ t. absurd (nothing γ t);
+        others = λ j h γ. refl;
+      })
+      (rd .below) (live-marks sizes L k β n masks X work rd marks) (no-bit (bitAnd marks (getD masks n 0)) z) nothing (member X) nothing;
+  elsewhere = λ i h. refl;
+}
+  where
+    nothing : (γ : ℕ) → T (member X γ) → ⊥
+    nothing γ t = subst T (empty-members X k e γ (within-words sizes L k β n masks X work rd (member X) (rd .below) γ t)) t
+
 -- where a star's loop stands: `new` entered at its start, with work list work1; w is the work list now
 pub record Turning (sizes : List ℕ) (L : NodeLists) (k β n c live : ℕ) (new work1 w D O : List ℕ) (left : ℕ) (again : Bool) : Type 0 where
   pub rounds : Rounds sizes L β n c (bit live) (member new) (slots k work1) (slots k w) (member D) (member O) (bit left)

@@ -96,6 +96,13 @@ fn through(
                 set,
                 work,
             );
+            // most branches of a forwarding policy end at their first test: the rest is not visited
+            let rest = r as usize;
+            if live & masks[rest] == 0 {
+                if packet_set::is_empty(set, words) {
+                    return;
+                }
+            }
             through(
                 kind,
                 first,
@@ -104,7 +111,7 @@ fn through(
                 masks,
                 words,
                 packet,
-                r as usize,
+                rest,
                 live,
                 set,
                 work,

@@ -10,7 +10,7 @@ use Rattle.policy.specs.NodeLists.{children}
 use Rattle.packet_set.specs.Members.{emptySet}
 use Rattle.packet_set.proofs.Words.{length-with, length-union}
 use Rattle.evaluator.proofs.Entering.{few-words, slot-room}
-use Rattle.evaluator.proofs.Evaluating.{Turning, toGo, in-lists, entry-below, acting, child-below, two-kids, left-ready, right-ready, eval-skip, eval-drop, eval-id, eval-field, eval-dup-no, eval-dup-yes, eval-sum, eval-seq, eval-star, c<, turning-start, turning-ready, turning-room, turning-turn, turning-less}
+use Rattle.evaluator.proofs.Evaluating.{Turning, toGo, in-lists, entry-below, acting, child-below, two-kids, left-ready, right-ready, eval-idle, eval-skip, eval-drop, eval-id, eval-field, eval-dup-no, eval-dup-yes, eval-sum, eval-seq, eval-star, c<, turning-start, turning-ready, turning-room, turning-turn, turning-less}
 use Prim.Native.Nat.{ℕ, _<_}
 use borrow.Fn.Kinds.{In}
 use borrow.Fn.PlainCycle.{Measures, is, falls, and}
@@ -122,12 +122,30 @@ through-through-requires-3 : (t : ℕ) → through-lts.Need-through-requires-3 (
 unfolding children
 through-through-requires-3 t c κs = (omega (arith, two-kids _ _ _ _ _ _ _ _ (c .before .before .before .before .before .before .before .before .before .before .before .before .before .before .before .before .before .before .before .pre .1 .0) _ _ (c .before .before .before .before .before .before .before .before .before .before .take-in .ensures) 0 _ _ (ap children (sym (c .before .before .before .before .before .node-at .ensures) ∙ c .before .before .before .l2 .given .1)), c .before .before .before .before .before .before .before .before .before .before .before .before .before .before .before .before .before .before .before .pre .0), (left-ready _ _ _ _ _ _ _ _ (c .before .before .before .before .before .before .before .before .before .before .before .before .before .before .before .before .before .before .before .pre .1 .0) _ _ (c .before .before .before .before .before .before .before .before .before .before .take-in .ensures) 0 _ _ (ap children (sym (c .before .before .before .before .before .node-at .ensures) ∙ c .before .before .before .l2 .given .1)), c .before .before .before .before .before .before .before .before .before .before .take-in .ensures .long))
 
-through-cast-through-4 : (t : ℕ) → through-lts.Need-cast-through-4 (through-calls t) (through-at t) through.Post through-Inv-loop through-μ-loop
-through-cast-through-4 t c = search needs
+through-cast-rest : (t : ℕ) → through-lts.Need-cast-rest (through-calls t) (through-at t) through.Post through-Inv-loop through-μ-loop
+through-cast-rest t c = search needs
+
+through-mul-if4 : (t : ℕ) → through-lts.Need-mul-if4 (through-calls t) (through-at t) through.Post through-Inv-loop through-μ-loop
+unfolding children
+through-mul-if4 t c = omega (arith, two-kids _ _ _ _ _ _ _ _ (c .before .before .before .before .before .before .before .before .before .before .before .before .before .before .before .before .before .before .before .before .before .before .pre .1 .0) _ _ (c .before .before .before .before .before .before .before .before .before .before .before .before .before .take-in .ensures) 0 _ _ (ap children (sym (c .before .before .before .before .before .before .before .before .node-at .ensures) ∙ c .before .before .before .before .before .before .l2 .given .1)), c .before .before .before .before .before .before .before .before .before .before .before .before .before .before .before .before .before .before .before .before .before .before .pre .1 .0 .node, c .before .before .before .before .before .before .before .before .before .before .before .before .before .before .before .before .before .before .before .before .before .before .pre .1 .0 .masked)
+
+through-shared-slice-read-if4 : (t : ℕ) → through-lts.Need-shared-slice-read-if4 (through-calls t) (through-at t) through.Post through-Inv-loop through-μ-loop
+unfolding children
+through-shared-slice-read-if4 t c = omega (arith, two-kids _ _ _ _ _ _ _ _ (c .before .before .before .before .before .before .before .before .before .before .before .before .before .before .before .before .before .before .before .before .before .before .before .pre .1 .0) _ _ (c .before .before .before .before .before .before .before .before .before .before .before .before .before .before .take-in .ensures) 0 _ _ (ap children (sym (c .before .before .before .before .before .before .before .before .before .node-at .ensures) ∙ c .before .before .before .before .before .before .before .l2 .given .1)), c .before .before .before .before .before .before .before .before .before .before .before .before .before .before .before .before .before .before .before .before .before .before .before .pre .1 .0 .node, c .before .before .before .before .before .before .before .before .before .before .before .before .before .before .before .before .before .before .before .before .before .before .before .pre .1 .0 .masked)
+
+through-is-empty-requires-2 : (t : ℕ) → through-lts.Need-is-empty-requires-2 (through-calls t) (through-at t) through.Post through-Inv-loop through-μ-loop
+through-is-empty-requires-2 t c κs = few-words _ _ _ _ _ _ _ _ (c .before .before .before .before .before .before .before .before .before .before .before .before .before .before .before .before .before .before .before .before .before .before .before .before .before .pre .1 .0)
+
+through-same-length-3 : (t : ℕ) → through-lts.Need-same-length-3 (through-calls t) (through-at t) through.Post through-Inv-loop through-μ-loop
+through-same-length-3 t c = search needs
+
+through-returns-3 : (t : ℕ) → through-lts.Need-returns-3 (through-calls t) (through-at t) through.Post through-Inv-loop through-μ-loop
+unfolding children
+through-returns-3 t c = (eval-seq _ _ _ _ _ _ _ _ (c .before .before .before .before .before .before .before .before .before .before .before .before .before .before .before .before .before .before .before .before .before .before .before .before .before .before .before .pre .1 .0) _ _ (c .before .before .before .before .before .before .before .before .before .before .before .before .before .before .before .before .before .before .take-in .ensures) _ _ _ (sym (c .before .before .before .before .before .before .before .before .before .before .before .before .before .node-at .ensures) ∙ c .before .before .before .before .before .before .before .before .before .before .before .l2 .given .1) _ _ _ _ (c .before .before .before .before .before .before .before .through3 .ensures .0) (search needs) (eval-idle _ _ _ _ _ _ _ _ (right-ready _ _ _ _ _ _ _ _ (c .before .before .before .before .before .before .before .before .before .before .before .before .before .before .before .before .before .before .before .before .before .before .before .before .before .before .before .pre .1 .0) _ _ (c .before .before .before .before .before .before .before .before .before .before .before .before .before .before .before .before .before .before .take-in .ensures) 0 _ _ (ap children (sym (c .before .before .before .before .before .before .before .before .before .before .before .before .before .node-at .ensures) ∙ c .before .before .before .before .before .before .before .before .before .before .before .l2 .given .1)) _ _ (child-below _ _ _ _ _ _ _ _ (c .before .before .before .before .before .before .before .before .before .before .before .before .before .before .before .before .before .before .before .before .before .before .before .before .before .before .before .pre .1 .0) _ _ (c .before .before .before .before .before .before .before .before .before .before .before .before .before .before .before .before .before .before .take-in .ensures) 0 _ _ _ _ _ _ (c .before .before .before .before .before .before .before .through3 .ensures .0)) (search needs)) _ (c .before .before .before .if4 .taken) (sym (c .before .is-empty2 .ensures) ∙ c .if5 .taken)) refl, c .before .before .before .before .before .before .before .through3 .ensures .1)
 
 through-through-requires-4 : (t : ℕ) → through-lts.Need-through-requires-4 (through-calls t) (through-at t) through.Post through-Inv-loop through-μ-loop
 unfolding children
-through-through-requires-4 t c κs = (omega (arith, two-kids _ _ _ _ _ _ _ _ (c .before .before .before .before .before .before .before .before .before .before .before .before .before .before .before .before .before .before .before .before .before .before .before .before .pre .1 .0) _ _ (c .before .before .before .before .before .before .before .before .before .before .before .before .before .before .before .take-in .ensures) 0 _ _ (ap children (sym (c .before .before .before .before .before .before .before .before .before .before .node-at .ensures) ∙ c .before .before .before .before .before .before .before .before .l2 .given .1)), c .before .before .before .before .before .before .before .before .before .before .before .before .before .before .before .before .before .before .before .before .before .before .before .before .pre .0), (right-ready _ _ _ _ _ _ _ _ (c .before .before .before .before .before .before .before .before .before .before .before .before .before .before .before .before .before .before .before .before .before .before .before .before .pre .1 .0) _ _ (c .before .before .before .before .before .before .before .before .before .before .before .before .before .before .before .take-in .ensures) 0 _ _ (ap children (sym (c .before .before .before .before .before .before .before .before .before .before .node-at .ensures) ∙ c .before .before .before .before .before .before .before .before .l2 .given .1)) _ _ (child-below _ _ _ _ _ _ _ _ (c .before .before .before .before .before .before .before .before .before .before .before .before .before .before .before .before .before .before .before .before .before .before .before .before .pre .1 .0) _ _ (c .before .before .before .before .before .before .before .before .before .before .before .before .before .before .before .take-in .ensures) 0 _ _ _ _ _ _ (c .before .before .before .before .through3 .ensures .0)) (search needs), c .before .before .before .before .through3 .ensures .1))
+through-through-requires-4 t c κs = (omega (arith, two-kids _ _ _ _ _ _ _ _ (c .before .before .before .before .before .before .before .before .before .before .before .before .before .before .before .before .before .before .before .before .before .before .before .before .before .before .pre .1 .0) _ _ (c .before .before .before .before .before .before .before .before .before .before .before .before .before .before .before .before .before .take-in .ensures) 0 _ _ (ap children (sym (c .before .before .before .before .before .before .before .before .before .before .before .before .node-at .ensures) ∙ c .before .before .before .before .before .before .before .before .before .before .l2 .given .1)), c .before .before .before .before .before .before .before .before .before .before .before .before .before .before .before .before .before .before .before .before .before .before .before .before .before .before .pre .0), (right-ready _ _ _ _ _ _ _ _ (c .before .before .before .before .before .before .before .before .before .before .before .before .before .before .before .before .before .before .before .before .before .before .before .before .before .before .pre .1 .0) _ _ (c .before .before .before .before .before .before .before .before .before .before .before .before .before .before .before .before .before .take-in .ensures) 0 _ _ (ap children (sym (c .before .before .before .before .before .before .before .before .before .before .before .before .node-at .ensures) ∙ c .before .before .before .before .before .before .before .before .before .before .l2 .given .1)) _ _ (child-below _ _ _ _ _ _ _ _ (c .before .before .before .before .before .before .before .before .before .before .before .before .before .before .before .before .before .before .before .before .before .before .before .before .before .before .pre .1 .0) _ _ (c .before .before .before .before .before .before .before .before .before .before .before .before .before .before .before .before .before .take-in .ensures) 0 _ _ _ _ _ _ (c .before .before .before .before .before .before .through3 .ensures .0)) (search needs), c .before .before .before .before .before .before .through3 .ensures .1))
 
 through-enum-known-c : (t : ℕ) → through-lts.Need-enum-known-c (through-calls t) (through-at t) through.Post through-Inv-loop through-μ-loop
 through-enum-known-c t c = search needs
@@ -147,58 +165,58 @@ through-take-in-requires-2 t c κs = (few-words _ _ _ _ _ _ _ _ (c .before .befo
 through-union-requires-2 : (t : ℕ) → through-lts.Need-union-requires-2 (through-calls t) (through-at t) through.Post through-Inv-loop through-μ-loop
 through-union-requires-2 t c κs = few-words _ _ _ _ _ _ _ _ (c .before .before .before .before .before .before .before .before .before .before .before .before .before .before .before .before .before .before .before .before .before .before .before .before .before .before .before .before .before .before .before .before .pre .1 .0)
 
-through-is-empty-requires-2 : (t : ℕ) → through-lts.Need-is-empty-requires-2 (through-calls t) (through-at t) through.Post through-Inv-loop through-μ-loop
-through-is-empty-requires-2 t c κs = few-words _ _ _ _ _ _ _ _ (c .before .before .before .before .before .before .before .before .before .before .before .before .before .before .before .before .before .before .before .before .before .before .before .before .before .before .before .before .before .before .before .before .before .before .pre .1 .0)
+through-is-empty-requires-3 : (t : ℕ) → through-lts.Need-is-empty-requires-3 (through-calls t) (through-at t) through.Post through-Inv-loop through-μ-loop
+through-is-empty-requires-3 t c κs = few-words _ _ _ _ _ _ _ _ (c .before .before .before .before .before .before .before .before .before .before .before .before .before .before .before .before .before .before .before .before .before .before .before .before .before .before .before .before .before .before .before .before .before .before .pre .1 .0)
 
 through-loop-less : (t : ℕ) → through-lts.Need-loop-less (through-calls t) (through-at t) through.Post through-Inv-loop through-μ-loop
-through-loop-less t c = turning-less _ _ _ _ _ _ _ _ (c .before .before .before .before .before .before .before .before .before .before .before .before .before .before .before .before .before .before .before .before .before .before .before .before .before .before .before .before .before .before .before .before .before .before .before .pre .1 .0) _ _ (c .before .before .before .before .before .before .before .before .before .before .before .before .before .before .before .before .before .before .before .before .before .before .before .before .before .before .take-in .ensures) (c .before .before .before .before .before .before .before .before .before .before .before .before .before .before .before .before .before .before .before .before .before .before .before .before .before .before .before .before .before .before .before .before .before .before .before .args .marks) _ (sym (c .before .before .before .before .before .before .before .before .before .before .before .before .before .before .before .before .before .before .before .before .before .node-at .ensures) ∙ c .before .before .before .before .before .before .before .before .before .before .before .before .before .before .before .before .before .before .before .c .given .1) _ _ _ _ _ (c .before .before .before .before .before .before .before .before .before .before .before .before .before .before .before .before .loop .inv) _ _ (c .before .before .before .before .before .before .before .before .before .before .before .before .through5 .ensures .0) (search needs) _ _ (c .before .before .before .before .before .before .before .take-in2 .ensures) _ (ap not (c .is-empty2 .ensures)) (c .before .before .before .before .before .before .before .before .before .before .before .before .before .before .before .loop-test .taken)
+through-loop-less t c = turning-less _ _ _ _ _ _ _ _ (c .before .before .before .before .before .before .before .before .before .before .before .before .before .before .before .before .before .before .before .before .before .before .before .before .before .before .before .before .before .before .before .before .before .before .before .pre .1 .0) _ _ (c .before .before .before .before .before .before .before .before .before .before .before .before .before .before .before .before .before .before .before .before .before .before .before .before .before .before .take-in .ensures) (c .before .before .before .before .before .before .before .before .before .before .before .before .before .before .before .before .before .before .before .before .before .before .before .before .before .before .before .before .before .before .before .before .before .before .before .args .marks) _ (sym (c .before .before .before .before .before .before .before .before .before .before .before .before .before .before .before .before .before .before .before .before .before .node-at .ensures) ∙ c .before .before .before .before .before .before .before .before .before .before .before .before .before .before .before .before .before .before .before .c .given .1) _ _ _ _ _ (c .before .before .before .before .before .before .before .before .before .before .before .before .before .before .before .before .loop .inv) _ _ (c .before .before .before .before .before .before .before .before .before .before .before .before .through5 .ensures .0) (search needs) _ _ (c .before .before .before .before .before .before .before .take-in2 .ensures) _ (ap not (c .is-empty3 .ensures)) (c .before .before .before .before .before .before .before .before .before .before .before .before .before .before .before .loop-test .taken)
 
 through-loop-again : (t : ℕ) → through-lts.Need-loop-again (through-calls t) (through-at t) through.Post through-Inv-loop through-μ-loop
-through-loop-again t c = turning-turn _ _ _ _ _ _ _ _ (c .before .before .before .before .before .before .before .before .before .before .before .before .before .before .before .before .before .before .before .before .before .before .before .before .before .before .before .before .before .before .before .before .before .before .before .pre .1 .0) _ _ (c .before .before .before .before .before .before .before .before .before .before .before .before .before .before .before .before .before .before .before .before .before .before .before .before .before .before .take-in .ensures) (c .before .before .before .before .before .before .before .before .before .before .before .before .before .before .before .before .before .before .before .before .before .before .before .before .before .before .before .before .before .before .before .before .before .before .before .args .marks) _ (sym (c .before .before .before .before .before .before .before .before .before .before .before .before .before .before .before .before .before .before .before .before .before .node-at .ensures) ∙ c .before .before .before .before .before .before .before .before .before .before .before .before .before .before .before .before .before .before .before .c .given .1) _ _ _ _ _ (c .before .before .before .before .before .before .before .before .before .before .before .before .before .before .before .before .loop .inv) _ _ (c .before .before .before .before .before .before .before .before .before .before .before .before .through5 .ensures .0) (search needs) _ _ (c .before .before .before .before .before .before .before .take-in2 .ensures) _ _ (c .before .before .union2 .ensures) (ap not (c .is-empty2 .ensures))
-
-through-same-length-3 : (t : ℕ) → through-lts.Need-same-length-3 (through-calls t) (through-at t) through.Post through-Inv-loop through-μ-loop
-through-same-length-3 t c = search needs
-
-through-returns-3 : (t : ℕ) → through-lts.Need-returns-3 (through-calls t) (through-at t) through.Post through-Inv-loop through-μ-loop
-unfolding emptySet
-through-returns-3 t c = (eval-drop _ _ _ _ _ _ _ _ (c .before .before .before .before .before .before .before .before .before .before .before .before .before .before .before .before .before .pre .1 .0) _ _ (c .before .before .before .before .before .before .before .before .take-in .ensures) _ (sym (c .before .before .before .node-at .ensures) ∙ c .before .enum-told .given .1) _ refl, refl)
+through-loop-again t c = turning-turn _ _ _ _ _ _ _ _ (c .before .before .before .before .before .before .before .before .before .before .before .before .before .before .before .before .before .before .before .before .before .before .before .before .before .before .before .before .before .before .before .before .before .before .before .pre .1 .0) _ _ (c .before .before .before .before .before .before .before .before .before .before .before .before .before .before .before .before .before .before .before .before .before .before .before .before .before .before .take-in .ensures) (c .before .before .before .before .before .before .before .before .before .before .before .before .before .before .before .before .before .before .before .before .before .before .before .before .before .before .before .before .before .before .before .before .before .before .before .args .marks) _ (sym (c .before .before .before .before .before .before .before .before .before .before .before .before .before .before .before .before .before .before .before .before .before .node-at .ensures) ∙ c .before .before .before .before .before .before .before .before .before .before .before .before .before .before .before .before .before .before .before .c .given .1) _ _ _ _ _ (c .before .before .before .before .before .before .before .before .before .before .before .before .before .before .before .before .loop .inv) _ _ (c .before .before .before .before .before .before .before .before .before .before .before .before .through5 .ensures .0) (search needs) _ _ (c .before .before .before .before .before .before .before .take-in2 .ensures) _ _ (c .before .before .union2 .ensures) (ap not (c .is-empty3 .ensures))
 
 through-same-length-4 : (t : ℕ) → through-lts.Need-same-length-4 (through-calls t) (through-at t) through.Post through-Inv-loop through-μ-loop
 through-same-length-4 t c = search needs
 
 through-returns-4 : (t : ℕ) → through-lts.Need-returns-4 (through-calls t) (through-at t) through.Post through-Inv-loop through-μ-loop
-through-returns-4 t c = (eval-id _ _ _ _ _ _ _ _ (c .before .before .before .before .before .before .before .before .before .before .before .before .before .before .before .before .pre .1 .0) _ _ (c .before .before .before .before .before .before .before .take-in .ensures) _ (sym (c .before .before .node-at .ensures) ∙ c .enum-told2 .given .1), c .before .before .before .before .before .before .before .take-in .ensures .long)
+unfolding emptySet
+through-returns-4 t c = (eval-drop _ _ _ _ _ _ _ _ (c .before .before .before .before .before .before .before .before .before .before .before .before .before .before .before .before .before .pre .1 .0) _ _ (c .before .before .before .before .before .before .before .before .take-in .ensures) _ (sym (c .before .before .before .node-at .ensures) ∙ c .before .enum-told .given .1) _ refl, refl)
 
 through-same-length-5 : (t : ℕ) → through-lts.Need-same-length-5 (through-calls t) (through-at t) through.Post through-Inv-loop through-μ-loop
 through-same-length-5 t c = search needs
 
 through-returns-5 : (t : ℕ) → through-lts.Need-returns-5 (through-calls t) (through-at t) through.Post through-Inv-loop through-μ-loop
-through-returns-5 t c = (eval-field _ _ _ _ _ _ _ _ (c .before .before .before .before .before .before .before .before .before .before .before .before .before .before .before .before .before .before .before .pre .1 .0) _ _ (c .before .before .before .before .before .before .before .before .before .before .take-in .ensures) _ _ (sym (c .before .before .before .before .before .node-at .ensures) ∙ c .before .before .before .action .given .1) _ (c .image .ensures .0), c .image .ensures .1)
+through-returns-5 t c = (eval-id _ _ _ _ _ _ _ _ (c .before .before .before .before .before .before .before .before .before .before .before .before .before .before .before .before .pre .1 .0) _ _ (c .before .before .before .before .before .before .before .take-in .ensures) _ (sym (c .before .before .node-at .ensures) ∙ c .enum-told2 .given .1), c .before .before .before .before .before .before .before .take-in .ensures .long)
 
 through-same-length-6 : (t : ℕ) → through-lts.Need-same-length-6 (through-calls t) (through-at t) through.Post through-Inv-loop through-μ-loop
 through-same-length-6 t c = search needs
 
 through-returns-6 : (t : ℕ) → through-lts.Need-returns-6 (through-calls t) (through-at t) through.Post through-Inv-loop through-μ-loop
-unfolding emptySet
-through-returns-6 t c = (eval-dup-yes _ _ _ _ _ _ _ _ (c .before .before .before .before .before .before .before .before .before .before .before .before .before .before .before .before .before .before .before .before .pre .1 .0) _ _ (c .before .before .before .before .before .before .before .before .before .before .before .take-in .ensures) _ (sym (c .before .before .before .before .before .before .node-at .ensures) ∙ c .before .before .before .before .enum-told3 .given .1) (c .before .before .if3 .left) _ (c .insert .ensures), ap length (c .insert .ensures) ∙ length-with emptySet _)
+through-returns-6 t c = (eval-field _ _ _ _ _ _ _ _ (c .before .before .before .before .before .before .before .before .before .before .before .before .before .before .before .before .before .before .before .pre .1 .0) _ _ (c .before .before .before .before .before .before .before .before .before .before .take-in .ensures) _ _ (sym (c .before .before .before .before .before .node-at .ensures) ∙ c .before .before .before .action .given .1) _ (c .image .ensures .0), c .image .ensures .1)
 
 through-same-length-7 : (t : ℕ) → through-lts.Need-same-length-7 (through-calls t) (through-at t) through.Post through-Inv-loop through-μ-loop
-through-same-length-7 t c = omega (arith, c .before .before .before .before .before .through2 .kept .1 .1 .1 .1 .1 .1 .1 .1 .1 .1 .0, c .before .before .before .before .before .before .before .before .before .before .through .kept .1 .1 .1 .1 .1 .1 .1 .1 .1 .1 .0, c .before .before .before .before .before .before .before .before .before .before .before .before .before .before .before .before .before .before .before .before .before .before .take-in .kept .0)
+through-same-length-7 t c = search needs
 
 through-returns-7 : (t : ℕ) → through-lts.Need-returns-7 (through-calls t) (through-at t) through.Post through-Inv-loop through-μ-loop
-through-returns-7 t c = (eval-sum _ _ _ _ _ _ _ _ (c .before .before .before .before .before .before .before .before .before .before .before .before .before .before .before .before .before .before .before .before .before .before .before .before .before .before .before .before .before .before .before .pre .1 .0) _ _ (c .before .before .before .before .before .before .before .before .before .before .before .before .before .before .before .before .before .before .before .before .before .before .take-in .ensures) _ _ _ (sym (c .before .before .before .before .before .before .before .before .before .before .before .before .before .before .before .before .before .node-at .ensures) ∙ c .before .before .before .before .before .before .before .before .before .before .before .before .before .before .before .l .given .1) _ _ _ _ (c .before .before .before .before .before .before .before .before .before .before .through .ensures .0) (search needs) (c .before .before .before .before .before .through2 .ensures .0) (search needs) (c .before .before .before .before .before .before .before .before .before .before .through .ensures .1) _ (c .union .ensures), ap length (c .union .ensures) ∙ length-union _ _ _ ∙ c .before .before .before .before .before .before .before .before .before .before .through .ensures .1)
+unfolding emptySet
+through-returns-7 t c = (eval-dup-yes _ _ _ _ _ _ _ _ (c .before .before .before .before .before .before .before .before .before .before .before .before .before .before .before .before .before .before .before .before .pre .1 .0) _ _ (c .before .before .before .before .before .before .before .before .before .before .before .take-in .ensures) _ (sym (c .before .before .before .before .before .before .node-at .ensures) ∙ c .before .before .before .before .enum-told3 .given .1) (c .before .before .if3 .left) _ (c .insert .ensures), ap length (c .insert .ensures) ∙ length-with emptySet _)
 
 through-same-length-8 : (t : ℕ) → through-lts.Need-same-length-8 (through-calls t) (through-at t) through.Post through-Inv-loop through-μ-loop
-through-same-length-8 t c = search needs
+through-same-length-8 t c = omega (arith, c .before .before .before .before .before .through2 .kept .1 .1 .1 .1 .1 .1 .1 .1 .1 .1 .0, c .before .before .before .before .before .before .before .before .before .before .through .kept .1 .1 .1 .1 .1 .1 .1 .1 .1 .1 .0, c .before .before .before .before .before .before .before .before .before .before .before .before .before .before .before .before .before .before .before .before .before .before .take-in .kept .0)
 
 through-returns-8 : (t : ℕ) → through-lts.Need-returns-8 (through-calls t) (through-at t) through.Post through-Inv-loop through-μ-loop
-through-returns-8 t c = (eval-seq _ _ _ _ _ _ _ _ (c .before .before .before .before .before .before .before .before .before .before .before .before .before .before .before .before .before .before .before .before .before .before .before .before .before .before .before .pre .1 .0) _ _ (c .before .before .before .before .before .before .before .before .before .before .before .before .before .before .before .before .before .before .take-in .ensures) _ _ _ (sym (c .before .before .before .before .before .before .before .before .before .before .before .before .before .node-at .ensures) ∙ c .before .before .before .before .before .before .before .before .before .before .before .l2 .given .1) _ _ _ _ (c .before .before .before .before .before .before .before .through3 .ensures .0) (search needs) (c .before .before .through4 .ensures .0) (search needs), c .before .before .through4 .ensures .1)
+through-returns-8 t c = (eval-sum _ _ _ _ _ _ _ _ (c .before .before .before .before .before .before .before .before .before .before .before .before .before .before .before .before .before .before .before .before .before .before .before .before .before .before .before .before .before .before .before .pre .1 .0) _ _ (c .before .before .before .before .before .before .before .before .before .before .before .before .before .before .before .before .before .before .before .before .before .before .take-in .ensures) _ _ _ (sym (c .before .before .before .before .before .before .before .before .before .before .before .before .before .before .before .before .before .node-at .ensures) ∙ c .before .before .before .before .before .before .before .before .before .before .before .before .before .before .before .l .given .1) _ _ _ _ (c .before .before .before .before .before .before .before .before .before .before .through .ensures .0) (search needs) (c .before .before .before .before .before .through2 .ensures .0) (search needs) (c .before .before .before .before .before .before .before .before .before .before .through .ensures .1) _ (c .union .ensures), ap length (c .union .ensures) ∙ length-union _ _ _ ∙ c .before .before .before .before .before .before .before .before .before .before .through .ensures .1)
 
 through-same-length-9 : (t : ℕ) → through-lts.Need-same-length-9 (through-calls t) (through-at t) through.Post through-Inv-loop through-μ-loop
 through-same-length-9 t c = search needs
 
 through-returns-9 : (t : ℕ) → through-lts.Need-returns-9 (through-calls t) (through-at t) through.Post through-Inv-loop through-μ-loop
-through-returns-9 t c = (eval-star _ _ _ _ _ _ _ _ (c .before .before .before .before .before .before .before .before .before .before .before .before .before .before .before .before .before .before .before .before .pre .1 .0) _ _ (c .before .before .before .before .before .before .before .before .before .before .before .take-in .ensures) (c .before .before .before .before .before .before .before .before .before .before .before .before .before .before .before .before .before .before .before .before .args .marks) _ (sym (c .before .before .before .before .before .before .node-at .ensures) ∙ c .before .before .before .before .c .given .1) _ _ _ _ _ (c .before .loop .inv) (c .loop-test .left), c .before .loop .inv .longO)
+through-returns-9 t c = (eval-seq _ _ _ _ _ _ _ _ (c .before .before .before .before .before .before .before .before .before .before .before .before .before .before .before .before .before .before .before .before .before .before .before .before .before .before .before .before .before .pre .1 .0) _ _ (c .before .before .before .before .before .before .before .before .before .before .before .before .before .before .before .before .before .before .before .before .take-in .ensures) _ _ _ (sym (c .before .before .before .before .before .before .before .before .before .before .before .before .before .before .before .node-at .ensures) ∙ c .before .before .before .before .before .before .before .before .before .before .before .before .before .l2 .given .1) _ _ _ _ (c .before .before .before .before .before .before .before .before .before .through3 .ensures .0) (search needs) (c .before .before .through4 .ensures .0) (search needs), c .before .before .through4 .ensures .1)
+
+through-same-length-10 : (t : ℕ) → through-lts.Need-same-length-10 (through-calls t) (through-at t) through.Post through-Inv-loop through-μ-loop
+through-same-length-10 t c = search needs
+
+through-returns-10 : (t : ℕ) → through-lts.Need-returns-10 (through-calls t) (through-at t) through.Post through-Inv-loop through-μ-loop
+through-returns-10 t c = (eval-star _ _ _ _ _ _ _ _ (c .before .before .before .before .before .before .before .before .before .before .before .before .before .before .before .before .before .before .before .before .pre .1 .0) _ _ (c .before .before .before .before .before .before .before .before .before .before .before .take-in .ensures) (c .before .before .before .before .before .before .before .before .before .before .before .before .before .before .before .before .before .before .before .before .args .marks) _ (sym (c .before .before .before .before .before .before .node-at .ensures) ∙ c .before .before .before .before .c .given .1) _ _ _ _ _ (c .before .loop .inv) (c .loop-test .left), c .before .loop .inv .longO)
 
 pub +through-spec : {M : Type 1} → statement M
 +through-spec = close μ-through λ t. through-lts.spec (through-calls t)
@@ -230,7 +248,12 @@ pub +through-spec : {M : Type 1} → statement M
     (through-enum-known-l-2 t)
     (through-cast-through-3 t)
     (through-through-requires-3 t)
-    (through-cast-through-4 t)
+    (through-cast-rest t)
+    (through-mul-if4 t)
+    (through-shared-slice-read-if4 t)
+    (through-is-empty-requires-2 t)
+    (through-same-length-3 t)
+    (through-returns-3 t)
     (through-through-requires-4 t)
     (through-enum-known-c t)
     (through-cast-child t)
@@ -238,11 +261,9 @@ pub +through-spec : {M : Type 1} → statement M
     (through-through-requires-5 t)
     (through-take-in-requires-2 t)
     (through-union-requires-2 t)
-    (through-is-empty-requires-2 t)
+    (through-is-empty-requires-3 t)
     (through-loop-less t)
     (through-loop-again t)
-    (through-same-length-3 t)
-    (through-returns-3 t)
     (through-same-length-4 t)
     (through-returns-4 t)
     (through-same-length-5 t)
@@ -255,3 +276,5 @@ pub +through-spec : {M : Type 1} → statement M
     (through-returns-8 t)
     (through-same-length-9 t)
     (through-returns-9 t)
+    (through-same-length-10 t)
+    (through-returns-10 t)
