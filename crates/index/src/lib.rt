@@ -108,8 +108,8 @@ fn bucket(size: usize, count: u16, row: Row) -> usize
     wide(row.packet) * width + hash(states) % width
 }
 
-// Which child a look goes on to: a bit of a state, the policies in turn. Rows that agree in all 64 bits are the same, so a look passes at
-// most 64 rows, whoever chose them.
+// Which child a look goes on to: a bit of a state, the policies in turn. The rows of a bucket have one packet, and those that agree in all
+// 64 bits too are the same, so a look passes at most 64 rows, whoever chose them.
 fn side_at(states: [Mask; POLICIES], depth: usize) -> usize
     ensures { λ r. ⌜ (r ≡ sideAt depth states) × (r < 2) ⌝ }
 {

@@ -1,4 +1,4 @@
--- What the inner functions of the program promise.
+-- What the functions that print a verdict promise.
 use Prim.Native.Nat.{ℕ, _≤_}
 use mathlib.Core.List.{List, _++_}
 use lib.ListN.{length, take}

@@ -26,7 +26,7 @@ fn goes_on(handled: usize, listed: usize) -> Handled
     Handled::Stopped(Ended::Done(listed))
 }
 
-// Inner: handles row `handled` of the `listed` rows: two evaluations and a lookup for each successor; a lookup walks the rows of one bucket of the
+// Inner: handles row `handled` of the `listed` rows: two evaluations and a lookup for each successor; a lookup passes at most 64 rows of the
 // index. The two lists for next are the step's own: what they hold after it is left open.
 pub fn handle(
     sizes: &[u16],

@@ -1,5 +1,5 @@
-// Row rules (a), (b) and (d) of the evidence checker, one by one, over lent columns (document 01, "Row rules for evidence"). All
-// functions here are inner.
+// Row rules (a), (b) and (d) of the evidence checker, one by one, over lent columns (document 01, "Row rules for evidence"), and whether
+// a row repeats an earlier one. All functions here are inner.
 // They need no policy: rule (c), the next states and the order of the rules are in `evidence`.
 ghost use mathlib.Core.Path.{_≡_};
 ghost use mathlib.Core.Bool.{true};
