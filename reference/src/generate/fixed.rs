@@ -1,5 +1,6 @@
 //! Cases that are always worth running: the pairs and edges that the requirements name, and each refusal.
 
+use super::heavy;
 use super::lent::fill;
 use crate::case::Case;
 use crate::policy::{kind, OwnedLists};
@@ -22,6 +23,7 @@ pub fn cases() -> Vec<Case> {
     cases.extend(list_edges());
     cases.extend(tables());
     cases.extend(traces());
+    cases.extend(large_tables());
     cases.extend(inputs().into_iter().map(program));
     for (at, case) in cases.iter_mut().enumerate() {
         fill(case, at);
@@ -300,6 +302,16 @@ fn text_edges() -> Vec<Case> {
     pairs
         .iter()
         .map(|pair| search_texts(pair, lent(pair)))
+        .collect()
+}
+
+/// A search that lists tens of thousands of rows, and the same with fewer lent than it needs.
+fn large_tables() -> Vec<Case> {
+    let cycles = heavy::cycles();
+    [MOST_ROWS, 40_000]
+        .iter()
+        .map(|&rows| pair(&cycles.sizes, &cycles.left, &cycles.right, rows, 3))
+        .map(|pair| search_texts(&pair, lent(&pair)))
         .collect()
 }
 
