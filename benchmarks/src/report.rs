@@ -286,8 +286,9 @@ const WHAT: &str = "\
 - rows: cycles (271 packets, 241 pairs of states, one next row a row) and many states (two packets, two next rows a
   row), with 1,000 to 65,535 rows lent. Where the lists are too short the answer is refusal 11.
 - evidence: a table of 65,535 rows in row order, reversed, shuffled, and with its last row missing; then tables of 65,535
-  rows as a stranger may send them: nearly all rows at one packet of 1,024; the same chosen to share a bucket of the index;
-  one such row repeated; one row with 1,024 next rows repeated.
+  rows as a stranger may send them: nearly all rows at one packet of 1,024; the same chosen to share a bucket of the
+  library's index, and the bits by which its tree branches first; one such row repeated, after others that a lookup passes;
+  one row with 1,024 next rows repeated.
 - text: one call of the reader on 1,048,576 bytes. A legal text has at most 512 nodes, so the legal one is mostly
   parentheses and blanks; the others are refused at their end.
 - forty checks: texts checked one after the other, with 4,096 rows lent: document 01's pairs, the networks, and random

@@ -87,14 +87,14 @@ const PACKETS: u16 = 1024;
 /// Every dup marked.
 const MARKED: u32 = !1;
 
-/// A table of so many rows that holds the row order of `every_dup` and more rows of packet 0. The row that all those
-/// have as next row comes first: an index that puts later rows before earlier ones finds it last.
-fn crowded(rows: usize, more: impl Iterator<Item = Row>) -> Vec<Row> {
-    let mut table: Vec<Row> = (0..PACKETS)
-        .map(|packet| (packet, MARKED, MARKED))
-        .collect();
-    table.extend((0..PACKETS).map(|packet| (packet, 1, 1)));
-    table.extend(more.take(rows - table.len()));
+/// A table of so many rows that begins with rows of packet 0, as many as are needed, and then holds the row order of
+/// `every_dup`. The row that all of them have as next row is indexed after them: a look for it passes those that are in
+/// its way.
+fn crowded(rows: usize, crowd: impl Iterator<Item = Row>) -> Vec<Row> {
+    let order = [1, MARKED].map(|state| (0..PACKETS).map(move |packet| (packet, state, state)));
+    let order: Vec<Row> = order.into_iter().flatten().collect();
+    let mut table: Vec<Row> = crowd.take(rows - order.len()).collect();
+    table.extend(order);
     assert_eq!(table.len(), rows);
     table
 }
@@ -104,25 +104,41 @@ fn of_one_packet() -> impl Iterator<Item = Row> {
     (2..MARKED).map(|left| (0, left, 1))
 }
 
-/// The same that the index puts into the bucket of their next row.
+/// Lower bits of each state that all rows of a crowd have in common: the others make more than a full table of rows,
+/// even if only one in 64 is in the bucket.
+const COMMON: u32 = 20;
+
+/// Different rows of packet 0 that the index puts into the bucket of their next row, and that have the lower bits of its
+/// states. The tree of a bucket branches by the bits of both states in turn, the lowest first: all looks for these rows
+/// and for their next row pass the same rows first, one for each bit in common.
 fn of_one_bucket() -> impl Iterator<Item = Row> {
     let bucket = Bucket::read();
     let crowd = bucket.of(MARKED, MARKED);
-    of_one_packet().filter(move |&(_, left, right)| bucket.of(left, right) == crowd)
+    let last = MARKED >> COMMON;
+    let state = |upper: u32| upper << COMMON | MARKED & ((1 << COMMON) - 1);
+    (0..last)
+        .flat_map(move |left| (0..last).map(move |right| (0, state(left), state(right))))
+        .filter(move |&(_, left, right)| bucket.of(left, right) == crowd)
+}
+
+/// One row for each bit that the rows of a bucket have in common, and the last of them again and again.
+fn of_one_row() -> impl Iterator<Item = Row> {
+    let passed: Vec<Row> = of_one_bucket().take(2 * COMMON as usize).collect();
+    let last = passed[passed.len() - 1];
+    passed.into_iter().chain(std::iter::repeat(last))
 }
 
 /// Tables in which nearly all rows crowd at one packet.
 fn stars(extent: Extent) -> Vec<Benchmark> {
     let pair = every_dup();
     let rows = extent.hostile_rows();
-    let repeated = of_one_bucket().next().expect("a row of the bucket");
     vec![
         evidence("one packet", &pair, &crowded(rows, of_one_packet())),
         evidence("one bucket", &pair, &crowded(rows, of_one_bucket())),
         evidence(
             "one bucket, one row repeated",
             &pair,
-            &crowded(rows, std::iter::repeat(repeated)),
+            &crowded(rows, of_one_row()),
         ),
     ]
 }

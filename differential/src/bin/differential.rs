@@ -15,6 +15,7 @@ use std::time::{Duration, Instant, SystemTime, UNIX_EPOCH};
 use differential::program::Program;
 use netkat::lists::Numbers;
 use netkat_reference::case::Case;
+use netkat_reference::generate::lent::fill;
 use netkat_reference::generate::{case, fixed, heavy, Extent};
 use netkat_reference::policy::MOST_NODES;
 use netkat_reference::program;
@@ -22,8 +23,10 @@ use netkat_reference::random::Random;
 use netkat_reference::search::{Lists, LEAST_WORK, MOST_ROWS};
 use netkat_reference::text;
 
-/// Disagreements that are printed whole.
+/// Disagreements that are printed.
 const MOST_SHOWN: usize = 20;
+/// Bytes of an input that are printed: a lent list is long, and its seed makes a case again.
+const MOST_PRINTED: usize = 2_000;
 
 struct Options {
     seed: u64,
@@ -138,7 +141,11 @@ impl Tally {
         println!("DIFFERENT at {origin}: {}", before.name());
         println!("  {here}");
         println!("  second  {there}");
-        println!("  {}|{}", before.name(), before.inputs().join("|"));
+        let mut inputs = before.inputs();
+        inputs
+            .iter_mut()
+            .for_each(|input| input.truncate(MOST_PRINTED));
+        println!("  {}|{}", before.name(), inputs.join("|"));
     }
 
     fn total(&self) -> u64 {
@@ -166,6 +173,9 @@ fn heavy_cases() -> Vec<Case> {
                 lists: Lists::new(MOST_ROWS, MOST_ROWS, LEAST_WORK),
             });
         }
+    }
+    for (at, case) in cases.iter_mut().enumerate() {
+        fill(case, at);
     }
     cases
 }

@@ -1,6 +1,7 @@
 //! Whole calls: inputs, lent lists and what stands in them.
 
 use super::damage;
+use super::lent::entry;
 use super::tree::{self, Tree};
 use crate::answer::{Refusal, Verdict};
 use crate::automaton::{Automaton, Step, START};
@@ -221,10 +222,10 @@ fn read(random: &mut Random) -> Case {
     Case::Read { text, nodes }
 }
 
-/// What stands in a lent list before: one number, with some others at the head.
+/// What stands in a lent list before: another number at each place, with some at random at the head.
 fn entries(random: &mut Random, length: usize) -> Vec<u32> {
-    let fill = random.bits() as u32;
-    let mut entries = vec![fill; length];
+    let first = random.bits() as u32;
+    let mut entries: Vec<u32> = (0..length).map(|place| entry(first, place)).collect();
     for entry in entries.iter_mut().take(random.below(6)) {
         *entry = random.bits() as u32;
     }

@@ -1,5 +1,7 @@
 //! Cases that are always worth running: the pairs and edges that the requirements name, and each refusal.
 
+use super::heavy;
+use super::lent::fill;
 use crate::case::Case;
 use crate::policy::{kind, OwnedLists};
 use crate::search::{Lists, LEAST_WORK, MOST_ROWS};
@@ -21,27 +23,19 @@ pub fn cases() -> Vec<Case> {
     cases.extend(list_edges());
     cases.extend(tables());
     cases.extend(traces());
+    cases.extend(large_tables());
     cases.extend(inputs().into_iter().map(program));
+    for (at, case) in cases.iter_mut().enumerate() {
+        fill(case, at);
+    }
     cases
-}
-
-/// Lists to lend, filled so that what is written shows.
-fn filled(rows: usize, trace: usize, work: usize) -> Lists {
-    let mut lists = Lists::new(rows, trace, work);
-    lists.packet.fill(60_001);
-    lists.left.fill(4_000_000_002);
-    lists.right.fill(4_000_000_003);
-    lists.parent.fill(60_004);
-    lists.trace.fill(60_005);
-    lists.work.fill(4_000_000_006);
-    lists
 }
 
 fn turning() -> Vec<Case> {
     let values = |sizes: &[u16], number, length| Case::Values {
         sizes: sizes.to_vec(),
         number,
-        values: vec![60_007; length],
+        values: vec![0; length],
     };
     let number = |sizes: &[u16], values: &[u16]| Case::Number {
         sizes: sizes.to_vec(),
@@ -129,9 +123,9 @@ fn policies() -> Vec<Case> {
 
 fn read(text: &str, room: usize) -> Case {
     let nodes = OwnedLists {
-        kind: vec![201; room],
-        first: vec![60_002; room + 1],
-        second: vec![60_003; room + 2],
+        kind: vec![0; room],
+        first: vec![0; room + 1],
+        second: vec![0; room + 2],
     };
     Case::Read {
         text: text.as_bytes().to_vec(),
@@ -268,7 +262,7 @@ fn pairs() -> Vec<Pair> {
 }
 
 fn lent(pair: &Pair) -> Lists {
-    filled(pair.3, pair.4, LEAST_WORK)
+    Lists::new(pair.3, pair.4, LEAST_WORK)
 }
 
 fn search_nodes(pair: &Pair, lists: Lists) -> Case {
@@ -311,18 +305,28 @@ fn text_edges() -> Vec<Case> {
         .collect()
 }
 
+/// A search that lists tens of thousands of rows, and the same with fewer lent than it needs.
+fn large_tables() -> Vec<Case> {
+    let cycles = heavy::cycles();
+    [MOST_ROWS, 40_000]
+        .iter()
+        .map(|&rows| pair(&cycles.sizes, &cycles.left, &cycles.right, rows, 3))
+        .map(|pair| search_texts(&pair, lent(&pair)))
+        .collect()
+}
+
 /// Lists refused by 10, and the longest that are not.
 fn list_edges() -> Vec<Case> {
     let pair = pair(&[1], "id", "drop", 4, 4);
     let with = |rows: usize, work: usize, change: fn(&mut Lists)| {
-        let mut lists = filled(rows, 4, work);
+        let mut lists = Lists::new(rows, 4, work);
         change(&mut lists);
         search_nodes(&pair, lists)
     };
     vec![
-        with(4, LEAST_WORK, |lists| lists.packet.push(7)),
+        with(4, LEAST_WORK, |lists| lists.packet.push(0)),
         with(4, LEAST_WORK, |lists| lists.left.truncate(3)),
-        with(4, LEAST_WORK, |lists| lists.right.push(7)),
+        with(4, LEAST_WORK, |lists| lists.right.push(0)),
         with(4, LEAST_WORK, |lists| lists.parent.clear()),
         with(4, LEAST_WORK - 1, |_| ()),
         with(4, 0, |_| ()),
@@ -336,7 +340,7 @@ fn list_edges() -> Vec<Case> {
 type Row = (u16, u32, u32);
 
 fn table(rows: &[Row], work: usize) -> Case {
-    let mut lists = filled(0, 0, work);
+    let mut lists = Lists::new(0, 0, work);
     for &(packet, left, right) in rows {
         lists.packet.push(packet);
         lists.left.push(left);
@@ -393,7 +397,7 @@ fn traces() -> Vec<Case> {
             right: right.clone(),
             entering,
             trace: trace.to_vec(),
-            work: vec![4_000_000_006; work],
+            work: vec![0; work],
         })
     };
     let mut cases = trace("dup*", "dup;dup*").to_vec();
