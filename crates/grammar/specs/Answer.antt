@@ -1,11 +1,11 @@
 -- What the reader answers and leaves in the lent lists: causes 14 to 17 of document 01, each over the whole text before the next.
 use Prim.Native.Nat.{ℕ, suc, pred, min}
 use mathlib.Core.Bool.{true, false, cond}
-use mathlib.Core.List.{List, [], _∷_, _++_}
+use mathlib.Core.List.{List, [], _∷_}
 use mathlib.Core.Option.{Option, none, some}
 use mathlib.Core.Path.{_≡_}
 use lib.Dec.{ltb}
-use lib.ListN.{length, drop}
+use lib.ListN.{length}
 use Rattle.packet.specs.Refusals.{refusedAt, firstOf}
 use Rattle.packet.specs.Written.{written}
 use Rattle.packet.specs.declared.Tested.{Tested}

@@ -249,14 +249,3 @@ module _ (S : System) (M : Masks S) (lawful : Lawful S) where
         go (added new l isIn a) = full-is-no-count A (suc n) e a
         go (full new l notIn a) = record { room = le-antisymm (I .within) l; same = stays A notIn; needed = entries-unlisted S M _ _ n r parent new }
         go (known new notIn a) = full-is-no-count A n e a
-
--- a state made of two masks: same and dead as the masks are
-pub pair-masks : (S : System) (state : ℕ → ℕ → S .State) → ((a b c d : ℕ) → S .same (state a b) (state c d) ≡ (eqb a c && eqb b d)) → ((a b : ℕ) → S .dead (state a b) ≡ (eqb a 0 && eqb b 0))
-    → Masks S
-unfolding sameStates allZero
-pair-masks S state same dead =
-    record {
-      state = λ a. state (getD a 0 0) (getD a 1 0);
-      same-states = λ a b. same (getD a 0 0) (getD a 1 0) (getD b 0 0) (getD b 1 0);
-      dead-states = λ a. dead (getD a 0 0) (getD a 1 0);
-    }

@@ -14,7 +14,7 @@ use Rattle.index.specs.declared.Row.{Row}
 use Rattle.index.specs.declared.Lookup.{Lookup}
 use Rattle.index.specs.declared.Lookup.the-variants.{Listed, Vacant}
 use Rattle.index.specs.Columns.{Table, Small, rowAt, sameRow, listedBelow}
-use Rattle.index.specs.Index.{bucketOf, sizeOf, lookFrom, slotOf, Rising, Indexed, treesWith, ListedAt, VacantAt, Placed}
+use Rattle.index.specs.Index.{bucketOf, sizeOf, lookFrom, slotOf, Rising, Indexed, treesWith, VacantAt, Placed}
 use Rattle.index.proofs.States.{same-refl, same-left}
 use Rattle.index.proofs.Hashing.{same-bucket, bucket-below}
 use Rattle.index.proofs.Trees.{scan-miss, scan-hit, scan-agree, scan-repeat, look-same, Reached, reached-root, rising-more, found-other, found-here}

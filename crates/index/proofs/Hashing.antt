@@ -1,9 +1,9 @@
 -- Equal rows have one bucket, and a packet's range of buckets lies within them all.
-use mathlib.Core.Path.{_≡_, refl, sym, _∙_, ap, ap₂, subst}
+use mathlib.Core.Path.{_≡_, refl, _∙_, ap, ap₂, subst}
 use mathlib.Core.Bool.{true}
 use mathlib.Core.List.{List}
 use Prim.Native.Nat.{ℕ, zero, suc, _+_, _*_, _/_, _%_, _≤_, _<_}
-use native.Mathlib.Nat.{mod-lt, div-mul-le-self, mul-comm, mul-le-mul-right, le-trans, le-div-iff-mul-le, one-mul, mul-add-div-right, div-eq-of-lt, add-zero, suc-mul, le-antisymm}
+use native.Mathlib.Nat.{mod-lt, div-mul-le-self, mul-comm, mul-le-mul-right, le-trans, le-div-iff-mul-le, one-mul, suc-mul, le-antisymm}
 use native.Mathlib.Numerals.{add-one}
 use native.Mathlib.Omega.{arith}
 use lib.Dec.{eqb}

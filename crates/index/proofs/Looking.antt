@@ -9,9 +9,8 @@ use lib.Dec.{ltb}
 use lib.ListN.{length, getD}
 use borrow.Author.Tests.{lt-ltb}
 use Rattle.index.specs.declared.Row.{Row}
-use Rattle.index.specs.declared.Lookup.{Lookup}
 use Rattle.index.specs.declared.Lookup.the-variants.{Listed, Vacant}
-use Rattle.index.specs.Columns.{rowAt, sameRow, listedBelow}
+use Rattle.index.specs.Columns.{rowAt, sameRow}
 use Rattle.index.specs.Index.{bucketOf, sizeOf, childSlot, sideAt, lookFrom, slotOf, Indexed, ListedAt, VacantAt, Placed}
 use Rattle.index.proofs.Trees.{ends-none, ends-row, ends-not, look-ends, look-on, side-below, Reached, reached-root, reached-child}
 

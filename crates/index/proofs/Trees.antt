@@ -6,14 +6,14 @@ use Prim.Native.Nat.{ℕ, zero, suc, _+_, _-_, _*_, _/_, _%_, _^_, _≤_, _<_, z
 use native.Mathlib.Nat.{le-refl, mod-lt}
 use native.Mathlib.Omega.{arith}
 use lib.Dec.{eqb, ltb}
-use lib.ListN.{length, getD, set, length-set}
+use lib.ListN.{length, getD, set}
 use lib.Seq.{getD-set-same, getD-set-other}
 use borrow.Author.Tests.{eqb-true, eqb-false, ne-eqb}
 use Rattle.system.proofs.Basics.{clash}
 use Rattle.index.specs.declared.Row.{Row}
 use Rattle.index.specs.Columns.{policies, sameRow, listedBelow}
-use Rattle.index.specs.Index.{sizeOf, childSlot, sideAt, ends, lookFrom, Rising}
-use Rattle.index.proofs.States.{same-left, same-right, same-side}
+use Rattle.index.specs.Index.{childSlot, sideAt, ends, lookFrom, Rising}
+use Rattle.index.proofs.States.{same-right, same-side}
 
 pred-suc : (n : ℕ) → suc n - 1 ≡ n
 pred-suc n = omega arith

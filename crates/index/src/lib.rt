@@ -2,8 +2,8 @@
 ghost use mathlib.Core.Path.{_≡_};
 ghost use Prim.Native.Nat.{_+_, _<_, _≤_};
 ghost use lib.ListN.{length, getD, set};
-ghost use Rattle.index.specs.Columns.{policies, Table, Small, rowAt, sameStates, sameRow, allZero, listedBelow};
-ghost use Rattle.index.specs.Index.{hashOf, bucketOf, sideAt, sizeOf, Indexed, Placed};
+ghost use Rattle.index.specs.Columns.{policies, Table, Small, rowAt, sameStates, sameRow, listedBelow};
+ghost use Rattle.index.specs.Index.{hashOf, bucketOf, sideAt, Indexed, Placed};
 ghost use Rattle.index.specs.Appending.{NewPlaced, lists, Appending};
 
 // How many policies a row follows.

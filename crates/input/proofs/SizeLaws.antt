@@ -8,9 +8,8 @@ use mathlib.Core.Path.{_≡_, refl, sym, _∙_, ap, subst}
 use lib.Dec.{eqb, leb, ltb}
 use lib.ListN.{length, getD, take, drop, set, length-set, length-take, drop-of-length-le}
 use lib.Seq.{append-snoc, drop-cons, take-suc-set}
-use borrow.Author.Tests.{eq-eqb, ne-eqb, le-leb, lt-leb, leb-true, ltb-true, ltb-false}
+use borrow.Author.Tests.{eq-eqb, ne-eqb, leb-true, ltb-true, ltb-false}
 use Rattle.packet.proofs.Tests.{and-true}
-use Rattle.grammar.specs.Bytes.{isDigit}
 use Rattle.grammar.specs.Tokens.{allDigits, decimal, leadingZero, isNumber}
 use Rattle.tokens.specs.Inner.{numberFrom}
 use Rattle.input.specs.Lines.{onto}
@@ -18,14 +17,6 @@ use Rattle.input.specs.Input.{splitByCommas, isSize, allSizes, sizesOf}
 use Rattle.input.specs.Inner.{part, PartFrom, sizeOf, readAs, SizesRead}
 use Rattle.input.specs.declared.sizes.Sizes.the-variants.{Read, Malformed}
 use Rattle.input.proofs.LineLaws.{part-none, part-more, and-false}
-
-pub digit-below : (b : ℕ) → b < 48 → false ≡ isDigit b
-unfolding isDigit
-digit-below b h = rw (lt-leb 48 b h)
-
-pub digit-above : (b : ℕ) → 48 ≤ b → leb b 57 ≡ isDigit b
-unfolding isDigit
-digit-above b h = rw (le-leb 48 b h)
 
 pub size-empty : (w : List ℕ) → length w ≡ 0 → 65536 ≡ sizeOf w
 unfolding sizeOf isSize

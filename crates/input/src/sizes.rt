@@ -1,64 +1,14 @@
 // The sizes line: number words of Text, split by commas.
+use tokens::words;
 ghost use mathlib.Core.Path.{_≡_};
-ghost use mathlib.Core.Bool.{true};
-ghost use Prim.Native.Nat.{_-_, _≤_};
+ghost use Prim.Native.Nat.{_≤_};
 ghost use lib.ListN.{length};
-ghost use Rattle.grammar.specs.Bytes.{isDigit};
-ghost use Rattle.grammar.specs.Tokens.{leadingZero};
-ghost use Rattle.tokens.specs.Inner.{numberFrom};
 ghost use Rattle.input.specs.Inner.{PartFrom, sizeOf, SizesRead};
 
 // How many sizes have been read.
 pub enum Sizes {
     Read(usize),
     Malformed,
-}
-
-fn is_digit(b: u8) -> bool
-    ensures { λ r. ⌜ r ≡ isDigit b ⌝ }
-{
-    if b < 48 {
-        return false;
-    }
-    b <= 57
-}
-
-// The value of a digit.
-fn digit(b: u8) -> u32
-    requires { ⌜ isDigit b ≡ true ⌝ }
-    ensures { λ r. ⌜ r ≡ b - 48 ⌝ }
-{
-    (b - 48) as u32
-}
-
-// The value of the digits, or 65,536 where they are no digits or make more than 65,535.
-fn number_from(w: &[u8]) -> u32
-    ensures { λ r. ⌜ r ≡ numberFrom 0 (now (w .entry)) ⌝ }
-{
-    let mut n: u32 = 0;
-    let mut i = 0;
-    while i < w.len() {
-        let b = w[i];
-        if !is_digit(b) {
-            return 65536;
-        }
-        n = n * 10 + digit(b);
-        if n > 65535 {
-            return 65536;
-        }
-        i += 1;
-    }
-    n
-}
-
-// Whether a word of at least one byte begins with a zero that it does not consist of.
-fn leading_zero(w: &[u8]) -> bool
-    ensures { λ r. ⌜ r ≡ leadingZero (now (w .entry)) ⌝ }
-{
-    if w.len() <= 1 {
-        return false;
-    }
-    w[0] == 48
 }
 
 // The value of a size, or 65,536 where the word is none.
@@ -68,10 +18,10 @@ fn size_of(w: &[u8]) -> u32
     if w.len() == 0 {
         return 65536;
     }
-    if leading_zero(w) {
+    if words::leading_zero(w) {
         return 65536;
     }
-    number_from(w)
+    words::number_from(w)
 }
 
 // The end of the part that starts at a byte: the next comma, or the end of the line.

@@ -9,7 +9,7 @@ use lib.ListN.{length, getD, set, take, drop, length-set}
 use lib.Seq.{append-snoc, set-set, lt-length-set, drop-set-lt, set-split, set-at, take-suc, length-take-le}
 use borrow.Author.Tests.{eq-eqb, ne-eqb}
 use Rattle.system.specs.System.{System}
-use Rattle.system.specs.RowOrder.{Entry, entryAt, climbing, climb, path}
+use Rattle.system.specs.RowOrder.{Entry, entryAt, climbing, climb}
 use Rattle.system.proofs.Basics.{induction, length-snoc}
 use Rattle.packet.specs.Written.{written}
 use Rattle.lines.specs.Lines.{rising, rise, lineDepth, linePath, lineStart, Rooted}

@@ -79,15 +79,15 @@ going-none I l = record { indexed = I; same = lengths-none; long = l }
 -- one more row, if there is room and it is new
 going-more : {x y z : Lists} {count n m : ℕ} {r : Row} {p : ℕ} {answer : Appended} → Going x y count n → Appending y z count n r p answer → answer ≡ Rows m → Going x z count m
 unfolding rowsAfter
-going-more {x} {y} {z} {count} {n} {m} {r} {p} {answer} G A e = record { indexed = linked (outcome A); same = lengths-then (G .same) (lengths-appended A); long = G .long }
+going-more {x} {y} {z} {count} {n} {m} {r} {p} {answer} G A e = record { indexed = indexed (outcome A); same = lengths-then (G .same) (lengths-appended A); long = G .long }
   where
     to : (b : Bool) → isAdded y n r ≡ b → rowsAfter b n ≡ m → Indexed (z .packets) (z .left) (z .right) count m (z .trees)
     to b q s = subst (λ k. Indexed (z .packets) (z .left) (z .right) count k (z .trees)) (ap (λ t. rowsAfter t n) q ∙ s) (A .indexed)
 
-    linked : Outcome y n r answer → Indexed (z .packets) (z .left) (z .right) count m (z .trees)
-    linked (added new l isIn a) = to true isIn (let q : suc n ≡ m = cc in q)
-    linked (known new notIn a) = to false notIn (let q : n ≡ m = cc in q)
-    linked (full new l notIn a) = let q : _≡_ {A = ℕ} 0 1 = cc in absurd (omega arith)
+    indexed : Outcome y n r answer → Indexed (z .packets) (z .left) (z .right) count m (z .trees)
+    indexed (added new l isIn a) = to true isIn (let q : suc n ≡ m = cc in q)
+    indexed (known new notIn a) = to false notIn (let q : n ≡ m = cc in q)
+    indexed (full new l notIn a) = let q : _≡_ {A = ℕ} 0 1 = cc in absurd (omega arith)
 
 -- The starting rows: γ of them are listed.
 pub record StartedTo (x y : Lists) (count n γ : ℕ) : Type 0 where

@@ -10,7 +10,7 @@ use lib.Seq.{take-all, length-take-le}
 use borrow.Author.Tests.{ltb-true, ltb-false}
 use Rattle.packet.specs.Sizes.{product}
 use Rattle.system.specs.System.{System, Lawful}
-use Rattle.system.specs.RowOrder.{Entry, entryAt, appendNext, current, turn, finished, telling, handling, handle, run, depth, path, entering, answer, held}
+use Rattle.system.specs.RowOrder.{Entry, entryAt, appendNext, current, turn, finished, telling, handling, handle, run, path, entering, answer, held}
 use Rattle.system.proofs.Basics.{prefix-length}
 use Rattle.system.proofs.Climb.{Earlier}
 use Rattle.system.proofs.Runs.{finished≢handling, telling≢handling, turn-end, run-begin, run-handle}
@@ -20,13 +20,12 @@ use Rattle.pair.specs.Pair.{pairSystem}
 use Rattle.pair.specs.Search.{equal, rowsFull, reported, sideOf, searchAnswer, columnsOf}
 use Rattle.pair.proofs.Verdicts.{search-full, search-finished, search-telling}
 use Rattle.index.specs.declared.Appended.the-variants.{Rows, Full}
-use Rattle.index.specs.Columns.{rowAt}
 use Rattle.index.specs.Appending.{Lists}
-use Rattle.index.specs.Entries.{Masks, rowOf}
+use Rattle.index.specs.Entries.{Masks}
 use Rattle.index.proofs.Entries.{column, entries-at}
 use Rattle.packet.specs.Written.{written}
 use Rattle.rows.specs.Standing.{answerFor, Standing, Continues, pairMasks, Started}
-use Rattle.lines.specs.Lines.{lineDepth, linePath, lineStart, Rooted}
+use Rattle.lines.specs.Lines.{linePath, lineStart, Rooted}
 use Rattle.rows.proofs.Standing.{stands-length, drop-later}
 use Rattle.lines.proofs.Lines.{climb-rise}
 
@@ -116,10 +115,6 @@ module _ (sizes : List ℕ) (ps : Pair Labelled) where
 
     -- what the columns say of a row's line is what the entries say
     module _ (E : Earlier S es) (h : ℕ) (h<n : h < n) where
-      pub depth-line : depth S es h ≡ lineDepth (y .parents) h
-      unfolding depth lineDepth
-      depth-line = climb-rise _ _ (rooted E) S es (λ i l. ap (λ e. e .parent) (entry-at i l)) _ _ (λ i l. refl) (λ i l a. refl) h h<n
-
       pub path-line : path S es h ≡ linePath (y .packets) (y .parents) h
       unfolding path linePath
       path-line = climb-rise _ _ (rooted E) S es (λ i l. ap (λ e. e .parent) (entry-at i l)) _ _ (λ i l. refl) (λ i l a. ap (λ e. a ++ (e .row .packet ∷ [])) (entry-at i l)) h h<n
@@ -161,10 +156,6 @@ module _ (sizes : List ℕ) (ps : Pair Labelled) where
         (subst (λ z. Standing S M x y count (length (x .packets)) (take (length (x .packets)) (z .rows))) (sym (run-begin S)) (o .1))
 
     module _ {x y : Lists} {n h k : ℕ} (R : Running x y count n h k) where
-      -- the row to handle is row h of the columns
-      pub search-row : length (y .parents) ≡ length (y .packets) → h < n → current S (run S k) ≡ rowOf S M (rowAt (y .packets) (y .left) (y .right) h)
-      search-row long l = ap (λ i. entryAt S (run S k .rows) i .row) (R .handled) ∙ ap (λ e. e .row) (entry-at (R .standing) long h l)
-
       -- a row is handled
       module _ (goes : turn S (run S k) ≡ handling) where
         longer : length (run S k .rows) ≤ length (run S (suc k) .rows)

@@ -48,8 +48,8 @@ fn digit(b: u8) -> u32
     (b - 48) as u32
 }
 
-// The value of the digits, or 65,536 where they are no digits or make more than 65,535.
-fn number_from(w: &[u8]) -> u32
+// Inner: the value of the digits, or 65,536 where they are no digits or make more than 65,535.
+pub fn number_from(w: &[u8]) -> u32
     ensures { λ r. ⌜ r ≡ numberFrom 0 (now (w .entry)) ⌝ }
 {
     let classes = bytes::classes();
@@ -69,7 +69,8 @@ fn number_from(w: &[u8]) -> u32
     n
 }
 
-fn leading_zero(w: &[u8]) -> bool
+// Inner: whether the word begins with a zero that it does not consist of.
+pub fn leading_zero(w: &[u8]) -> bool
     ensures { λ r. ⌜ r ≡ leadingZero (now (w .entry)) ⌝ }
 {
     if w.len() <= 1 {

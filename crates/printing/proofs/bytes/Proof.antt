@@ -2,7 +2,7 @@
 use borrow.Author.Needs.{needs}
 use Prim.Native.Nat.{_-_}
 use native.Mathlib.Omega.{arith}
-use lib.ListN.{length, take}
+use lib.ListN.{length}
 use Rattle.printing.proofs.PrintLaws.{Copied, copied-none, copied-more, copied-all}
 use Rattle.printing.proofs.bytes.Statement.{statement}
 use Rattle.printing.proofs.bytes.Tie as tie
