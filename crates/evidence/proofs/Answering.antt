@@ -40,10 +40,10 @@ use Rattle.pair.specs.Rules.{Checked, accepted, ruleA, ruleB, ruleC, ruleD, Jud
 use Rattle.pair.specs.Evidence.{tableOf, evidenceAnswer, RowRules}
 use Rattle.pair.proofs.Lawful.{EvaluablePair, legal-pair}
 use Rattle.pair.proofs.Evidence.{evidence-judged, accepted-same, evidence-iff, search-accepted, row-order-accepted}
-use Rattle.lent.specs.Lent.{misfit, rowsMisfit, listsStage, lentTests}
+use Rattle.lent.specs.Lent.{misfit, rowsMisfit, listsStage, lentTests, workAfter}
 use Rattle.evidence.specs.declared.Evidence.{Evidence}
 use Rattle.evidence.specs.declared.Evidence.the-variants.{Accepted, RuleA, RuleB, RuleC, RuleD, Refused as NotChecked}
-use Rattle.evidence.specs.Calls.{reported, evidenceOf, workAfter, evidenceTests, evidenceCall, HoldRowOrder, CheckedRows}
+use Rattle.evidence.specs.Calls.{reported, evidenceOf, evidenceTests, evidenceCall, HoldRowOrder, CheckedRows}
 use Rattle.evidence.specs.Steps.{Lent, TableChecked}
 
 -- ---- the cases of the answer tell the rule and the spot

@@ -3,7 +3,7 @@ use Prim.Native.Nat.{ℕ, _≤_}
 use mathlib.Core.List.{List, [], _∷_}
 use mathlib.Core.Logic.{_↔_}
 use mathlib.Core.Path.{_≡_}
-use lib.ListN.{length, replicate}
+use lib.ListN.{length}
 use Rattle.packet.specs.declared.Tested.{Tested}
 use Rattle.packet.specs.declared.Tested.the-variants.{Passed, Refused}
 use Rattle.policy.specs.NodeLists.{NodeLists, policyOf}
@@ -15,7 +15,7 @@ use Rattle.pair.specs.Pair.{pairSystem}
 use Rattle.pair.specs.Search.{heldColumns}
 use Rattle.pair.specs.Rules.{Checked, accepted, ruleA, ruleB, ruleC, ruleD, Judged}
 use Rattle.pair.specs.Evidence.{tableOf, evidenceAnswer, RowRules}
-use Rattle.lent.specs.Lent.{listsStage, lentTests}
+use Rattle.lent.specs.Lent.{listsStage, lentTests, workAfter}
 use Rattle.evidence.specs.declared.Evidence.{Evidence}
 use Rattle.evidence.specs.declared.Evidence.the-variants.{Accepted, RuleA, RuleB, RuleC, RuleD, Refused as NotChecked}
 
@@ -31,11 +31,6 @@ reported (ruleD i γ) = RuleD i γ
 unfoldable pub evidenceOf : Tested → Checked → Evidence
 evidenceOf Passed x = reported x
 evidenceOf (Refused r) x = NotChecked r
-
--- "past refusal 10 the work list is all 0 on return"; causes 1 to 10 leave it as it was
-unfoldable pub workAfter : Tested → List ℕ → List ℕ
-workAfter Passed work = replicate (length work) 0
-workAfter (Refused r) work = work
 
 module _ (sizes : List ℕ) (L R : NodeLists) where
   module _ (packets lefts rights : List ℕ) where

@@ -3,7 +3,9 @@ use mathlib.Core.Bool.{Bool, false, _||_, not}
 use mathlib.Core.List.{List, [], _∷_}
 use Prim.Native.Nat.{ℕ}
 use lib.Dec.{eqb, ltb}
+use lib.ListN.{length, replicate}
 use Rattle.packet.specs.declared.Tested.{Tested}
+use Rattle.packet.specs.declared.Tested.the-variants.{Passed, Refused}
 use Rattle.packet.specs.Refusals.{refusedAt, atZero, firstOf}
 use Rattle.packet.specs.Sizes.{fieldsStage, productStage}
 use Rattle.policy.specs.Tests.{sided}
@@ -29,3 +31,8 @@ listsStage rows work = refusedAt 10 0 (atZero (rowsMisfit rows || ltb work 16384
 -- causes 1 to 10 in the order tested, the last stage being that of the lists
 unfoldable pub lentTests : List ℕ → NodeLists → NodeLists → Tested → Tested
 lentTests sizes L R lists = firstOf (fieldsStage sizes ∷ productStage sizes ∷ policiesStage sizes (sided 1 L ∷ sided 2 R ∷ []) ∷ lists ∷ [])
+
+-- "past refusal 10 the work list is all 0 on return"; causes 1 to 10 leave it as it was
+unfoldable pub workAfter : Tested → List ℕ → List ℕ
+workAfter Passed work = replicate (length work) 0
+workAfter (Refused r) work = work

@@ -23,9 +23,10 @@ use Rattle.pair.specs.TraceCheck.{TraceAnswer, only, both, neither, has, answer
 use Rattle.pair.proofs.Lawful.{EvaluablePair, legal-pair}
 use Rattle.pair.proofs.TraceCheck.{trace-iff, different-only, trace-empty}
 use Rattle.pair.proofs.Verdicts.{different-tells}
+use Rattle.lent.specs.Lent.{workAfter}
 use Rattle.traces.specs.declared.TraceChecked.{TraceChecked}
 use Rattle.traces.specs.declared.TraceChecked.the-variants.{Left, Right, Both, Neither, Refused as CheckRefused}
-use Rattle.traces.specs.Checking.{packetsStage, checkedAs, checkedUnless, lentTests, traceTests, traceCall, zeroUnless, workAfter, Checked, FollowReady, Followed}
+use Rattle.traces.specs.Checking.{packetsStage, checkedAs, checkedUnless, lentTests, traceTests, traceCall, Checked, FollowReady, Followed}
 use Rattle.traces.proofs.Testing.{packets-inside, inside-packets, lent-passed, pair-lent, trace-refused, trace-tested, trace-passed}
 
 -- ---- the cases of the call
@@ -117,7 +118,7 @@ module _ (sizes : List ℕ) (L R : NodeLists) where
   -- ---- the promise
 
   module _ (α : ℕ) (trace work : List ℕ) where
-    checked : {answer : TraceChecked} {work′ : List ℕ} → answer ≡ traceCall sizes L R α trace (length work) → work′ ≡ workAfter sizes L R work
+    checked : {answer : TraceChecked} {work′ : List ℕ} → answer ≡ traceCall sizes L R α trace (length work) → work′ ≡ workAfter (lentTests sizes L R (length work)) work
         → Checked sizes L R α trace work answer work′
     unfolding SideTraces at
     checked e w =
@@ -129,16 +130,16 @@ module _ (sizes : List ℕ) (L R : NodeLists) where
         }
 
     pub lent-refused : (r : Refusal) → lentTests sizes L R (length work) ≡ Refused r → Checked sizes L R α trace work (CheckRefused r) work
-    unfolding traceCall checkedUnless workAfter zeroUnless
+    unfolding traceCall checkedUnless workAfter
     lent-refused r e =
         checked
         (sym (ap (λ (t : Tested). checkedUnless t (traceAnswer sizes (policies L R) α trace)) (trace-refused sizes L R (length work) α trace r e)))
-        (sym (ap (λ (t : Tested). zeroUnless t work) e))
+        (sym (ap (λ (t : Tested). workAfter t work) e))
 
     module _ (e : lentTests sizes L R (length work) ≡ Passed) {work′ : List ℕ} (w : work′ ≡ replicate (length work) 0) where
-      cleared : work′ ≡ workAfter sizes L R work
-      unfolding workAfter zeroUnless
-      cleared = w ∙ sym (ap (λ (t : Tested). zeroUnless t work) e)
+      cleared : work′ ≡ workAfter (lentTests sizes L R (length work)) work
+      unfolding workAfter
+      cleared = w ∙ sym (ap (λ (t : Tested). workAfter t work) e)
 
       called : (t : Tested) → packetsStage (product sizes) α trace ≡ t
           → checkedUnless t (traceAnswer sizes (policies L R) α trace) ≡ traceCall sizes L R α trace (length work)

@@ -5,7 +5,7 @@ use mathlib.Core.List.{List, [], _∷_}
 use mathlib.Core.Logic.{_↔_}
 use mathlib.Core.Path.{_≡_}
 use lib.Dec.{T, leb}
-use lib.ListN.{length, getD, replicate}
+use lib.ListN.{length, getD}
 use Rattle.packet.specs.declared.Tested.{Tested}
 use Rattle.packet.specs.declared.Tested.the-variants.{Passed, Refused}
 use Rattle.packet.specs.Lowest.{lowest}
@@ -18,7 +18,7 @@ use Rattle.automaton.specs.State.{hasTrace}
 use Rattle.pair.specs.Sides.{left, right, policies}
 use Rattle.pair.specs.TraceCheck.{TraceAnswer, only, both, neither, has, traceAnswer}
 use Rattle.lent.specs.Lent as rows
-use Rattle.lent.specs.Lent.{listsStage}
+use Rattle.lent.specs.Lent.{listsStage, workAfter}
 use Rattle.traces.specs.declared.TraceChecked.{TraceChecked}
 use Rattle.traces.specs.declared.TraceChecked.the-variants.{Left, Right, Both, Neither, Refused as CheckRefused}
 
@@ -42,11 +42,6 @@ unfoldable pub checkedUnless : Tested → TraceAnswer → TraceChecked
 checkedUnless Passed a = checkedAs a
 checkedUnless (Refused r) a = CheckRefused r
 
--- the work list after the tests of causes 1 to 10: past them it is all 0
-unfoldable pub zeroUnless : Tested → List ℕ → List ℕ
-zeroUnless Passed work = replicate (length work) 0
-zeroUnless (Refused r) work = work
-
 module _ (sizes : List ℕ) (L R : NodeLists) where
   -- the tests on what else is lent, with a work list of so many words: causes 1 to 10
   unfoldable pub lentTests : ℕ → Tested
@@ -60,14 +55,10 @@ module _ (sizes : List ℕ) (L R : NodeLists) where
   unfoldable pub traceCall : ℕ → List ℕ → ℕ → TraceChecked
   traceCall α trace words = checkedUnless (traceTests α trace words) (traceAnswer sizes (policies L R) α trace)
 
-  -- what the work list holds after
-  unfoldable pub workAfter : List ℕ → List ℕ
-  workAfter work = zeroUnless (lentTests (length work)) work
-
   -- The call's promise. Where it answers, the answer says of each policy whether Figure 1 gives it the trace from the entering packet.
   pub record Checked (α : ℕ) (trace work : List ℕ) (answer : TraceChecked) (work′ : List ℕ) : Type 0 where
     pub answers : answer ≡ traceCall α trace (length work)
-    pub work-list : work′ ≡ workAfter work
+    pub work-list : work′ ≡ workAfter (lentTests (length work)) work
     pub left-trace : (a : TraceAnswer) → answer ≡ checkedAs a → T (has left a) ↔ Traces (numbered sizes) (policyOf L) α trace
     pub right-trace : (a : TraceAnswer) → answer ≡ checkedAs a → T (has right a) ↔ Traces (numbered sizes) (policyOf R) α trace
 
