@@ -15,7 +15,7 @@ use Rattle.policy.specs.NodeLists.{NodeLists}
 use Rattle.system.specs.RowOrder.{held}
 use Rattle.pair.specs.Sides.{Side, left, right, policies}
 use Rattle.pair.specs.Pair.{pairSystem}
-use Rattle.pair.specs.Search.{SearchAnswer, equal, columnsOf, heldColumns}
+use Rattle.pair.specs.Search.{SearchAnswer, columnsOf, heldColumns}
 use Rattle.pair.specs.TraceCheck.{only}
 use Rattle.pair.proofs.Lawful.{legal-pair}
 use Rattle.pair.proofs.Verdicts.{equal-same}
