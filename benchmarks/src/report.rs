@@ -273,9 +273,9 @@ What is known of the causes, from how the two are built and from profiles of som
 
 const ROWS: &str = "\
 One pair is searched with row lists of several lengths, and the time is divided by the rows handled before the lists are full
-or the search is done. What grows with the rows would show as a rising line in the plot. A slight rise is to be expected: with
-65,535 rows there is about one in each bucket of the index, so that a lookup meets one or two, and rows and index outgrow the
-nearer caches.
+or the search is done. What grows with the rows would show as a rising line in the plot. With
+65,535 rows there is about one in each bucket of the index, so that a lookup meets one or two; how much of a rise that makes,
+and what else does, has not been measured.
 ";
 
 const WHAT: &str = "\
