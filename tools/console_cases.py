@@ -8,7 +8,7 @@ import random
 import sys
 
 from calls import numbers_of
-from evaluator_cases import DROP, DUP, EQ, ID, NE, SEQ, SET, STAR, SUM, random_policy
+from engine_cases import DROP, DUP, EQ, ID, NE, SEQ, SET, STAR, SUM, random_policy
 from policy_cases import answer as legality
 from policy_cases import lists, size_refusal
 from search_cases import run

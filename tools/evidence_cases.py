@@ -4,7 +4,7 @@ import itertools
 import random
 
 from calls import EVIDENCE, call, cleared, lists_of, numbers_of
-from evaluator_cases import DROP, DUP, EQ, ID, NE, SEQ, SET, STAR, SUM, World, random_policy, stepped, terms
+from engine_cases import DROP, DUP, EQ, ID, NE, SEQ, SET, STAR, SUM, World, random_policy, stepped, terms
 from policy_cases import answer as legality
 from policy_cases import lists
 

@@ -3,7 +3,7 @@ order tested"; output and next by way of document 004's right spines."""
 import random
 
 from calls import SEARCH, call, cleared, lists_of, total
-from evaluator_cases import DROP, DUP, EQ, ID, SET, STAR, World, random_policy, stepped, terms
+from engine_cases import DROP, DUP, EQ, ID, SET, STAR, World, random_policy, stepped, terms
 from evidence_cases import P2, P5, P10, damaged, dups, equal_pairs, seq_of, starred, sum_of
 from policy_cases import answer as legality
 from policy_cases import lists

@@ -1,29 +1,31 @@
 -- Output and next say exactly what document 01 says of them, and the traces of a state follow from them.
 use Prim.Native.Nat.{ℕ, zero, suc, _^_, _<_, suc-le-suc}
+use mathlib.Core.Bool.{cond}
 use mathlib.Core.List.{List, [], _∷_, _++_, List·Memᴰ, List·Memᴰ·not-nil, List·Memᴰ·cases-cons}
 use mathlib.Core.Logic.{_⊎_, inl, inr, _↔_}
 use mathlib.Core.Path.{_≡_, refl, sym, ap, _∙_, subst}
-use native.Mathlib.Nat.{not-suc-le-zero, zero-lt-suc}
+use native.Mathlib.Nat.{zero-lt-suc}
 use native.Mathlib.Decide.{decLt}
 use native.Mathlib.Omega.{arith}
 use lib.Pow.{pow-pos}
 use lib.Dec.{T, lit<}
 use Rattle.packet.specs.Sizes.{product}
+use Rattle.policy.specs.Legality.{InFields, occurrences}
 use Rattle.policy.specs.Meaning.{Packets, numbered, Traces}
-use Rattle.policy.specs.Tree.{Policy}
+use Rattle.policy.specs.Tree.{Policy, drop}
+use Rattle.policy.specs.Visits.{labels}
 use Rattle.policy.proofs.TraceLaws.{traces-non-empty}
 use Rattle.packet_set.specs.Bits.{bit, maskOf}
-use Rattle.automaton.specs.Remainder.{remainder, HasDup, Evaluable}
-use Rattle.automaton.specs.Reaches.{Reaches}
-use Rattle.automaton.specs.State.{Marks, PacketSet, passedOn, enter, outputSet, output, next, outputMask, nextMask, StateTraces, runs, hasTrace}
-use Rattle.automaton.proofs.Tests.{T-false}
 use Rattle.packet_set.proofs.Digits.{bit-high, bits-same, bit-of-zero}
 use Rattle.packet_set.proofs.Masks.{maskOf-lt, bit-maskOf}
-use Rattle.automaton.proofs.Words.{Tr, traces-iff}
-use Rattle.automaton.proofs.Spines.{Meets, Rem, meets-iff, rem-has, rem-meets-of, remainder-words, remainder-meets}
-use Rattle.automaton.proofs.Fundamental.{Gives, through, after, Enters, straight, later, enters-has, first-dup, dup-first}
-use Rattle.automaton.proofs.Sets.{below, passedOn-fits, passedOn-iff}
-use Rattle.automaton.proofs.Flow.{Marked, flow-fits, enter-fits, flow-iff, enter-iff}
+use Rattle.automaton.specs.Remainder.{remainder, HasDup, Evaluable}
+use Rattle.automaton.specs.Reaches.{Passes, Reaches}
+use Rattle.automaton.specs.State.{Marks, PacketSet, single, flow, enter, ofMarked, outputSet, enteredSet, output, next, outputMask, nextMask, StateTraces, runs, hasTrace}
+use Rattle.automaton.proofs.Tests.{T-false}
+use Rattle.automaton.proofs.RightSpines.{has-label, remainder-fields, remainder-listed}
+use Rattle.automaton.proofs.Fundamental.{reached-has, remainder-iff}
+use Rattle.automaton.proofs.Sets.{Fits, below, empty, empty-fits, cond-fits, cond-iff, single-fits, single-iff, unionOver-fits, unionOver-iff}
+use Rattle.automaton.proofs.Flow.{From, flow-fits, enter-fits, flow-iff, enter-iff}
 
 -- a trace has a last packet
 pub split-last : (δ : ℕ) (t : List ℕ) → (w : List ℕ) × (ε : ℕ) × (δ ∷ t ≡ w ++ (ε ∷ []))
@@ -34,90 +36,81 @@ module _ (sizes : List ℕ) (dups : ℕ) (p : Policy) (ok : Evaluable sizes dups
   abbrev P : Packets
   P = numbered sizes
 
-  -- only the whole policy is remainder 0
-  no-dup-zero : HasDup p 0 → ⊥
-  no-dup-zero h = not-suc-le-zero (ok .fromOne 0 h)
+  fields : (j : ℕ) → InFields sizes (remainder p j)
+  fields j = remainder-fields sizes p (ok .inFields) j
+
+  -- ---- the union over the marked remainders
+
+  marked-fits : (marks : Marks) (set : Policy → PacketSet) → Fits sizes (ofMarked sizes p marks set)
+  unfolding ofMarked
+  marked-fits marks set = unionOver-fits sizes (λ i. cond (marks i) (set (remainder p i)) 0) (0 ∷ labels p)
+
+  marked-iff : (marks : Marks) (set : Policy → PacketSet) → ((r : Policy) → Fits sizes (set r)) → (γ : ℕ)
+      → T (bit (ofMarked sizes p marks set) γ) ↔ ((j : ℕ) × (0 < occurrences j (0 ∷ labels p)) × T (marks j) × T (bit (set (remainder p j)) γ))
+  unfolding ofMarked
+  marked-iff marks set fits γ =
+      let e = unionOver-iff sizes (λ i. cond (marks i) (set (remainder p i)) 0) (λ i. cond-fits sizes (marks i) (set (remainder p i)) (fits (remainder p i))) (0 ∷ labels p) γ in (
+        λ t. let h = e .0 t in
+            let c = cond-iff sizes (marks (h .0)) (set (remainder p (h .0))) γ .0 (h .2) in
+            (h .0, h .1, c .0, c .1),
+        λ h. e .1 (h .0, h .1, cond-iff sizes (marks (h .0)) (set (remainder p (h .0))) γ .1 (h .2, h .3)),
+      )
 
   module _ (marks : Marks) (β : ℕ) where
-    abbrev M : ℕ → Type 0
-    M = Marked sizes marks β
+    -- sets that hold what a relation R of each remainder leads to from β
+    related-iff : (set : Policy → PacketSet) (R : Policy → ℕ → ℕ → Type 0) → ((r : Policy) → Fits sizes (set r)) → (γ : ℕ)
+        → ((j : ℕ) → T (bit (set (remainder p j)) γ) ↔ From sizes (single sizes β) (R (remainder p j)) γ) → (R drop β γ → ⊥)
+        → T (bit (ofMarked sizes p marks set) γ) ↔ ((β < product sizes) × ((j : ℕ) × T (marks j) × R (remainder p j) β γ))
+    related-iff set R fits γ exact n =
+        let e = marked-iff marks set fits γ in (
+          λ t. let h = e .0 t in
+              let r = exact (h .0) .0 (h .3) in
+              let s = single-iff sizes β (r .0) .0 (r .1) in
+              (s .0, (h .0, h .2, subst (λ α. R (remainder p (h .0)) α γ) (s .1) (r .2))),
+          λ h. let j = h .1 .0 in
+              let r = h .1 .2 in
+              e .1 (j, remainder-listed (λ x. R x β γ) n p j r, h .1 .1, exact j .1 (β, single-iff sizes β β .1 (h .0, refl), r)),
+        )
 
-    -- the packets that enter the root
-    abbrev X : PacketSet
-    X = passedOn sizes marks β 0
-
-    gives-iff : (w : List ℕ) (δ : ℕ) → ((β < product sizes) × StateTraces sizes p marks β (w ++ (δ ∷ []))) ↔ Gives P M β p (λ α. T (bit X α)) w δ
-    unfolding StateTraces remainder
-    gives-iff w δ = (λ h. there (h .0) (h .1 .0) (h .1 .1) (h .1 .2), back)
-      where
-        there : β < product sizes → (i : ℕ) → T (marks i) → Traces P (remainder p i) β (w ++ (δ ∷ [])) → Gives P M β p (λ α. T (bit X α)) w δ
-        there l zero m t = through β (passedOn-iff sizes marks β 0 β .1 ((m, l), refl)) (traces-iff P p β w δ .0 t)
-        there l (suc i) m t = after (suc i) (m, l) (remainder-words P p (ok .distinct) i β w δ .0 (traces-iff P (remainder p (suc i)) β w δ .0 t))
-
-        back : Gives P M β p (λ α. T (bit X α)) w δ → (β < product sizes) × StateTraces sizes p marks β (w ++ (δ ∷ []))
-        back (through α x t) =
-            let s = passedOn-iff sizes marks β 0 α .0 x in
-            (s .0 .1, (0, s .0 .0, traces-iff P p β w δ .1 (subst (λ y. Tr P p y w δ) (s .1) t)))
-        back (after zero m r) = absurd (no-dup-zero (rem-has P p 0 β w δ r))
-        back (after (suc i) m r) = (m .1, (suc i, m .0, traces-iff P (remainder p (suc i)) β w δ .1 (remainder-words P p (ok .distinct) i β w δ .1 r)))
+    -- ---- output and next at any packet
 
     output-exact : (γ : ℕ) → T (output sizes p marks β γ) ↔ ((β < product sizes) × StateTraces sizes p marks β (γ ∷ []))
-    unfolding output outputSet
+    unfolding output outputSet StateTraces Passes Traces
     output-exact γ =
-        let f = flow-iff sizes marks β p (ok .inFields) X (passedOn-fits sizes marks β 0) γ in
-        let g = gives-iff [] γ in
-        (λ t. g .1 (f .0 t), λ h. f .1 (g .0 h))
-
-    enters-iff : (i γ : ℕ) → T (next sizes p marks β γ i) ↔ Enters P M β p (λ α. T (bit X α)) i γ
-    unfolding next
-    enters-iff i γ = enter-iff sizes marks β p (ok .inFields) X (passedOn-fits sizes marks β 0) i γ
+        let X = single sizes β in
+        let h = single-fits sizes β in
+        related-iff (λ r. flow sizes r X) (Passes P) (λ r. flow-fits sizes r X h) γ (λ j. flow-iff sizes (remainder p j) (fields j) X h γ) (λ t. t)
 
     next-exact : (γ i : ℕ) → T (next sizes p marks β γ i) ↔ ((β < product sizes) × ((j : ℕ) × T (marks j) × Reaches P (remainder p j) i β γ))
-    unfolding remainder
-    next-exact γ i = (λ t. there (enters-iff i γ .0 t), λ h. enters-iff i γ .1 (back (h .0) (h .1 .0) (h .1 .1) (h .1 .2)))
-      where
-        there : Enters P M β p (λ α. T (bit X α)) i γ → (β < product sizes) × ((j : ℕ) × T (marks j) × Reaches P (remainder p j) i β γ)
-        there (straight α x h) =
-            let s = passedOn-iff sizes marks β 0 α .0 x in
-            (s .0 .1, (0, s .0 .0, meets-iff P p i β γ .1 (subst (λ y. Meets P p i y γ) (s .1) h)))
-        there (later zero m r) = absurd (no-dup-zero (rem-meets-of P p 0 i β γ r))
-        there (later (suc j) m r) =
-            (m .1, (suc j, m .0, meets-iff P (remainder p (suc j)) i β γ .1 (remainder-meets P p (ok .distinct) j i β γ .1 r)))
-
-        back : β < product sizes → (j : ℕ) → T (marks j) → Reaches P (remainder p j) i β γ → Enters P M β p (λ α. T (bit X α)) i γ
-        back l zero m h = straight β (passedOn-iff sizes marks β 0 β .1 ((m, l), refl)) (meets-iff P p i β γ .0 h)
-        back l (suc j) m h = later (suc j) (m, l) (remainder-meets P p (ok .distinct) j i β γ .0 (meets-iff P (remainder p (suc j)) i β γ .0 h))
+    unfolding next enteredSet Reaches
+    next-exact γ i =
+        let X = single sizes β in
+        let h = single-fits sizes β in
+        related-iff (λ r. enter sizes r X i) (λ r. Reaches P r i) (λ r. enter-fits sizes r X h i) γ
+        (λ j. enter-iff sizes (remainder p j) (fields j) X h i γ) (λ t. t)
 
     -- the next state marks dups of the policy alone
     pub next-marks-dups : (γ i : ℕ) → T (next sizes p marks β γ i) → HasDup p i
-    next-marks-dups γ i t = enters-has P M β p (λ α. T (bit X α)) i γ (enters-iff i γ .0 t)
+    next-marks-dups γ i t = let h = next-exact γ i .0 t .1 in reached-has P p (ok .labelled) (h .0) β γ i (h .2)
 
     -- packets of the output, and packets at which something is marked next, are below N
     pub output-below : (γ : ℕ) → T (output sizes p marks β γ) → γ < product sizes
     unfolding output outputSet
-    output-below γ t = below sizes (outputSet sizes p marks β) (flow-fits sizes marks β p X (passedOn-fits sizes marks β 0)) γ t
+    output-below γ t = below sizes (outputSet sizes p marks β) (marked-fits marks (λ r. flow sizes r (single sizes β))) γ t
 
     pub next-below : (γ i : ℕ) → T (next sizes p marks β γ i) → γ < product sizes
-    unfolding next
-    next-below γ i t = below sizes (enter sizes marks β p X i) (enter-fits sizes marks β p X (passedOn-fits sizes marks β 0) i) γ t
+    unfolding next enteredSet
+    next-below γ i t = below sizes (enteredSet sizes p marks β i) (marked-fits marks (λ r. enter sizes r (single sizes β) i)) γ t
 
     more-exact : (γ : ℕ) (w : List ℕ) (ε : ℕ)
         → ((β < product sizes) × StateTraces sizes p marks β (γ ∷ (w ++ (ε ∷ [])))) ↔ StateTraces sizes p (next sizes p marks β γ) γ (w ++ (ε ∷ []))
-    unfolding StateTraces remainder
-    more-exact γ w ε = (λ h. there (gives-iff (γ ∷ w) ε .0 h), λ h. gives-iff (γ ∷ w) ε .1 (back (h .0) (h .1) (h .2)))
-      where
-        mark : (i : ℕ) → T (next sizes p marks β γ i) → Rem P p i γ w ε → StateTraces sizes p (next sizes p marks β γ) γ (w ++ (ε ∷ []))
-        mark zero m r = absurd (no-dup-zero (rem-has P p 0 γ w ε r))
-        mark (suc i) m r = (suc i, m, traces-iff P (remainder p (suc i)) γ w ε .1 (remainder-words P p (ok .distinct) i γ w ε .1 r))
-
-        there : Gives P M β p (λ α. T (bit X α)) (γ ∷ w) ε → StateTraces sizes p (next sizes p marks β γ) γ (w ++ (ε ∷ []))
-        there g = let r = first-dup P M β p (λ α. T (bit X α)) γ w ε g in mark (r .0) (enters-iff (r .0) γ .1 (r .1)) (r .2)
-
-        back : (i : ℕ) → T (next sizes p marks β γ i) → Traces P (remainder p i) γ (w ++ (ε ∷ [])) → Gives P M β p (λ α. T (bit X α)) (γ ∷ w) ε
-        back zero m t = absurd (no-dup-zero (next-marks-dups γ 0 m))
-        back (suc i) m t =
-            dup-first P M β p (ok .distinct) (λ α. T (bit X α)) (suc i) γ w ε (enters-iff (suc i) γ .0 m)
-            (remainder-words P p (ok .distinct) i γ w ε .0 (traces-iff P (remainder p (suc i)) γ w ε .0 t))
+    unfolding StateTraces
+    more-exact γ w ε = (
+      λ h. let r = remainder-iff P p (ok .labelled) (h .1 .0) β γ w ε .0 (h .1 .2) in
+          (r .0, next-exact γ (r .0) .1 (h .0, (h .1 .0, h .1 .1, r .1)), r .2),
+      λ h. let n = next-exact γ (h .0) .0 (h .1) in
+          (n .0, (n .1 .0, n .1 .1, remainder-iff P p (ok .labelled) (n .1 .0) β γ w ε .1 (h .0, n .1 .2, h .2))),
+    )
 
     tail-exact : (γ δ : ℕ) (t : List ℕ)
         → ((β < product sizes) × StateTraces sizes p marks β (γ ∷ δ ∷ t)) ↔ StateTraces sizes p (next sizes p marks β γ) γ (δ ∷ t)
@@ -173,7 +166,7 @@ module _ (sizes : List ℕ) (dups : ℕ) (p : Policy) (ok : Evaluable sizes dups
       go (yes l) = bit-maskOf (suc dups) (next sizes p (bit m) β γ) i l
       go (no n) =
           bit-high (suc dups) (nextMask sizes p dups m β γ) i (nextMask-lt m β γ) (omega arith)
-          ∙ sym (T-false (next sizes p (bit m) β γ i) (λ t. n (suc-le-suc (ok .upTo i (next-marks-dups (bit m) β γ i t)))))
+          ∙ sym (T-false (next sizes p (bit m) β γ i) (λ t. n (suc-le-suc (ok .labelled .most i (has-label p i (next-marks-dups (bit m) β γ i t))))))
 
   pub outputMask-bit : (m β γ : ℕ) → bit (outputMask sizes p m β) γ ≡ output sizes p (bit m) β γ
   unfolding outputMask output
@@ -181,21 +174,18 @@ module _ (sizes : List ℕ) (dups : ℕ) (p : Policy) (ok : Evaluable sizes dups
 
   pub outputMask-fits : (m β : ℕ) → outputMask sizes p m β < 2 ^ product sizes
   unfolding outputMask outputSet
-  outputMask-fits m β = flow-fits sizes (bit m) β p (passedOn sizes (bit m) β 0) (passedOn-fits sizes (bit m) β 0)
-
-  nothing : (i : ℕ) → T (bit 0 i) → ⊥
-  nothing i t = subst T (bit-of-zero i) t
+  outputMask-fits m β = marked-fits (bit m) (λ r. flow sizes r (single sizes β))
 
   -- the empty state stays empty and has no output
   pub dead-nextMask : (β γ : ℕ) → nextMask sizes p dups 0 β γ ≡ 0
   dead-nextMask β γ =
       bits-same (suc dups) (nextMask sizes p dups 0 β γ) 0 (nextMask-lt 0 β γ) (pow-pos (suc dups))
-      (λ i l. nextMask-bit 0 β γ i ∙ T-false (next sizes p (bit 0) β γ i) (dead-next (bit 0) β nothing γ i) ∙ sym (bit-of-zero i))
+      (λ i l. nextMask-bit 0 β γ i ∙ T-false (next sizes p (bit 0) β γ i) (dead-next (bit 0) β (empty sizes) γ i) ∙ sym (bit-of-zero i))
 
   pub dead-outputMask : (β : ℕ) → outputMask sizes p 0 β ≡ 0
   dead-outputMask β =
-      bits-same (product sizes) (outputMask sizes p 0 β) 0 (outputMask-fits 0 β) (pow-pos (product sizes))
-      (λ γ l. outputMask-bit 0 β γ ∙ T-false (output sizes p (bit 0) β γ) (dead-output (bit 0) β nothing γ) ∙ sym (bit-of-zero γ))
+      bits-same (product sizes) (outputMask sizes p 0 β) 0 (outputMask-fits 0 β) (empty-fits sizes)
+      (λ γ l. outputMask-bit 0 β γ ∙ T-false (output sizes p (bit 0) β γ) (dead-output (bit 0) β (empty sizes) γ) ∙ sym (bit-of-zero γ))
 
   pub outputMask-iff : (m β : ℕ) → β < product sizes → (γ : ℕ) → T (bit (outputMask sizes p m β) γ) ↔ StateTraces sizes p (bit m) β (γ ∷ [])
   unfolding outputMask output

@@ -1,7 +1,8 @@
 pub mod Tests
 pub mod Words
-pub mod Spines
+pub mod RightSpines
 pub mod Fundamental
+pub mod Spines
 pub mod Sets
 pub mod Flow
 pub mod Laws

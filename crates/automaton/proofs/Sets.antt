@@ -1,22 +1,26 @@
 -- Packet sets as masks: members of each set, and the rounds of a star.
 use Prim.Native.Nat.{ℕ, zero, suc, _+_, _^_, _≤_, _<_, zero-le, suc-le-suc}
 use mathlib.Core.Bool.{Bool, true, false, _&&_, _||_, not, cond}
-use mathlib.Core.List.{List}
+use mathlib.Core.List.{List, [], _∷_}
 use mathlib.Core.Logic.{_⊎_, inl, inr, ⊎-map, _↔_}
-use mathlib.Core.Path.{_≡_, refl, sym, ap, _∙_, subst}
+use mathlib.Core.Path.{_≡_, refl, sym, ap, subst}
 use native.Mathlib.Nat.{le-trans, le-refl, le-suc, eq-or-lt-of-le, le-of-suc-le-suc, not-suc-le-zero}
-use native.Mathlib.Decide.{le-ind, decLe}
+use native.Mathlib.Decide.{ℕ-discrete}
 use native.Mathlib.Omega.{arith}
 use lib.Dec.{T, eqb, eqb→eq}
+use lib.Pow.{pow-pos}
 use Rattle.packet.specs.Packets.{valueAt, changed}
 use Rattle.packet.specs.Sizes.{product}
 use Rattle.policy.specs.declared.FieldAction.{FieldAction}
 use Rattle.policy.specs.declared.FieldAction.the-variants.{Equals, Differs, Set}
+use Rattle.policy.specs.Legality.{occurrences}
 use Rattle.policy.specs.Meaning.{numbered}
+use Rattle.policy.specs.NodeLists.{one}
+use Rattle.policy.proofs.EachLaws.{one-same, one-other}
 use Rattle.packet_set.specs.Bits.{bit, maskOf}
-use Rattle.automaton.specs.State.{Marks, PacketSet, anyBelow, setOf, union, takes, image, rounds, passedOn}
+use Rattle.automaton.specs.State.{PacketSet, anyBelow, setOf, single, union, unionOver, takes, image, rounds}
 use Rattle.automaton.proofs.Tests.{true-T, eqb-true, same-test, both, either}
-use Rattle.packet_set.proofs.Digits.{bits-same}
+use Rattle.packet_set.proofs.Digits.{bits-same, bit-of-zero}
 use Rattle.packet_set.proofs.Masks.{maskOf-lt, bit-maskOf, bit-below}
 use Rattle.automaton.proofs.Words.{Acts}
 
@@ -72,20 +76,58 @@ module _ (sizes : List ℕ) where
   pub same-set : (X Y : PacketSet) → Fits X → Fits Y → ((γ : ℕ) → T (bit X γ) → T (bit Y γ)) → ((γ : ℕ) → T (bit Y γ) → T (bit X γ)) → X ≡ Y
   same-set X Y hx hy f g = bits-same (product sizes) X Y hx hy (λ γ l. same-test (bit X γ) (bit Y γ) (f γ) (g γ))
 
-  pub passedOn-fits : (marks : Marks) (β i : ℕ) → Fits (passedOn sizes marks β i)
-  unfolding passedOn
-  passedOn-fits marks β i = setOf-fits (λ γ. marks i && eqb γ β)
+  pub single-fits : (β : ℕ) → Fits (single sizes β)
+  unfolding single
+  single-fits β = setOf-fits (λ γ. eqb γ β)
 
-  pub passedOn-iff : (marks : Marks) (β i γ : ℕ) → T (bit (passedOn sizes marks β i) γ) ↔ ((T (marks i) × (β < product sizes)) × (γ ≡ β))
-  unfolding passedOn
-  passedOn-iff marks β i γ = (
-    λ t. let s = setOf-iff (λ γ. marks i && eqb γ β) γ .0 t in
-        let h = both (marks i) (eqb γ β) .0 (s .1) in
-        let e = eqb→eq γ β (h .1) in
-        ((h .0, subst (λ x. x < product sizes) e (s .0)), e),
-    λ h. setOf-iff (λ γ. marks i && eqb γ β) γ .1
-        (subst (λ x. x < product sizes) (sym (h .1)) (h .0 .1), both (marks i) (eqb γ β) .1 (h .0 .0, eqb-true γ β (h .1))),
+  pub single-iff : (β γ : ℕ) → T (bit (single sizes β) γ) ↔ ((β < product sizes) × (γ ≡ β))
+  unfolding single
+  single-iff β γ = (
+    λ t. let s = setOf-iff (λ γ. eqb γ β) γ .0 t in
+        let e = eqb→eq γ β (s .1) in
+        (subst (λ x. x < product sizes) e (s .0), e),
+    λ h. setOf-iff (λ γ. eqb γ β) γ .1 (subst (λ x. x < product sizes) (sym (h .1)) (h .0), eqb-true γ β (h .1)),
   )
+
+  pub empty : (γ : ℕ) → T (bit 0 γ) → ⊥
+  empty γ t = subst T (bit-of-zero γ) t
+
+  pub empty-fits : Fits 0
+  empty-fits = pow-pos (product sizes)
+
+  -- a set, or the empty one
+  pub cond-fits : (b : Bool) (X : PacketSet) → Fits X → Fits (cond b X 0)
+  cond-fits true X h = h
+  cond-fits false X h = empty-fits
+
+  pub cond-iff : (b : Bool) (X : PacketSet) (γ : ℕ) → T (bit (cond b X 0) γ) ↔ (T b × T (bit X γ))
+  cond-iff true X γ = (λ t. (tt, t), λ h. h .1)
+  cond-iff false X γ = (λ t. absurd (empty γ t), λ h. absurd (h .0))
+
+  pub unionOver-fits : (set : ℕ → PacketSet) (is : List ℕ) → Fits (unionOver sizes set is)
+  unfolding unionOver
+  unionOver-fits set [] = empty-fits
+  unionOver-fits set (c ∷ is) = union-fits (set c) (unionOver sizes set is)
+
+  pub unionOver-iff : (set : ℕ → PacketSet) → ((i : ℕ) → Fits (set i)) → (is : List ℕ) (γ : ℕ)
+      → T (bit (unionOver sizes set is) γ) ↔ ((i : ℕ) × (0 < occurrences i is) × T (bit (set i) γ))
+  unfolding unionOver occurrences
+  unionOver-iff set fits [] γ = (λ t. absurd (empty γ t), λ h. absurd (not-suc-le-zero (h .1)))
+  unionOver-iff set fits (c ∷ is) γ = (λ t. there (e .0 t) (unionOver-iff set fits is γ .0), λ h. e .1 (back h (ℕ-discrete c (h .0)) (unionOver-iff set fits is γ .1)))
+    where
+      e : T (bit (union sizes (set c) (unionOver sizes set is)) γ) ↔ (T (bit (set c) γ) ⊎ T (bit (unionOver sizes set is) γ))
+      e = union-iff (set c) (unionOver sizes set is) (fits c) (unionOver-fits set is) γ
+
+      there : T (bit (set c) γ) ⊎ T (bit (unionOver sizes set is) γ)
+          → (T (bit (unionOver sizes set is) γ) → (i : ℕ) × (0 < occurrences i is) × T (bit (set i) γ))
+          → (i : ℕ) × (0 < one (eqb c i) + occurrences i is) × T (bit (set i) γ)
+      there (inl t) f = (c, omega (arith, one-same c c refl), t)
+      there (inr t) f = let r = f t in (r .0, omega (arith, r .1), r .2)
+
+      back : (h : (i : ℕ) × (0 < one (eqb c i) + occurrences i is) × T (bit (set i) γ)) → Dec (c ≡ h .0)
+          → ((i : ℕ) × (0 < occurrences i is) × T (bit (set i) γ) → T (bit (unionOver sizes set is) γ)) → T (bit (set c) γ) ⊎ T (bit (unionOver sizes set is) γ)
+      back h (yes q) f = inl (subst (λ x. T (bit (set x) γ)) (sym q) (h .2))
+      back h (no n) f = inr (f (h .0, omega (arith, one-other c (h .0) n, h .1), h .2))
 
   takes-iff : (a : FieldAction) (α γ : ℕ) → T (takes sizes a α γ) ↔ Acts (numbered sizes) a α γ
   unfolding takes Acts
@@ -119,9 +161,6 @@ module _ (sizes : List ℕ) where
       )
 
 -- ---- counting: N rounds suffice
-
-one : Bool → ℕ
-one b = cond b 1 0
 
 count : ℕ → PacketSet → ℕ
 count zero X = 0
@@ -221,17 +260,3 @@ module _ (sizes : List ℕ) (body : PacketSet → PacketSet) (fits : (Y : Packet
           → rounds sizes (suc (product sizes)) body X ≡ rounds sizes (product sizes) body X
       go (inl e) = e
       go (inr l) = absurd (omega (arith, count-le (product sizes) (rounds sizes (suc (product sizes)) body X)))
-
-  still : (k : ℕ) → rounds sizes (suc k) body X ≡ rounds sizes k body X → (m : ℕ) → k ≤ m
-      → (rounds sizes (suc m) body X ≡ rounds sizes m body X) × (rounds sizes m body X ≡ rounds sizes k body X)
-  still k e =
-      le-ind (λ (m : ℕ). (rounds sizes (suc m) body X ≡ rounds sizes m body X) × (rounds sizes m body X ≡ rounds sizes k body X)) (e, refl)
-      (λ m l h. (stays m (h .0), h .0 ∙ h .1))
-
-  -- a loop that stops at the first round that adds nothing computes the same as N rounds
-  pub rounds-stop : (k : ℕ) → rounds sizes (suc k) body X ≡ rounds sizes k body X → rounds sizes (product sizes) body X ≡ rounds sizes k body X
-  rounds-stop k e = go (decLe k (product sizes))
-    where
-      go : Dec (k ≤ product sizes) → rounds sizes (product sizes) body X ≡ rounds sizes k body X
-      go (yes l) = still k e (product sizes) l .1
-      go (no n) = sym (still (product sizes) rounds-enough k (omega arith) .1)

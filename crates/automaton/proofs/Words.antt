@@ -131,4 +131,3 @@ module _ (P : Packets) where
       back h = let r = traces→tr p α (w ++ (δ ∷ [])) h in
           let e = snoc-injective w (r .0) _ _ (r .2) in
           subst₂ (Tr p α) (sym (e .0)) (sym (e .1)) (r .3)
-      -- a trace is never empty

@@ -1,5 +1,5 @@
 -- What remains of a policy after one of its dups: document 004's right spine. Bit 0 of a state stands for the whole policy.
-use Prim.Native.Nat.{ℕ, zero, suc, _≤_, _<_}
+use Prim.Native.Nat.{ℕ, zero, suc}
 use mathlib.Core.Bool.{cond}
 use mathlib.Core.List.{List}
 use mathlib.Core.Logic.{_⊎_}
@@ -8,6 +8,7 @@ use mathlib.Core.Path.{_≡_}
 use lib.Dec.{eqb}
 use Rattle.policy.specs.Legality.{InFields}
 use Rattle.policy.specs.Tree.{Policy, drop, id, field, dup, sum, seq, star}
+use Rattle.policy.specs.Visits.{Labelled}
 
 unfoldable pub orElse : Option Policy → Option Policy → Option Policy
 orElse none s = s
@@ -43,19 +44,7 @@ HasDup (sum p q) i = HasDup p i ⊎ HasDup q i
 HasDup (seq p q) i = HasDup p i ⊎ HasDup q i
 HasDup (star p) i = HasDup p i
 
--- no two dups have the same number
-unfoldable pub DistinctLabels : Policy → Type 0
-DistinctLabels drop = Unit
-DistinctLabels id = Unit
-DistinctLabels (field a) = Unit
-DistinctLabels (dup i) = Unit
-DistinctLabels (sum p q) = DistinctLabels p × DistinctLabels q × ((i : ℕ) → HasDup p i → HasDup q i → ⊥)
-DistinctLabels (seq p q) = DistinctLabels p × DistinctLabels q × ((i : ℕ) → HasDup p i → HasDup q i → ⊥)
-DistinctLabels (star p) = DistinctLabels p
-
 -- what the laws of output and next ask of a tree: tests and changes within the fields, dups with different numbers from 1 to dups
 pub record Evaluable (sizes : List ℕ) (dups : ℕ) (p : Policy) : Type 0 where
   pub inFields : InFields sizes p
-  pub distinct : DistinctLabels p
-  pub fromOne : (i : ℕ) → HasDup p i → 0 < i
-  pub upTo : (i : ℕ) → HasDup p i → i ≤ dups
+  pub labelled : Labelled dups p

@@ -9,6 +9,7 @@ use Rattle.policy.specs.declared.FieldAction.{FieldAction}
 use Rattle.policy.specs.declared.FieldAction.the-variants.{Equals, Differs, Set}
 use Rattle.policy.specs.Meaning.{numbered, Traces}
 use Rattle.policy.specs.Tree.{Policy, drop, id, field, dup, sum, seq, star}
+use Rattle.policy.specs.Visits.{labels}
 use Rattle.packet_set.specs.Bits.{bit, maskOf}
 use Rattle.automaton.specs.Remainder.{remainder}
 
@@ -29,8 +30,17 @@ module _ (sizes : List ℕ) where
   unfoldable pub setOf : (ℕ → Bool) → PacketSet
   setOf test = maskOf (product sizes) test
 
+  -- {β}
+  unfoldable pub single : ℕ → PacketSet
+  single β = setOf (λ γ. eqb γ β)
+
   unfoldable pub union : PacketSet → PacketSet → PacketSet
   union X Y = setOf (λ γ. bit X γ || bit Y γ)
+
+  -- the union of the sets of all numbers of a list
+  unfoldable pub unionOver : (ℕ → PacketSet) → List ℕ → PacketSet
+  unionOver set [] = 0
+  unionOver set (i ∷ is) = union (set i) (unionOver set is)
 
   -- the action takes packet α to γ
   unfoldable pub takes : FieldAction → ℕ → ℕ → Bool
@@ -47,42 +57,45 @@ module _ (sizes : List ℕ) where
   rounds zero body X = X
   rounds (suc k) body X = union (rounds k body X) (body (rounds k body X))
 
-  -- {β} if the remainder is marked, else nothing
-  unfoldable pub passedOn : Marks → ℕ → ℕ → PacketSet
-  passedOn marks β i = setOf (λ γ. marks i && eqb γ β)
+  -- document 004's E: the one-packet traces of p, from the packets of X
+  unfoldable pub flow : Policy → PacketSet → PacketSet
+  flow drop X = 0
+  flow id X = X
+  flow (field a) X = image a X
+  flow (dup i) X = 0
+  flow (sum p q) X = union (flow p X) (flow q X)
+  flow (seq p q) X = flow q (flow p X)
+  flow (star p) X = rounds (product sizes) (flow p) X
 
-  module _ (marks : Marks) (β : ℕ) where
-    -- what comes out of p without having been recorded, when X enters p and each marked dup passes on β
-    unfoldable pub flow : Policy → PacketSet → PacketSet
-    flow drop X = 0
-    flow id X = X
-    flow (field a) X = image a X
-    flow (dup i) X = passedOn marks β i
-    flow (sum p q) X = union (flow p X) (flow q X)
-    flow (seq p q) X = flow q (flow p X)
-    flow (star p) X = rounds (product sizes) (flow p) X
-
-    -- the packets that then enter dup i
-    unfoldable pub enter : Policy → PacketSet → ℕ → PacketSet
-    enter drop X i = 0
-    enter id X i = 0
-    enter (field a) X i = 0
-    enter (dup j) X i = cond (eqb i j) X 0
-    enter (sum p q) X i = union (enter p X i) (enter q X i)
-    enter (seq p q) X i = union (enter p X i) (enter q (flow p X) i)
-    enter (star p) X i = enter p (flow (star p) X) i
+  -- document 004's D: the packets with which p, from the packets of X, reaches dup i before any other dup
+  unfoldable pub enter : Policy → PacketSet → ℕ → PacketSet
+  enter drop X i = 0
+  enter id X i = 0
+  enter (field a) X i = 0
+  enter (dup j) X i = cond (eqb i j) X 0
+  enter (sum p q) X i = union (enter p X i) (enter q X i)
+  enter (seq p q) X i = union (enter p X i) (enter q (flow p X) i)
+  enter (star p) X i = enter p (flow (star p) X) i
 
 module _ (sizes : List ℕ) (p : Policy) where
-  -- the output of a state at packet β
+  -- the union, over the marked remainders, of the set of each; a number that no dup has stands for nothing
+  unfoldable pub ofMarked : Marks → (Policy → PacketSet) → PacketSet
+  ofMarked marks set = unionOver sizes (λ i. cond (marks i) (set (remainder p i)) 0) (0 ∷ labels p)
+
+  -- the output at packet β: the packets that are one-packet traces of some marked remainder
   unfoldable pub outputSet : Marks → ℕ → PacketSet
-  outputSet marks β = flow sizes marks β p (passedOn sizes marks β 0)
+  outputSet marks β = ofMarked marks (λ r. flow sizes r (single sizes β))
+
+  -- the packets with which a marked remainder, from β, reaches dup i before any other dup
+  unfoldable pub enteredSet : Marks → ℕ → ℕ → PacketSet
+  enteredSet marks β i = ofMarked marks (λ r. enter sizes r (single sizes β) i)
 
   unfoldable pub output : Marks → ℕ → ℕ → Bool
   output marks β γ = bit (outputSet marks β) γ
 
-  -- next at γ: the dups that γ enters
+  -- next at γ marks each dup that a marked remainder reaches with packet γ before any other dup
   unfoldable pub next : Marks → ℕ → ℕ → Marks
-  next marks β γ i = bit (enter sizes marks β p (passedOn sizes marks β 0) i) γ
+  next marks β γ i = bit (enteredSet marks β i) γ
 
   -- the same of states as masks, for a policy with so many dups
   unfoldable pub outputMask : ℕ → ℕ → PacketSet

@@ -10,9 +10,11 @@ use Rattle.policy.specs.NodeLists.{nodeCount, nodeOf, nodeAt, children, one, is
 use Rattle.policy.specs.Legality.{badLengths, badKind, badField, used, wrongEntries, badEntries, someNotBelow, badChild, occurrences, timesChild, notOnce, maxDups, tooManyDups, cause, policiesStage}
 use Rattle.policy.specs.Tests.{sided, policyTests, pairTests}
 use Rattle.legality.specs.Answers.{policyAnswer, pairAnswer, policyLegality, pairLegality}
+use Rattle.policy.specs.Visits.{labels}
 use Rattle.policy.specs.NodesOfTree.{entry, actionEntry, treeSize, entriesFrom, listsOf, nodesOf}
 use Rattle.packet_set.specs.Bits.{bit, maskOf, onlyBits}
-use Rattle.automaton.specs.State.{anyBelow, setOf, union, takes, image, rounds, passedOn, flow, enter, outputSet, next, outputMask, nextMask}
+use Rattle.automaton.specs.Remainder.{orElse, followedBy, rightSpine, remainder}
+use Rattle.automaton.specs.State.{anyBelow, setOf, union, takes, image, rounds, single, unionOver, flow, enter, ofMarked, outputSet, enteredSet, next, outputMask, nextMask}
 use Rattle.system.specs.RowOrder.{starts, sameRow, listed, append, appendNext, lowestTelling, turn, handle, runFrom, run, climbing, climb, path, entering, verdict, answer, held}
 use Rattle.pair.specs.Sides.{at, onBoth}
 use Rattle.pair.specs.Pair.{outputAt, nextAt, sameStates, bothZero, inOneOutput, bitsOfDups}
@@ -27,5 +29,5 @@ use Rattle.grammar.specs.Answer.{badPlace, openAfter, deepPlace, stopPlace, tre
 use Rattle.cases.specs.Cases.{Case, bytes, nodes, lent, answerToText, asked, whereRead, outcome, given, dups, nested, cases}
 
 pub all-as-stated : map outcome cases ≡ map (λ (c : Case). c .stated) cases
-unfolding xor lowest orAt valueAt changed valuesOf numberOf product nodeCount nodeOf nodeAt one isDup dupsBelow grow treeAt policyOf entry actionEntry treeSize entriesFrom listsOf nodesOf bit maskOf anyBelow setOf union takes image rounds passedOn flow enter outputSet next outputMask nextMask starts sameRow listed append appendNext lowestTelling turn handle runFrom run climbing climb path entering verdict answer held at onBoth outputAt nextAt sameStates bothZero inOneOutput bitsOfDups lastOf sideOf reported searchAnswer refusalOf columnsOf heldColumns andThen brokenAt present breaksA breaksB breaksD checkRow checkRows checkRules evidenceAnswer lent outcome given dups nested cases bytes nodes answerToText asked whereRead policyTests pairTests policyAnswer pairAnswer policyLegality pairLegality sided isBlank isLetter isDigit inWord fieldNames sameWord allDigits decimal leadingZero isNumber numberToken fieldToken fieldNamed wordToken singleMark doubleMark beginsDouble markToken wordOf frontToken isBad restOfToken placedFrom tokensFrom tokens constantPolicy fieldAction nothing joinSequence joinSum upTo whole start close step finish readOn badPlace openAfter deepPlace stopPlace treeRead tooMany answered reading textTree tested answerTo badCount zeroSize productOver fieldsStage productStage refusal refusedAt atPlace firstOf children badLengths badKind badField used wrongEntries badEntries someNotBelow badChild occurrences timesChild notOnce maxDups tooManyDups cause policiesStage onlyBits
+unfolding xor lowest orAt valueAt changed valuesOf numberOf product nodeCount nodeOf nodeAt one isDup dupsBelow grow treeAt policyOf entry actionEntry treeSize entriesFrom listsOf nodesOf bit maskOf anyBelow setOf union takes image rounds single unionOver labels rightSpine orElse followedBy remainder flow enter ofMarked outputSet enteredSet next outputMask nextMask starts sameRow listed append appendNext lowestTelling turn handle runFrom run climbing climb path entering verdict answer held at onBoth outputAt nextAt sameStates bothZero inOneOutput bitsOfDups lastOf sideOf reported searchAnswer refusalOf columnsOf heldColumns andThen brokenAt present breaksA breaksB breaksD checkRow checkRows checkRules evidenceAnswer lent outcome given dups nested cases bytes nodes answerToText asked whereRead policyTests pairTests policyAnswer pairAnswer policyLegality pairLegality sided isBlank isLetter isDigit inWord fieldNames sameWord allDigits decimal leadingZero isNumber numberToken fieldToken fieldNamed wordToken singleMark doubleMark beginsDouble markToken wordOf frontToken isBad restOfToken placedFrom tokensFrom tokens constantPolicy fieldAction nothing joinSequence joinSum upTo whole start close step finish readOn badPlace openAfter deepPlace stopPlace treeRead tooMany answered reading textTree tested answerTo badCount zeroSize productOver fieldsStage productStage refusal refusedAt atPlace firstOf children badLengths badKind badField used wrongEntries badEntries someNotBelow badChild occurrences timesChild notOnce maxDups tooManyDups cause policiesStage onlyBits
 all-as-stated = refl

@@ -1,37 +1,34 @@
 -- The comparison of two outputs is the row's lowest telling packet and its side.
 -- Assumes nothing.
-use Prim.Native.Nat.{ℕ, zero, suc, pred, _-_, _*_, _≤_, _<_}
+use Prim.Native.Nat.{ℕ, _*_, _/_, _≤_, _<_}
 use mathlib.Core.Bool.{Bool, false, cond, xor}
 use mathlib.Core.List.{List}
+use mathlib.Core.Logic.{_⊎_, inl, inr}
 use mathlib.Core.Option.{Option, none, some}
 use mathlib.Core.Path.{_≡_, refl, sym, ap, ap₂, _∙_, subst}
-use native.Mathlib.Nat.{not-suc-le-zero}
+use native.Mathlib.Decide.{decLt}
 use native.Mathlib.Omega.{arith}
 use lib.ListN.{length, getD}
 use Rattle.packet.specs.Sizes.{product}
 use Rattle.packet.proofs.Tests.{xor-same}
-use Rattle.policy.specs.Legality.{Legal}
-use Rattle.policy.specs.NodeLists.{NodeLists, nodeCount, dupsBelow, policyOf, treeAt}
-use Rattle.packet_set.specs.Bits.{bit}
-use Rattle.packet_set.specs.Members.{member, wordsFor, lowestIn, lowestAnswer, exclusiveOrOf}
+use Rattle.policy.specs.NodeLists.{NodeLists}
+use Rattle.packet_set.specs.Members.{member, lowestIn, lowestAnswer, exclusiveOrOf, emptySet}
 use Rattle.packet_set.specs.declared.Lowest.{Lowest}
 use Rattle.packet_set.specs.declared.Lowest.the-variants.{At, Nothing}
-use Rattle.packet_set.proofs.Digits.{bit-high}
 use Rattle.packet_set.proofs.Walk.{lowest-in-only, lowest-as, found-at, found-none}
-use Rattle.packet_set.proofs.Words.{words-hold, words-within, member-exclusive-or}
-use Rattle.automaton.specs.State.{outputMask, nextMask}
-use Rattle.automaton.proofs.Laws.{outputMask-fits}
-use Rattle.automaton.proofs.Trees.{policy-evaluable}
+use Rattle.packet_set.proofs.Words.{member-exclusive-or}
 use Rattle.system.specs.System.{System, Row, tells}
 use Rattle.system.specs.RowOrder.{lowestTelling}
 use Rattle.pair.specs.Sides.{Side, left, right, Pair, at, Labelled, policies}
 use Rattle.pair.specs.Pair.{outputAt, nextAt, inOneOutput, pairSystem}
 use Rattle.pair.specs.Search.{sideOf}
-use Rattle.evaluator.specs.Evaluation.{treeOf}
-use Rattle.evaluator.specs.Steps.{Prepared, StepReady, Stepped}
+use Rattle.spans.specs.Spans.{Spanned, Hull}
+use Rattle.spans.proofs.Sets.{no-packet, member-outside}
+use Rattle.engine.specs.Stepping.{Stands, StepReady, Stepped}
+use Rattle.engine.proofs.Answers.{step-marking, output-is, output-beyond, next-is}
 use Rattle.compare.specs.declared.Compared.{Compared}
 use Rattle.compare.specs.declared.Compared.the-variants.{Same}
-use Rattle.compare.specs.Comparison.{differsAt, comparedOf, comparedSets, rowOf, answerAt, CompareReady, ComparedRow}
+use Rattle.compare.specs.Comparison.{differsAt, comparedOf, comparedSets, BothLoaded, rowOf, answerAt, CompareReady, ComparedStates}
 
 -- ---- two sets compared
 
@@ -53,27 +50,6 @@ module _ (k : ℕ) (a b x : List ℕ) (ex : x ≡ exclusiveOrOf k a b) (r : Lowe
   unfolding comparedSets comparedOf
   told-side γ e s m = rw (some-apart γ e, m) refl
 
--- ---- one policy's step
-
--- the policy of the lists is the tree of the last node
-root-tree : (L : NodeLists) → 0 < nodeCount L → treeOf L (nodeCount L - 1) ≡ policyOf L
-unfolding treeOf policyOf
-root-tree L = go (nodeCount L)
-  where
-    go : (n : ℕ) → 0 < n → treeAt L (suc (n - 1)) (n - 1) ≡ treeAt L n (pred n)
-    go zero h = absurd (not-suc-le-zero h)
-    go (suc n) h = ap₂ (treeAt L) (omega arith) (omega arith)
-
-module _ (sizes : List ℕ) (M : NodeLists) (legal : Legal sizes M) (state β : ℕ) (next work out next′ work′ : List ℕ) (st : Stepped sizes M (nodeCount M - 1) state β next work out next′ work′) where
-  output-is : (γ : ℕ) → member out γ ≡ bit (outputMask sizes (policyOf M) state β) γ
-  output-is γ = st .output γ ∙ ap (λ p. bit (outputMask sizes p state β) γ) (root-tree M (legal .some))
-
-  output-beyond : (γ : ℕ) → product sizes ≤ γ → member out γ ≡ false
-  output-beyond γ h = output-is γ ∙ bit-high (product sizes) _ γ (outputMask-fits sizes (dupsBelow M (nodeCount M)) (policyOf M) (policy-evaluable sizes M legal) state β) h
-
-  next-is : (γ : ℕ) → γ < product sizes → getD next′ γ 0 ≡ nextMask sizes (policyOf M) (dupsBelow M (nodeCount M)) state β γ
-  next-is γ h = st .nexts γ h ∙ ap (λ p. nextMask sizes p (dupsBelow M (nodeCount M)) state β γ) (root-tree M (legal .some))
-
 compared-same : (f g : ℕ → Side) → ((γ : ℕ) → f γ ≡ g γ) → (o p : Option ℕ) → o ≡ p → comparedOf f o ≡ comparedOf g p
 unfolding comparedOf
 compared-same f g h o p e = ap (comparedOf f) e ∙ go p
@@ -84,72 +60,89 @@ compared-same f g h o p e = ap (comparedOf f) e ∙ go p
 
 -- ---- the row
 
-module _ (sizes : List ℕ) (L R : NodeLists) (masksL placesL masksR placesR : List ℕ) (count β : ℕ) (nextL nextR work : List ℕ) (rd : CompareReady sizes L R masksL placesL masksR placesR count β nextL nextR work) where
-  pub some-nodes : (0 < nodeCount L) × (0 < nodeCount R)
-  some-nodes = (rd .left-legal .some, rd .right-legal .some)
+module _ {sizes nodesL testsL nodesR testsR : List ℕ} {β : ℕ} {nextL nextR work : List ℕ} (rd : CompareReady sizes nodesL testsL nodesR testsR β nextL nextR work) where
+  left-stands : {L R : NodeLists} → BothLoaded sizes L R nodesL testsL nodesR testsR → Stands sizes L nodesL testsL β
+  left-stands b = record { legal-sizes = b .legal-sizes; legal = b .left-legal; loaded = b .left-loaded; packet = rd .packet }
 
-  pub count-small : count ≤ 1024
-  count-small = let h = rd .legal .small in let e = rd .packets in omega arith
+  right-stands : {L R : NodeLists} → BothLoaded sizes L R nodesL testsL nodesR testsR → Stands sizes R nodesR testsR β
+  right-stands b = record { legal-sizes = b .legal-sizes; legal = b .right-legal; loaded = b .right-loaded; packet = rd .packet }
 
-  pub few : (k : ℕ) → k ≡ wordsFor count → k ≤ 32
-  few k ek = subst (λ (x : ℕ). x ≤ 32) (sym ek) (words-within count count-small)
+  pub left-ready : StepReady sizes nodesL testsL β 0 0 emptySet work nextL
+  left-ready =
+      record { lists = rd .lists; stands = left-stands (rd .loaded); spanned = no-packet 0; long = rd .long; marks-long = rd .left-blank .long; zero = rd .zero }
 
-  step-ready : (M : NodeLists) → Legal sizes M → (masks places : List ℕ) → Prepared M masks places → (next : List ℕ) → product sizes ≤ length next → (now : List ℕ) → now ≡ work
-      → StepReady sizes M masks places count (nodeCount M - 1) β next now
-  step-ready M legal masks places prepared next room now e = record {
-    legal = rd .legal;
-    well = legal .wellFormed;
-    prepared = prepared;
-    packets = rd .packets;
-    node = let h = legal .some in omega arith;
-    packet = rd .packet;
-    room = room;
-    long = subst (λ (w : List ℕ). 16384 ≤ length w) (sym e) (rd .long);
-    zero = λ i h. ap (λ (w : List ℕ). getD w i 0) e ∙ rd .zero i h;
-  }
+  module _ {l : ℕ} {f t : ℕ} {outL nextL′ work₁ : List ℕ} (sl : Stepped sizes nodesL testsL l β emptySet nextL work f t outL nextL′ work₁) where
+    pub right-ready : StepReady sizes nodesR testsR β 0 0 emptySet work₁ nextR
+    right-ready =
+        record {
+          lists = rd .others;
+          stands = right-stands (rd .loaded);
+          spanned = no-packet 0;
+          long = subst (λ w. 16384 ≤ length w) (sym (sl .kept)) (rd .long);
+          marks-long = rd .right-blank .long;
+          zero = λ i h. ap (λ w. getD w i 0) (sl .kept) ∙ rd .zero i h;
+        }
 
-  pub left-ready : StepReady sizes L masksL placesL count (nodeCount L - 1) β nextL work
-  left-ready = step-ready L (rd .left-legal) masksL placesL (rd .prepared .left-prepared) nextL (rd .left-room) work refl
+    pub outputs-short : {r f₁ t₁ : ℕ} {outR nextR′ work₂ : List ℕ} → Stepped sizes nodesR testsR r β emptySet nextR work₁ f₁ t₁ outR nextR′ work₂ → {p q : ℕ} → Hull f t f₁ t₁ p q → q ≤ 32
+    outputs-short sr h = h .within (sl .output (rd .lists) (left-stands (rd .loaded)) .spanned .within) (sr .output (rd .others) (right-stands (rd .loaded)) .spanned .within)
 
-  module _ (l : ℕ) (outL nextL′ work₁ : List ℕ) (sl : Stepped sizes L (nodeCount L - 1) l β nextL work outL nextL′ work₁) where
-    pub right-ready : StepReady sizes R masksR placesR count (nodeCount R - 1) β nextR work₁
-    right-ready = step-ready R (rd .right-legal) masksR placesR (rd .prepared .right-prepared) nextR (rd .right-room) work₁ (sl .kept)
+    module _ {r f₁ t₁ : ℕ} {outR nextR′ work₂ : List ℕ} (sr : Stepped sizes nodesR testsR r β emptySet nextR work₁ f₁ t₁ outR nextR′ work₂) {p k : ℕ} (h : Hull f t f₁ t₁ p k) where
+      module _ (L R : NodeLists) (b : BothLoaded sizes L R nodesL testsL nodesR testsR) where
+        abbrev ps : Pair Labelled
+        ps = policies L R
 
-    module _ (r : ℕ) (outR nextR′ work₂ : List ℕ) (sr : Stepped sizes R (nodeCount R - 1) r β nextR work₁ outR nextR′ work₂) (wide : length outL ≡ 32) (k : ℕ) (ek : k ≡ wordsFor count) where
-      abbrev ps : Pair Labelled
-      ps = policies L R
+        abbrev S : System
+        S = pairSystem sizes (policies L R)
 
-      abbrev S : System
-      S = pairSystem sizes (policies L R)
+        abbrev row : Row (pairSystem sizes (policies L R))
+        row = rowOf sizes L R β l r
 
-      abbrev row : Row (pairSystem sizes (policies L R))
-      row = rowOf sizes L R β l r
+        left-holds : Spanned f t outL
+        left-holds = sl .output L (left-stands b) .spanned
 
-      hold : product sizes ≤ 32 * k
-      hold = let h = words-hold count in let e = rd .packets in let f = ap (λ (x : ℕ). 32 * x) ek in omega arith
+        right-holds : Spanned f₁ t₁ outR
+        right-holds = sr .output R (right-stands b) .spanned
 
-      apart : (γ : ℕ) → γ < 32 * k → member (exclusiveOrOf k outL outR) γ ≡ xor (member outL γ) (member outR γ)
-      apart γ h = member-exclusive-or k outL outR γ h (let f = few k ek in omega arith)
+        -- beyond the span of both there is no packet of either
+        beyond : (γ : ℕ) → 32 * k ≤ γ → (member outL γ ≡ false) × (member outR γ ≡ false)
+        beyond γ g = (member-outside f t outL left-holds γ (side f t (λ i x y. h .first i x y .1)), member-outside f₁ t₁ outR right-holds γ (side f₁ t₁ (λ i x y. h .second i x y .1)))
+          where
+            side : (x y : ℕ) → ((i : ℕ) → x ≤ i → i < y → i < k) → (γ / 32 < x) ⊎ (y ≤ γ / 32)
+            side x y c = go (decLt (γ / 32) x) (decLt (γ / 32) y)
+              where
+                go : Dec (γ / 32 < x) → Dec (γ / 32 < y) → (γ / 32 < x) ⊎ (y ≤ γ / 32)
+                go (yes u) v = inl u
+                go (no u) (yes v) = let z = c (γ / 32) (omega arith) v in absurd (omega arith)
+                go (no u) (no v) = inr (omega arith)
 
-      lowest-apart : lowestIn k 0 (exclusiveOrOf k outL outR) ≡ lowestTelling S row
-      unfolding lowestTelling inOneOutput outputAt at
-      lowest-apart =
-          lowest-as k (product sizes) (exclusiveOrOf k outL outR) (tells S row) hold
-          (λ γ h. apart γ (let g = hold in omega arith) ∙ ap₂ xor (output-is sizes L (rd .left-legal) l β _ _ _ _ _ sl γ) (output-is sizes R (rd .right-legal) r β _ _ _ _ _ sr γ))
-          (λ γ g h. apart γ h ∙ xor-same _ _ (output-beyond sizes L (rd .left-legal) l β _ _ _ _ _ sl γ g ∙ sym (output-beyond sizes R (rd .right-legal) r β _ _ _ _ _ sr γ g)))
+        apart : (γ : ℕ) → γ < 32 * k → member (exclusiveOrOf k outL outR) γ ≡ xor (member outL γ) (member outR γ)
+        apart γ g = member-exclusive-or k outL outR γ g (let q = outputs-short sr h in let w = left-holds .wide in omega arith)
 
-      answer-is : comparedSets k outL outR ≡ answerAt sizes L R row
-      unfolding comparedSets answerAt sideOf outputAt at
-      answer-is =
-          compared-same (λ γ. cond (member outL γ) left right) (sideOf sizes ps row) (λ γ. ap (λ (b : Bool). cond b left right) (output-is sizes L (rd .left-legal) l β _ _ _ _ _ sl γ)) _ _ lowest-apart
+        tells-is : (γ : ℕ) → xor (member outL γ) (member outR γ) ≡ tells S row γ
+        unfolding inOneOutput outputAt at
+        tells-is γ = ap₂ xor (output-is (rd .left-blank) sl (left-stands b) γ) (output-is (rd .right-blank) sr (right-stands b) γ)
 
-      pub compared : (answer : Compared) → answer ≡ comparedSets k outL outR → ComparedRow sizes L R row nextL nextR work answer nextL′ nextR′ work₂
+        lowest-apart : lowestIn k 0 (exclusiveOrOf k outL outR) ≡ lowestTelling S row
+        unfolding lowestTelling xor
+        lowest-apart =
+            lowest-as k (product sizes) (exclusiveOrOf k outL outR) (tells S row)
+            (λ γ g l. apart γ l ∙ tells-is γ)
+            (λ γ g l. sym (tells-is γ) ∙ (let z = beyond γ g in ap₂ xor (z .0) (z .1)))
+            (λ γ g l. apart γ l ∙ xor-same _ _ (output-beyond (rd .left-blank) sl (left-stands b) γ g ∙ sym (output-beyond (rd .right-blank) sr (right-stands b) γ g)))
+
+        answer-is : comparedSets k outL outR ≡ answerAt sizes L R row
+        unfolding comparedSets answerAt sideOf outputAt at
+        answer-is =
+            compared-same (λ γ. cond (member outL γ) left right) (sideOf sizes ps row) (λ γ. ap (λ (b : Bool). cond b left right) (output-is (rd .left-blank) sl (left-stands b) γ)) _ _ lowest-apart
+
+      pub compared-states : {answer : Compared} → answer ≡ comparedSets k outL outR → ComparedStates sizes nodesL testsL nodesR testsR β l r work answer nextL′ nextR′ work₂
       unfolding nextAt at
-      compared answer e = record {
-        answers = e ∙ answer-is;
-        left-next = next-is sizes L (rd .left-legal) l β _ _ _ _ _ sl;
-        right-next = next-is sizes R (rd .right-legal) r β _ _ _ _ _ sr;
-        left-beyond = sl .beyond;
-        right-beyond = sr .beyond;
-        kept = sr .kept ∙ sl .kept;
-      }
+      compared-states e =
+          record {
+            compared = λ L R b. record { answers = e ∙ answer-is L R b; left-next = next-is (rd .left-blank) sl (left-stands b); right-next = next-is (rd .right-blank) sr (right-stands b) };
+            left-long = sl .marks-long ∙ rd .left-blank .long;
+            right-long = sr .marks-long ∙ rd .right-blank .long;
+            left-marking = step-marking (rd .left-blank) sl;
+            right-marking = step-marking (rd .right-blank) sr;
+            kept = sr .kept ∙ sl .kept;
+          }

@@ -1,4 +1,4 @@
--- One row of two policies: the two outputs compared, and the states next at each packet (document 01, "States and rows").
+-- One row of two loaded policies: the two outputs compared, and the states next at each packet (document 01, "States and rows").
 use Prim.Native.Nat.{ℕ, _<_, _≤_}
 use mathlib.Core.Bool.{cond}
 use mathlib.Core.List.{List}
@@ -14,7 +14,8 @@ use Rattle.system.specs.RowOrder.{lowestTelling}
 use Rattle.pair.specs.Sides.{Side, left, right, policies}
 use Rattle.pair.specs.Pair.{nextAt, pairSystem}
 use Rattle.pair.specs.Search.{sideOf}
-use Rattle.evaluator.specs.Steps.{Prepared}
+use Rattle.loaded.specs.Loaded.{Loaded}
+use Rattle.marks.specs.Marks.{Marking, Blank}
 use Rattle.compare.specs.declared.Compared.{Compared}
 use Rattle.compare.specs.declared.Compared.the-variants.{Same, Left, Right}
 
@@ -32,10 +33,13 @@ comparedOf side (some γ) = differsAt (side γ) γ
 unfoldable pub comparedSets : ℕ → List ℕ → List ℕ → Compared
 comparedSets k a b = comparedOf (λ γ. cond (member a γ) left right) (lowestIn k 0 (exclusiveOrOf k a b))
 
--- what depends on the two policies alone
-pub record BothPrepared (L R : NodeLists) (masksL placesL masksR placesR : List ℕ) : Type 0 where
-  pub left-prepared : Prepared L masksL placesL
-  pub right-prepared : Prepared R masksR placesR
+-- both policies are loaded: causes 1 to 9 don't hold
+pub record BothLoaded (sizes : List ℕ) (L R : NodeLists) (nodesL testsL nodesR testsR : List ℕ) : Type 0 where
+  pub legal-sizes : LegalSizes sizes
+  pub left-legal : Legal sizes L
+  pub right-legal : Legal sizes R
+  pub left-loaded : Loaded sizes L nodesL testsL
+  pub right-loaded : Loaded sizes R nodesR testsR
 
 module _ (sizes : List ℕ) (L R : NodeLists) where
   -- the row of packet β and the two states
@@ -46,24 +50,29 @@ module _ (sizes : List ℕ) (L R : NodeLists) where
   unfoldable pub answerAt : Row (pairSystem sizes (policies L R)) → Compared
   answerAt row = comparedOf (sideOf sizes (policies L R) row) (lowestTelling (pairSystem sizes (policies L R)) row)
 
-  -- what the comparison asks: causes 1 to 9 don't hold, a packet below N = count, room for next, and the first words of the work list 0
-  pub record CompareReady (masksL placesL masksR placesR : List ℕ) (count β : ℕ) (nextL nextR work : List ℕ) : Type 0 where
-    pub legal : LegalSizes sizes
-    pub left-legal : Legal sizes L
-    pub right-legal : Legal sizes R
-    pub prepared : BothPrepared L R masksL placesL masksR placesR
-    pub packets : count ≡ product sizes
-    pub packet : β < product sizes
-    pub left-room : product sizes ≤ length nextL
-    pub right-room : product sizes ≤ length nextR
-    pub long : 16384 ≤ length work
-    pub zero : (i : ℕ) → i < 16384 → getD work i 0 ≡ 0
-
-  -- the answer at the row, next at each packet, and the lent lists else as they were
-  pub record ComparedRow (row : Row (pairSystem sizes (policies L R))) (nextL nextR work : List ℕ) (answer : Compared) (nextL′ nextR′ work′ : List ℕ) : Type 0 where
+  -- the answer at the row, and next at each packet
+  pub record ComparedRow (row : Row (pairSystem sizes (policies L R))) (answer : Compared) (nextL′ nextR′ : List ℕ) : Type 0 where
     pub answers : answer ≡ answerAt row
     pub left-next : (γ : ℕ) → γ < product sizes → getD nextL′ γ 0 ≡ nextAt sizes (policies L R) left (row .packet) (row .state) γ
     pub right-next : (γ : ℕ) → γ < product sizes → getD nextR′ γ 0 ≡ nextAt sizes (policies L R) right (row .packet) (row .state) γ
-    pub left-beyond : (γ : ℕ) → product sizes ≤ γ → getD nextL′ γ 0 ≡ getD nextL γ 0
-    pub right-beyond : (γ : ℕ) → product sizes ≤ γ → getD nextR′ γ 0 ≡ getD nextR γ 0
+
+module _ (sizes nodesL testsL nodesR testsR : List ℕ) where
+  -- what the comparison asks: two policies that are loaded, a packet, next lists that are empty, and the first words of the work list 0
+  pub record CompareReady (β : ℕ) (nextL nextR work : List ℕ) : Type 0 where
+    pub lists : NodeLists
+    pub others : NodeLists
+    pub loaded : BothLoaded sizes lists others nodesL testsL nodesR testsR
+    pub packet : β < product sizes
+    pub left-blank : Blank nextL
+    pub right-blank : Blank nextR
+    pub long : 16384 ≤ length work
+    pub zero : (i : ℕ) → i < 16384 → getD work i 0 ≡ 0
+
+  -- the row has been compared, whatever policies are loaded
+  pub record ComparedStates (β l r : ℕ) (work : List ℕ) (answer : Compared) (nextL′ nextR′ work′ : List ℕ) : Type 0 where
+    pub compared : (L R : NodeLists) → BothLoaded sizes L R nodesL testsL nodesR testsR → ComparedRow sizes L R (rowOf sizes L R β l r) answer nextL′ nextR′
+    pub left-long : length nextL′ ≡ 1056
+    pub right-long : length nextR′ ≡ 1056
+    pub left-marking : Marking (product sizes) nextL′
+    pub right-marking : Marking (product sizes) nextR′
     pub kept : work′ ≡ work

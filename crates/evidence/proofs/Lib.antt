@@ -1,4 +1,5 @@
 pub mod Joining
 pub mod Repeats
+pub mod Rows
 pub mod Stepping
 pub mod Answering

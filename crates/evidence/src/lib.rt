@@ -4,12 +4,15 @@ ghost use Prim.Native.Nat.{_<_};
 ghost use lib.ListN.{length};
 ghost use Rattle.policy.specs.AsLists.{asLists};
 ghost use Rattle.policy.specs.NodeLists.{dupsBelow, nodeCount};
-ghost use Rattle.compare.specs.Comparison.{BothPrepared};
+ghost use Rattle.marks.specs.Marks.{Blank};
 ghost use Rattle.evidence.specs.Calls.{CheckedRows};
 ghost use Rattle.evidence.specs.Steps.{Lent, Cleared, Ready, RowChecked, RowsChecked, StartsChecked, TableChecked};
 use compare::Compared;
 use index::Mask;
 use legality::PairAnswer;
+use loaded::Nodes;
+use loaded::Tests;
+use marks::Next;
 use packet::Counted;
 use packet::Refusal;
 use packet::Tested;
@@ -32,53 +35,40 @@ pub enum RowAnswer {
     Next(u16),
 }
 
-// One row: (c), then (d).
+// One row: (c), then (d). The next lists are empty before and, where the row keeps both rules, after.
 fn row_checked(
     sizes: &[u16],
-    left_kind: &[u8],
-    left_first: &[u16],
-    left_second: &[u16],
-    left_masks: &[u32],
-    left_places: &[u16],
-    right_kind: &[u8],
-    right_first: &[u16],
-    right_second: &[u16],
-    right_masks: &[u32],
-    right_places: &[u16],
+    count: u16,
+    left_nodes: &Nodes,
+    left_tests: &Tests,
+    right_nodes: &Nodes,
+    right_tests: &Tests,
     packets: &[u16],
     lefts: &[Mask],
     rights: &[Mask],
     i: usize,
-    count: u16,
     trees: &[u16],
+    next_left: &mut Next,
+    next_right: &mut Next,
     work: &mut [u32],
 ) -> RowAnswer
-    requires { ⌜ Ready (now sizes) (asLists (now «left_kind») (now «left_first») (now «left_second»)) (asLists (now «right_kind») (now «right_first») (now «right_second»)) (now packets) (now lefts) (now rights) count (now trees) (now work) ⌝ }
-    requires { ⌜ (i < length (now packets)) × BothPrepared (asLists (now «left_kind») (now «left_first») (now «left_second»)) (asLists (now «right_kind») (now «right_first») (now «right_second»)) (now «left_masks») (now «left_places») (now «right_masks») (now «right_places») ⌝ }
-    ensures { λ r. ⌜ RowChecked (now (sizes .entry)) (asLists (now («left_kind» .entry)) (now («left_first» .entry)) (now («left_second» .entry))) (asLists (now («right_kind» .entry)) (now («right_first» .entry)) (now («right_second» .entry))) (now (packets .entry)) (now (lefts .entry)) (now (rights .entry)) i (now (work .entry)) r (now (work .exit)) ⌝ }
+    requires { ⌜ Ready (now sizes) (now «left_nodes») (now «left_tests») (now «right_nodes») (now «right_tests») (now packets) (now lefts) (now rights) count (now trees) (now work) ⌝ }
+    requires { ⌜ (i < length (now packets)) × Blank (now «next_left») × Blank (now «next_right») ⌝ }
+    ensures { λ r. ⌜ RowChecked (now (sizes .entry)) (now («left_nodes» .entry)) (now («left_tests» .entry)) (now («right_nodes» .entry)) (now («right_tests» .entry)) (now (packets .entry)) (now (lefts .entry)) (now (rights .entry)) i (now (work .entry)) r (now («next_left» .exit)) (now («next_right» .exit)) (now (work .exit)) ⌝ }
 {
     let row = index::row_at(packets, lefts, rights, i);
     let states = row.states;
-    let mut next_left = [0u32; 1024];
-    let mut next_right = [0u32; 1024];
     let compared = compare::compare(
         sizes,
-        count,
-        left_kind,
-        left_first,
-        left_second,
-        left_masks,
-        left_places,
-        right_kind,
-        right_first,
-        right_second,
-        right_masks,
-        right_places,
+        left_nodes,
+        left_tests,
+        right_nodes,
+        right_tests,
         row.packet,
         states[0],
         states[1],
-        &mut next_left,
-        &mut next_right,
+        next_left,
+        next_right,
         work,
     );
     match compared {
@@ -90,11 +80,16 @@ fn row_checked(
             rights,
             count,
             trees,
-            &next_left,
-            &next_right,
+            next_left,
+            next_right,
         ) {
             Spot::At(gamma) => RowAnswer::Next(gamma),
-            Spot::Nowhere => RowAnswer::Keeps,
+            Spot::Nowhere => {
+                let words = packet_set::words_for(count as usize);
+                marks::forget(next_left, words);
+                marks::forget(next_right, words);
+                RowAnswer::Keeps
+            }
         },
     }
 }
@@ -102,40 +97,22 @@ fn row_checked(
 // Row by row: (c), then (d); a repeat of a row is passed over.
 fn rows_checked(
     sizes: &[u16],
-    left_kind: &[u8],
-    left_first: &[u16],
-    left_second: &[u16],
-    right_kind: &[u8],
-    right_first: &[u16],
-    right_second: &[u16],
+    count: u16,
+    left_nodes: &Nodes,
+    left_tests: &Tests,
+    right_nodes: &Nodes,
+    right_tests: &Tests,
     packets: &[u16],
     lefts: &[Mask],
     rights: &[Mask],
-    count: u16,
     trees: &[u16],
     work: &mut [u32],
 ) -> Evidence
-    requires { ⌜ Ready (now sizes) (asLists (now «left_kind») (now «left_first») (now «left_second»)) (asLists (now «right_kind») (now «right_first») (now «right_second»)) (now packets) (now lefts) (now rights) count (now trees) (now work) ⌝ }
-    ensures { λ r. ⌜ RowsChecked (now (sizes .entry)) (asLists (now («left_kind» .entry)) (now («left_first» .entry)) (now («left_second» .entry))) (asLists (now («right_kind» .entry)) (now («right_first» .entry)) (now («right_second» .entry))) (now (packets .entry)) (now (lefts .entry)) (now (rights .entry)) (now (work .entry)) r (now (work .exit)) ⌝ }
+    requires { ⌜ Ready (now sizes) (now «left_nodes») (now «left_tests») (now «right_nodes») (now «right_tests») (now packets) (now lefts) (now rights) count (now trees) (now work) ⌝ }
+    ensures { λ r. ⌜ RowsChecked (now (sizes .entry)) (now («left_nodes» .entry)) (now («left_tests» .entry)) (now («right_nodes» .entry)) (now («right_tests» .entry)) (now (packets .entry)) (now (lefts .entry)) (now (rights .entry)) (now (work .entry)) r (now (work .exit)) ⌝ }
 {
-    let mut left_masks = [0u32; 512];
-    let mut left_places = [0u16; 32];
-    let left_dups = evaluator::prepare(
-        left_kind,
-        left_first,
-        left_second,
-        &mut left_masks,
-        &mut left_places,
-    );
-    let mut right_masks = [0u32; 512];
-    let mut right_places = [0u16; 32];
-    let right_dups = evaluator::prepare(
-        right_kind,
-        right_first,
-        right_second,
-        &mut right_masks,
-        &mut right_places,
-    );
+    let mut next_left = [0u32; 1056];
+    let mut next_right = [0u32; 1056];
     let mut i = 0;
     while i < packets.len() {
         if row_rules::repeated(packets, lefts, rights, i, count, trees) {
@@ -143,22 +120,18 @@ fn rows_checked(
         } else {
             match row_checked(
                 sizes,
-                left_kind,
-                left_first,
-                left_second,
-                &left_masks,
-                &left_places[..left_dups],
-                right_kind,
-                right_first,
-                right_second,
-                &right_masks,
-                &right_places[..right_dups],
+                count,
+                left_nodes,
+                left_tests,
+                right_nodes,
+                right_tests,
                 packets,
                 lefts,
                 rights,
                 i,
-                count,
                 trees,
+                &mut next_left,
+                &mut next_right,
                 work,
             ) {
                 RowAnswer::Outputs => return Evidence::RuleC(i as u16),
@@ -170,7 +143,7 @@ fn rows_checked(
     Evidence::Accepted
 }
 
-// Rule (b), then row by row: the rows, which keep rule (a), are indexed.
+// Rule (b), then row by row: the rows, which keep rule (a), are indexed; the policies are loaded once (b) is kept.
 fn starts_checked(
     sizes: &[u16],
     left_kind: &[u8],
@@ -192,21 +165,43 @@ fn starts_checked(
     index::index_all(packets, lefts, rights, count, &mut trees);
     match row_rules::first_start_missing(packets, lefts, rights, count, &trees) {
         Spot::At(alpha) => Evidence::RuleB(alpha),
-        Spot::Nowhere => rows_checked(
-            sizes,
-            left_kind,
-            left_first,
-            left_second,
-            right_kind,
-            right_first,
-            right_second,
-            packets,
-            lefts,
-            rights,
-            count,
-            &trees,
-            work,
-        ),
+        Spot::Nowhere => {
+            let mut left_nodes = [0u64; 544];
+            let mut left_tests = [0u32; 8224];
+            loaded::load(
+                sizes,
+                count,
+                left_kind,
+                left_first,
+                left_second,
+                &mut left_nodes,
+                &mut left_tests,
+            );
+            let mut right_nodes = [0u64; 544];
+            let mut right_tests = [0u32; 8224];
+            loaded::load(
+                sizes,
+                count,
+                right_kind,
+                right_first,
+                right_second,
+                &mut right_nodes,
+                &mut right_tests,
+            );
+            rows_checked(
+                sizes,
+                count,
+                &left_nodes,
+                &left_tests,
+                &right_nodes,
+                &right_tests,
+                packets,
+                lefts,
+                rights,
+                &trees,
+                work,
+            )
+        }
     }
 }
 

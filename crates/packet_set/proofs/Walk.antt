@@ -14,7 +14,7 @@ use lib.Pow.{shr-le}
 use Rattle.packet_set.specs.Bits.{bit}
 use Rattle.packet.specs.Lowest.{lowest}
 use Rattle.packet.proofs.Tests.{xor-same, xor-false}
-use Rattle.packet.proofs.Lowest.{IsLowest, Found, lowest-is, lowest-only, lowest-same}
+use Rattle.packet.proofs.Lowest.{IsLowest, Found, lowest-is, lowest-only}
 use Rattle.packet_set.specs.Members.{member, exclusiveOrOf, lowestIn, isNone, lowestAnswer, isEmpty}
 use Rattle.packet_set.specs.declared.Lowest.{Lowest}
 use Rattle.packet_set.specs.declared.Lowest.the-variants.{At, Nothing}
@@ -157,13 +157,25 @@ module _ (s : List ℕ) (k from : ℕ) where
               let q : β ≡ from + (β - from) = omega arith in
               ap (member s) q ∙ in-rest (β - from) (omega arith) ∙ f .first (β - from) (omega arith)
 
--- the lowest member as the lowest that passes a test below n, where the test is membership and nothing from n on is a member
-pub lowest-as : (k n : ℕ) (s : List ℕ) (test : ℕ → Bool) → n ≤ 32 * k → ((γ : ℕ) → γ < n → member s γ ≡ test γ)
-    → ((γ : ℕ) → n ≤ γ → γ < 32 * k → member s γ ≡ false) → lowestIn k 0 s ≡ lowest test n
-unfolding lowestIn
-lowest-as k n s test l same nothing =
-    lowest-same (λ γ. leb 0 γ && member s γ) test n (32 * k) l (λ γ h. test-from k 0 s γ (omega arith) ∙ same γ h)
-    (λ γ m h. test-from k 0 s γ (omega arith) ∙ nothing γ m h)
+-- the lowest member as the lowest that passes a test below n, where the test is membership, and beyond n or beyond the words there is
+-- nothing
+pub lowest-as : (k n : ℕ) (s : List ℕ) (test : ℕ → Bool) → ((γ : ℕ) → γ < n → γ < 32 * k → member s γ ≡ test γ)
+    → ((γ : ℕ) → 32 * k ≤ γ → γ < n → test γ ≡ false) → ((γ : ℕ) → n ≤ γ → γ < 32 * k → member s γ ≡ false) → lowestIn k 0 s ≡ lowest test n
+lowest-as k n s test same beyond nothing = lowest-in-only k 0 s (lowest test n) (go (lowest test n) (lowest-is test n))
+  where
+    go : (o : Option ℕ) → Found test n o → FoundIn k 0 s o
+    go none f = λ β l h. out β h (decLt β n)
+      where
+        out : (β : ℕ) → β < 32 * k → Dec (β < n) → member s β ≡ false
+        out β h (yes m) = same β m h ∙ f β m
+        out β h (no m) = nothing β (omega arith) h
+    go (some γ) f = at (decLt γ (32 * k))
+      where
+        at : Dec (γ < 32 * k) → LowestIn k 0 s γ
+        at (yes h) =
+            let l = f .below in
+            record { below = h; above = omega arith; inside = same γ l h ∙ f .passes; first = λ β m g. same β (omega arith) (omega arith) ∙ f .first β g }
+        at (no h) = absurd (true≢false (sym (f .passes) ∙ beyond γ (omega arith) (f .below)))
 
 -- ---- empty: no member
 

@@ -1,5 +1,5 @@
 -- One row is handled: what its comparison and its successors give. Assumes nothing.
-use Prim.Native.Nat.{ℕ, _+_, _<_, _≤_}
+use Prim.Native.Nat.{ℕ, _+_, _*_, _<_, _≤_}
 use mathlib.Core.Bool.{Bool, true, false, cond}
 use mathlib.Core.List.{List}
 use mathlib.Core.Path.{_≡_, refl, sym, ap, _∙_, subst}
@@ -7,7 +7,12 @@ use native.Mathlib.Omega.{arith}
 use lib.Dec.{ltb}
 use borrow.Author.Tests.{lt-ltb, le-ltb}
 use lib.ListN.{length, getD}
+use Rattle.packet.specs.Sizes.{product}
 use Rattle.policy.specs.NodeLists.{NodeLists}
+use Rattle.packet_set.specs.Members.{wordsFor}
+use Rattle.packet_set.proofs.Words.{words-hold, words-within}
+use Rattle.marks.specs.Marks.{Marking, Blank}
+use Rattle.marks.proofs.Touched.{marking-wider}
 use Rattle.system.specs.System.{System}
 use Rattle.system.specs.RowOrder.{Run, turn, telling, handling, current}
 use Rattle.system.specs.RowOrder as order
@@ -27,13 +32,14 @@ use Rattle.rows.specs.Standing.{answerFor, Standing, Continues, pairMasks, Next
 use Rattle.rows.proofs.Standing.{stands-none, stands-length}
 use Rattle.compare.specs.declared.Compared.{Compared}
 use Rattle.compare.specs.declared.Compared.the-variants.{Same}
-use Rattle.compare.specs.Comparison.{differsAt, rowOf, answerAt, CompareReady, ComparedRow}
+use Rattle.compare.specs.Comparison.{BothLoaded, differsAt, rowOf, answerAt, CompareReady, ComparedStates}
 use Rattle.compare.proofs.Telling.{differs-lowest, same-turn, differs-turn}
 use Rattle.round.specs.declared.Handled.{Handled}
 use Rattle.round.specs.declared.Handled.the-variants.{Open, Stopped}
+use Rattle.verdict.specs.declared.Ended.{Ended}
 use Rattle.verdict.specs.declared.Ended.the-variants.{Done, Full}
 use Rattle.verdict.specs.Ending.{tellingAt}
-use Rattle.round.specs.Step.{goesOn, runAt, afterRow, stepAnswer, stepRows, RowHandled, StepReady}
+use Rattle.round.specs.Step.{goesOn, runAt, afterRow, stepAnswer, stepRows, RowHandled, HandleReady, StepDone}
 
 pub goes-open : (h n : ℕ) → h < n → Open n ≡ goesOn h n
 unfolding goesOn
@@ -60,88 +66,112 @@ module _ (sizes : List ℕ) (ps : Pair Labelled) (lent : ℕ) (x : Run (pairSyst
       go true e = absurd (let z : _≡_ {A = ℕ} 0 1 = cc in omega arith)
       go false e = let same : m ≡ length (x .rows) = cc in ap (goesOn (x .handled)) same
 
-module _ {sizes : List ℕ} {L R : NodeLists} {masksL placesL masksR placesR : List ℕ} {y : Lists} {count n h : ℕ} {nextL nextR work : List ℕ} (P : StepReady sizes L R masksL placesL masksR placesR y count n h nextL nextR work) where
-  abbrev S : System
-  S = pairSystem sizes (policies L R)
+-- the words that N packets need hold them, and N is at most 1,024
+forget-words : {N k : ℕ} → N ≤ 1024 → k ≡ wordsFor N → (k ≤ 32) × (N ≤ 32 * k)
+forget-words {N} l e = (subst (λ x. x ≤ 32) (sym e) (words-within N l), subst (λ x. N ≤ 32 * x) (sym e) (words-hold N))
 
-  abbrev M : Masks (pairSystem sizes (policies L R))
-  M = pairMasks sizes (policies L R)
-
-  abbrev x : Run (pairSystem sizes (policies L R))
-  x = runAt sizes (policies L R) y n h
-
-  pub compare-ready : (r : Row) → r ≡ rowAt (y .packets) (y .left) (y .right) h → CompareReady sizes L R masksL placesL masksR placesR count (r .packet) nextL nextR work
+module _ {sizes nodesL testsL nodesR testsR : List ℕ} {y : Lists} {count n h : ℕ} {nextL nextR work : List ℕ} (P : HandleReady sizes nodesL testsL nodesR testsR y count n h nextL nextR work) where
+  pub compare-ready : (r : Row) → r ≡ rowAt (y .packets) (y .left) (y .right) h → CompareReady sizes nodesL testsL nodesR testsR (r .packet) nextL nextR work
   compare-ready r is =
       record {
-        legal = P .legal;
-        left-legal = P .left-legal;
-        right-legal = P .right-legal;
-        prepared = P .prepared;
-        packets = P .packets;
+        lists = P .lists;
+        others = P .others;
+        loaded = P .loaded;
         packet = omega (arith, P .small, P .packets, ap (λ q. q .packet) is);
-        left-room = omega (arith, P .left-room, P .packets);
-        right-room = omega (arith, P .right-room, P .packets);
+        left-blank = P .left-blank;
+        right-blank = P .right-blank;
         long = P .long;
         zero = P .zero;
       }
 
+  pub count-small : count ≤ 1024
+  count-small = omega (arith, P .packets, P .loaded .legal-sizes .small)
+
   -- what appending the successors asks
-  pub next-ready : (a b : ℕ) → a ≡ length nextL → b ≡ length nextR
-      → Indexed (y .packets) (y .left) (y .right) count n (y .trees) × ((length (y .parents) ≡ length (y .packets)) × ((count ≤ a) × (count ≤ b)))
-  next-ready a b l r = (P .indexed, (P .parents, (omega (arith, P .left-room), omega (arith, P .right-room))))
+  pub next-ready : {β l r : ℕ} {answer : Compared} {nextL′ nextR′ work′ : List ℕ} → ComparedStates sizes nodesL testsL nodesR testsR β l r work answer nextL′ nextR′ work′
+      → Indexed (y .packets) (y .left) (y .right) count n (y .trees) × ((length (y .parents) ≡ length (y .packets)) × (Marking count nextL′ × Marking count nextR′ × (count ≤ 1024)))
+  next-ready {nextL′ = nextL′} {nextR′} C = (P .indexed, (P .parents, (subst (λ k. Marking k nextL′) (sym (P .packets)) (C .left-marking), subst (λ k. Marking k nextR′) (sym (P .packets)) (C .right-marking), count-small)))
+
+  -- what emptying a next list asks
+  pub forget-ready : {words : ℕ} {next : List ℕ} → words ≡ wordsFor count → Marking (product sizes) next → (words ≤ 32) × Marking (32 * words) next
+  forget-ready {next = next} e m = let k = forget-words count-small e in (k .0, marking-wider next (let q = P .packets in let g = k .1 in omega arith) m)
 
   -- rows have 16-bit numbers
   pub row-fits : h < 65535
   row-fits = omega (arith, P .row, P .indexed .within, P .indexed .numbered)
 
-  stands : Standing S M y y count n (x .rows)
-  stands = stands-none S M y count n (P .indexed)
-
-  left-over : x .handled < length (x .rows)
-  left-over = omega (arith, P .row, stands-length S M stands)
-
   module _ {r : Row} (is : r ≡ rowAt (y .packets) (y .left) (y .right) h) {answer : Compared} {nextL′ nextR′ work′ : List ℕ}
-      (C : ComparedRow sizes L R (rowOf sizes L R (r .packet) (getD (r .states) 0 0) (getD (r .states) 1 0)) nextL nextR work answer nextL′ nextR′ work′) where
-    row-is : current S x ≡ rowOf sizes L R (r .packet) (getD (r .states) 0 0) (getD (r .states) 1 0)
-    row-is = ap (λ e. e .row) (entries-at S M _ _ n h (P .row)) ∙ ap (λ (q : Row). rowOf sizes L R (q .packet) (getD (q .states) 0 0) (getD (q .states) 1 0)) (sym is)
+      (C : ComparedStates sizes nodesL testsL nodesR testsR (r .packet) (getD (r .states) 0 0) (getD (r .states) 1 0) work answer nextL′ nextR′ work′) where
+    module _ {L R : NodeLists} (b : BothLoaded sizes L R nodesL testsL nodesR testsR) where
+      abbrev S : System
+      S = pairSystem sizes (policies L R)
 
-    answer-is : answer ≡ answerAt sizes L R (current S x)
-    answer-is = C .answers ∙ ap (answerAt sizes L R) (sym row-is)
+      abbrev M : Masks (pairSystem sizes (policies L R))
+      M = pairMasks sizes (policies L R)
+
+      abbrev x : Run (pairSystem sizes (policies L R))
+      x = runAt sizes (policies L R) y n h
+
+      stands : Standing S M y y count n (x .rows)
+      stands = stands-none S M y count n (P .indexed)
+
+      left-over : x .handled < length (x .rows)
+      left-over = omega (arith, P .row, stands-length S M stands)
+
+      row-is : current S x ≡ rowOf sizes L R (r .packet) (getD (r .states) 0 0) (getD (r .states) 1 0)
+      row-is = ap (λ e. e .row) (entries-at S M _ _ n h (P .row)) ∙ ap (λ (q : Row). rowOf sizes L R (q .packet) (getD (q .states) 0 0) (getD (q .states) 1 0)) (sym is)
+
+      answer-is : answer ≡ answerAt sizes L R (current S x)
+      answer-is = C .compared L R b .answers ∙ ap (answerAt sizes L R) (sym row-is)
+
+      tells-at : (s : Side) (γ : ℕ) → answer ≡ differsAt s γ → RowHandled sizes (policies L R) y y count n h (Stopped (tellingAt s γ))
+      unfolding stepAnswer stepRows
+      tells-at s γ e =
+          let told : turn S x ≡ telling γ = differs-turn sizes L R x left-over s γ (sym answer-is ∙ e) in
+          let side : sideOf sizes (policies L R) (current S x) γ ≡ s = differs-lowest sizes L R (current S x) s γ (sym answer-is ∙ e) .1 in
+          record {
+            answers = ap (λ t. Stopped (tellingAt t γ)) (sym side) ∙ sym (rw (told, stepAnswer));
+            standing = subst (λ es. Standing S M y y count (length es) es) (sym (rw (told, stepRows))) (subst (λ k. Standing S M y y count k (x .rows)) (sym (stands-length S M stands)) stands);
+          }
+
+      nexts : Nexts sizes (policies L R) (current S x) nextL′ nextR′
+      nexts = subst (λ r. Nexts sizes (policies L R) r nextL′ nextR′) (sym row-is) (record { left-next = C .compared L R b .left-next; right-next = C .compared L R b .right-next })
+
+      -- the outputs are the same, and the successors are appended
+      module _ (e : answer ≡ Same) {z : Lists} {a : Appended} (A : NextAppended y z count n h nextL′ nextR′ a) where
+        goes : turn S x ≡ handling
+        goes = same-turn sizes L R x left-over (sym answer-is ∙ e)
+
+        continues : Continues S M y z count (order.handle S x .rows) a
+        unfolding order.handle
+        continues = A .appended sizes (policies L R) (lawful sizes (policies L R) (legal-pair sizes L R (b .left-legal) (b .right-legal))) (sym (P .packets)) (current S x) nexts
+
+        handled-standing : Standing S M y z count (length (stepRows sizes (policies L R) (length (y .packets)) x)) (stepRows sizes (policies L R) (length (y .packets)) x)
+        unfolding stepRows
+        handled-standing = subst (λ es. Standing S M y z count (length es) es) (sym (rw (goes, stepRows))) (continues .standing)
+
+        step-is : stepAnswer sizes (policies L R) (length (y .packets)) x ≡ afterRow sizes (policies L R) (length (y .packets)) (order.handle S x)
+        unfolding stepAnswer
+        step-is = rw (goes, stepAnswer)
+
+        fills-at : a ≡ FullUp → RowHandled sizes (policies L R) y z count n h (Stopped Full)
+        fills-at f = record { answers = full-after _ _ _ _ (sym f ∙ continues .answers) ∙ sym step-is; standing = handled-standing }
+
+        goes-at : (m : ℕ) → a ≡ Rows m → (r : Handled) → r ≡ goesOn (h + 1) m → RowHandled sizes (policies L R) y z count n h r
+        unfolding order.handle
+        goes-at m f r g = record { answers = g ∙ ap (λ i. goesOn i m) (omega arith) ∙ rows-after sizes (policies L R) (length (y .packets)) (order.handle S x) m (sym f ∙ continues .answers) ∙ sym step-is; standing = handled-standing }
+
+    stopped-open : {A : Type 0} (e : Ended) (m : ℕ) → Stopped e ≡ Open m → A
+    stopped-open e m q = absurd (let z : _≡_ {A = ℕ} 0 1 = cc in omega arith)
 
     -- the row tells
-    pub row-tells : (s : Side) (γ : ℕ) → answer ≡ differsAt s γ → RowHandled sizes (policies L R) y y count n h (Stopped (tellingAt s γ))
-    unfolding stepAnswer stepRows
-    row-tells s γ e =
-        let told : turn S x ≡ telling γ = differs-turn sizes L R x left-over s γ (sym answer-is ∙ e) in
-        let side : sideOf sizes (policies L R) (current S x) γ ≡ s = differs-lowest sizes L R (current S x) s γ (sym answer-is ∙ e) .1 in
-        record {
-          answers = ap (λ t. Stopped (tellingAt t γ)) (sym side) ∙ sym (rw (told, stepAnswer));
-          standing = subst (λ es. Standing S M y y count (length es) es) (sym (rw (told, stepRows))) (subst (λ k. Standing S M y y count k (x .rows)) (sym (stands-length S M stands)) stands);
-        }
+    pub row-tells : (s : Side) (γ : ℕ) → answer ≡ differsAt s γ → StepDone sizes nodesL testsL nodesR testsR y y count n h work (Stopped (tellingAt s γ)) nextL′ nextR′ work′
+    row-tells s γ e = record { handled = λ L R b. tells-at b s γ e; blank = λ m q. stopped-open _ m q; kept = C .kept }
 
-    nexts : Nexts sizes (policies L R) (current S x) nextL′ nextR′
-    nexts = subst (λ r. Nexts sizes (policies L R) r nextL′ nextR′) (sym row-is) (record { left-next = C .left-next; right-next = C .right-next })
-
-    -- the outputs are the same, and the successors are appended
     module _ (e : answer ≡ Same) {z : Lists} {a : Appended} (A : NextAppended y z count n h nextL′ nextR′ a) where
-      goes : turn S x ≡ handling
-      goes = same-turn sizes L R x left-over (sym answer-is ∙ e)
+      pub row-fills : a ≡ FullUp → StepDone sizes nodesL testsL nodesR testsR y z count n h work (Stopped Full) nextL′ nextR′ work′
+      row-fills f = record { handled = λ L R b. fills-at b e A f; blank = λ m q. stopped-open _ m q; kept = C .kept }
 
-      continues : Continues S M y z count (order.handle S x .rows) a
-      unfolding order.handle
-      continues = A .appended sizes (policies L R) (lawful sizes (policies L R) (legal-pair sizes L R (P .left-legal) (P .right-legal))) (sym (P .packets)) (current S x) nexts
-
-      handled-standing : Standing S M y z count (length (stepRows sizes (policies L R) (length (y .packets)) x)) (stepRows sizes (policies L R) (length (y .packets)) x)
-      unfolding stepRows
-      handled-standing = subst (λ es. Standing S M y z count (length es) es) (sym (rw (goes, stepRows))) (continues .standing)
-
-      step-is : stepAnswer sizes (policies L R) (length (y .packets)) x ≡ afterRow sizes (policies L R) (length (y .packets)) (order.handle S x)
-      unfolding stepAnswer
-      step-is = rw (goes, stepAnswer)
-
-      pub row-fills : a ≡ FullUp → RowHandled sizes (policies L R) y z count n h (Stopped Full)
-      row-fills f = record { answers = full-after _ _ _ _ (sym f ∙ continues .answers) ∙ sym step-is; standing = handled-standing }
-
-      pub row-goes : (m : ℕ) → a ≡ Rows m → (r : Handled) → r ≡ goesOn (h + 1) m → RowHandled sizes (policies L R) y z count n h r
-      unfolding order.handle
-      row-goes m f r g = record { answers = g ∙ ap (λ i. goesOn i m) (omega arith) ∙ rows-after sizes (policies L R) (length (y .packets)) (order.handle S x) m (sym f ∙ continues .answers) ∙ sym step-is; standing = handled-standing }
+      pub row-goes : (m : ℕ) → a ≡ Rows m → (r : Handled) → r ≡ goesOn (h + 1) m → {nextL″ nextR″ : List ℕ} → Blank nextL″ → Blank nextR″
+          → StepDone sizes nodesL testsL nodesR testsR y z count n h work r nextL″ nextR″ work′
+      row-goes m f r g bl br = record { handled = λ L R b. goes-at b e A m f r g; blank = λ k q. (bl, br); kept = C .kept }

@@ -5,18 +5,18 @@ use mathlib.Core.List.{List}
 use mathlib.Core.Path.{_≡_}
 use lib.Dec.{ltb}
 use lib.ListN.{length, getD, take}
-use Rattle.packet.specs.Sizes.{product, LegalSizes}
-use Rattle.policy.specs.Legality.{Legal}
+use Rattle.packet.specs.Sizes.{product}
 use Rattle.policy.specs.NodeLists.{NodeLists}
 use Rattle.system.specs.RowOrder.{Entry, Run, finished, telling, handling, turn, current}
 use Rattle.system.specs.RowOrder as order
-use Rattle.pair.specs.Sides.{Pair, Labelled}
+use Rattle.pair.specs.Sides.{Pair, Labelled, policies}
 use Rattle.pair.specs.Pair.{pairSystem}
 use Rattle.pair.specs.Search.{sideOf}
 use Rattle.index.specs.Appending.{Lists}
 use Rattle.index.specs.Index.{Indexed}
 use Rattle.rows.specs.Standing.{rowsIn, Standing, pairMasks}
-use Rattle.compare.specs.Comparison.{BothPrepared}
+use Rattle.marks.specs.Marks.{Blank}
+use Rattle.compare.specs.Comparison.{BothLoaded}
 use Rattle.verdict.specs.declared.Ended.the-variants.{Done, Full}
 use Rattle.verdict.specs.Ending.{tellingAt}
 use Rattle.round.specs.declared.Handled.{Handled}
@@ -58,18 +58,24 @@ module _ (sizes : List ℕ) (ps : Pair Labelled) where
     pub answers : answer ≡ stepAnswer (length (y .packets)) (runAt y n h)
     pub standing : Standing (pairSystem sizes ps) (pairMasks sizes ps) y z count (length (stepRows (length (y .packets)) (runAt y n h))) (stepRows (length (y .packets)) (runAt y n h))
 
--- what a step asks: causes 1 to 10 don't hold, the first n rows are indexed and row h is one of them, and the work list is 0
-pub record StepReady (sizes : List ℕ) (L R : NodeLists) (masksL placesL masksR placesR : List ℕ) (y : Lists) (count n h : ℕ) (nextL nextR work : List ℕ) : Type 0 where
-  pub legal : LegalSizes sizes
-  pub left-legal : Legal sizes L
-  pub right-legal : Legal sizes R
-  pub prepared : BothPrepared L R masksL placesL masksR placesR
-  pub packets : count ≡ product sizes
-  pub indexed : Indexed (y .packets) (y .left) (y .right) count n (y .trees)
-  pub parents : length (y .parents) ≡ length (y .packets)
-  pub row : h < n
-  pub small : getD (y .packets) h 0 < count
-  pub left-room : count ≤ length nextL
-  pub right-room : count ≤ length nextR
-  pub long : 16384 ≤ length work
-  pub zero : (i : ℕ) → i < 16384 → getD work i 0 ≡ 0
+module _ (sizes nodesL testsL nodesR testsR : List ℕ) where
+  -- what a step asks: two policies that are loaded, the first n rows indexed and row h one of them, empty next lists, and a work list of 0
+  pub record HandleReady (y : Lists) (count n h : ℕ) (nextL nextR work : List ℕ) : Type 0 where
+    pub lists : NodeLists
+    pub others : NodeLists
+    pub loaded : BothLoaded sizes lists others nodesL testsL nodesR testsR
+    pub packets : count ≡ product sizes
+    pub indexed : Indexed (y .packets) (y .left) (y .right) count n (y .trees)
+    pub parents : length (y .parents) ≡ length (y .packets)
+    pub row : h < n
+    pub small : getD (y .packets) h 0 < count
+    pub left-blank : Blank nextL
+    pub right-blank : Blank nextR
+    pub long : 16384 ≤ length work
+    pub zero : (i : ℕ) → i < 16384 → getD work i 0 ≡ 0
+
+  -- the step of the search, whatever policies are loaded; where it goes on, the next lists are empty again
+  pub record StepDone (y z : Lists) (count n h : ℕ) (work : List ℕ) (answer : Handled) (nextL′ nextR′ work′ : List ℕ) : Type 0 where
+    pub handled : (L R : NodeLists) → BothLoaded sizes L R nodesL testsL nodesR testsR → RowHandled sizes (policies L R) y z count n h answer
+    pub blank : (m : ℕ) → answer ≡ Open m → Blank nextL′ × Blank nextR′
+    pub kept : work′ ≡ work

@@ -1,12 +1,13 @@
 // One round of the search: one row is handled (document 01, "States and rows"). All functions here are inner.
 ghost use mathlib.Core.Path.{_≡_};
-ghost use Rattle.policy.specs.AsLists.{asLists};
-ghost use Rattle.pair.specs.Sides.{policies};
 ghost use Rattle.index.specs.Appending.{lists};
-ghost use Rattle.round.specs.Step.{goesOn, RowHandled, StepReady};
+ghost use Rattle.round.specs.Step.{goesOn, HandleReady, StepDone};
 use compare::Compared;
 use index::Appended;
 use index::Mask;
+use loaded::Nodes;
+use loaded::Tests;
+use marks::Next;
 use verdict::Ended;
 
 // What a step of the search answers. Inner.
@@ -26,21 +27,15 @@ fn goes_on(handled: usize, listed: usize) -> Handled
     Handled::Stopped(Ended::Done(listed))
 }
 
-// Inner: handles row `handled` of the `listed` rows: two evaluations and a lookup for each successor; a lookup passes at most 64 rows of the
-// index. The two lists for next are the step's own: what they hold after it is left open.
+// Inner: handles row `handled` of the `listed` rows: two steps and a lookup for each successor; a lookup passes at most 64 rows of the
+// index. The next lists are empty before, and after where the search goes on.
 pub fn handle(
     sizes: &[u16],
     count: u16,
-    left_kind: &[u8],
-    left_first: &[u16],
-    left_second: &[u16],
-    left_masks: &[u32],
-    left_places: &[u16],
-    right_kind: &[u8],
-    right_first: &[u16],
-    right_second: &[u16],
-    right_masks: &[u32],
-    right_places: &[u16],
+    left_nodes: &Nodes,
+    left_tests: &Tests,
+    right_nodes: &Nodes,
+    right_tests: &Tests,
     packets: &mut [u16],
     lefts: &mut [Mask],
     rights: &mut [Mask],
@@ -48,29 +43,21 @@ pub fn handle(
     trees: &mut [u16],
     handled: usize,
     listed: usize,
-    next_left: &mut [u32],
-    next_right: &mut [u32],
+    next_left: &mut Next,
+    next_right: &mut Next,
     work: &mut [u32],
 ) -> Handled
-    requires { ⌜ StepReady (now sizes) (asLists (now «left_kind») (now «left_first») (now «left_second»)) (asLists (now «right_kind») (now «right_first») (now «right_second»)) (now «left_masks») (now «left_places») (now «right_masks») (now «right_places») (lists (now packets) (now lefts) (now rights) (now parents) (now trees)) count listed handled (now «next_left») (now «next_right») (now work) ⌝ }
-    ensures handles { λ r. ⌜ RowHandled (now (sizes .entry)) (policies (asLists (now («left_kind» .entry)) (now («left_first» .entry)) (now («left_second» .entry))) (asLists (now («right_kind» .entry)) (now («right_first» .entry)) (now («right_second» .entry)))) (lists (now (packets .entry)) (now (lefts .entry)) (now (rights .entry)) (now (parents .entry)) (now (trees .entry))) (lists (now (packets .exit)) (now (lefts .exit)) (now (rights .exit)) (now (parents .exit)) (now (trees .exit))) count listed handled r ⌝ }
-    ensures kept { λ _. ⌜ now (work .exit) ≡ now (work .entry) ⌝ }
+    requires { ⌜ HandleReady (now sizes) (now «left_nodes») (now «left_tests») (now «right_nodes») (now «right_tests») (lists (now packets) (now lefts) (now rights) (now parents) (now trees)) count listed handled (now «next_left») (now «next_right») (now work) ⌝ }
+    ensures { λ r. ⌜ StepDone (now (sizes .entry)) (now («left_nodes» .entry)) (now («left_tests» .entry)) (now («right_nodes» .entry)) (now («right_tests» .entry)) (lists (now (packets .entry)) (now (lefts .entry)) (now (rights .entry)) (now (parents .entry)) (now (trees .entry))) (lists (now (packets .exit)) (now (lefts .exit)) (now (rights .exit)) (now (parents .exit)) (now (trees .exit))) count listed handled (now (work .entry)) r (now («next_left» .exit)) (now («next_right» .exit)) (now (work .exit)) ⌝ }
 {
     let row = index::row_at(packets, lefts, rights, handled);
     let states = row.states;
     match compare::compare(
         sizes,
-        count,
-        left_kind,
-        left_first,
-        left_second,
-        left_masks,
-        left_places,
-        right_kind,
-        right_first,
-        right_second,
-        right_masks,
-        right_places,
+        left_nodes,
+        left_tests,
+        right_nodes,
+        right_tests,
         row.packet,
         states[0],
         states[1],
@@ -95,6 +82,9 @@ pub fn handle(
             ) else {
                 return Handled::Stopped(Ended::Full);
             };
+            let words = packet_set::words_for(count as usize);
+            marks::forget(next_left, words);
+            marks::forget(next_right, words);
             goes_on(handled + 1, n)
         }
     }

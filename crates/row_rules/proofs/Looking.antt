@@ -1,6 +1,7 @@
 -- What the loops look for, step by step.
 -- Assumes nothing.
 use Prim.Native.Nat.{ℕ, _+_, _≤_, _<_}
+use native.Mathlib.Decide.{decLt}
 use native.Mathlib.Nat.{le-antisymm}
 use native.Mathlib.Numerals.{add-one}
 use native.Mathlib.Omega.{arith}
@@ -12,7 +13,7 @@ use lib.Dec.{eqb, ltb}
 use lib.ListN.{length, getD}
 use borrow.Author.Tests.{ltb-true, eq-eqb, ne-eqb, lt-ltb, le-ltb}
 use Rattle.packet.specs.Lowest.{lowest}
-use Rattle.packet.proofs.Lowest.{lowest-more, lowest-found, lowest-none-whole}
+use Rattle.packet.proofs.Lowest.{lowest-none, none-lowest, lowest-more, lowest-found, lowest-none-whole}
 use Rattle.packet_set.specs.Bits.{onlyBits}
 use Rattle.index.specs.declared.Lookup.{Lookup}
 use Rattle.index.specs.declared.Lookup.the-variants.{Listed}
@@ -74,6 +75,10 @@ module _ (packets lefts rights : List ℕ) where
     unfolding nextMissing inColumns
     next-looked e b f = sym (ap₂ (λ (a c : Bool). not (a || c)) (sym isZero ∙ e) (sym f))
 
+  -- no row is asked for where both states are 0
+  pub next-unmarked : (γ l r : ℕ) → (l ≡ 0) × (r ≡ 0) → nextMissing packets lefts rights γ l r ≡ false
+  next-unmarked γ l r z = sym (next-zero γ l r (zeroStates l r) refl (sym (left-zero l r (z .0)) ∙ eq-eqb r 0 (z .1)))
+
 -- ---- a loop over the spots
 
 -- nothing is found below i
@@ -89,6 +94,14 @@ module _ (test : ℕ → Bool) (n : ℕ) where
   module _ {i : ℕ} (u : Unbroken test n i) where
     pub unbroken-more : i < n → (b : Bool) → test i ≡ b → b ≡ false → Unbroken test n (i + 1)
     unbroken-more h b e f = record { within = omega arith; before = rw add-one (lowest-more test i (u .before) (e ∙ f)) }
+
+    -- spots at which nothing is broken may be skipped
+    pub unbroken-skip : {j : ℕ} → i ≤ j → j ≤ n → ((k : ℕ) → i ≤ k → k < j → test k ≡ false) → Unbroken test n j
+    unbroken-skip {j} l h passed = record { within = h; before = none-lowest test j (λ k b. go k b (decLt k i)) }
+      where
+        go : (k : ℕ) → k < j → Dec (k < i) → test k ≡ false
+        go k b (yes a) = lowest-none test i (u .before) k a
+        go k b (no a) = passed k (omega arith) b
 
     pub broken-here : i < n → (b : Bool) → test i ≡ b → b ≡ true → spotOf (At i) ≡ lowest test n
     unfolding spotOf

@@ -8,10 +8,12 @@ ghost use lib.ListN.{length, getD};
 ghost use Rattle.packet.specs.Lowest.{lowest};
 ghost use Rattle.index.specs.Columns.{Table, Small};
 ghost use Rattle.index.specs.Index.{Indexed};
+ghost use Rattle.marks.specs.Marks.{Marking};
 ghost use Rattle.row_rules.specs.Presence.{spotOf, fits, zeroStates, strays, startMissing, nextMissing, Repeated};
 use index::Lookup;
 use index::Mask;
 use index::Row;
+use marks::Next;
 
 // The lowest spot at which a rule is broken. Inner.
 pub enum Spot {
@@ -128,21 +130,24 @@ fn next_missing(
     !index::find(packets, lefts, rights, packets.len(), count, trees, row)
 }
 
-// Inner: rule (d) at a row, from its next states: the lowest packet whose next row is missing.
+// Inner: rule (d) at a row, from its next states: the lowest packet whose next row is missing. A packet without marks asks for no row:
+// only marked packets are visited.
 pub fn first_next_missing(
     packets: &[u16],
     lefts: &[Mask],
     rights: &[Mask],
     count: u16,
     trees: &[u16],
-    next_left: &[Mask],
-    next_right: &[Mask],
+    next_left: &Next,
+    next_right: &Next,
 ) -> Spot
     requires { ⌜ Indexed (now packets) (now lefts) (now rights) count (length (now packets)) (now trees) ⌝ }
-    requires { ⌜ (count ≤ length (now «next_left»)) × (count ≤ length (now «next_right»)) ⌝ }
+    requires { ⌜ (Marking count (now «next_left»)) × (Marking count (now «next_right»)) × (count ≤ 1024) ⌝ }
     ensures { λ r. ⌜ spotOf r ≡ lowest (λ γ. nextMissing (now (packets .entry)) (now (lefts .entry)) (now (rights .entry)) γ (getD (now («next_left» .entry)) γ 0) (getD (now («next_right» .entry)) γ 0)) count ⌝ }
 {
-    let mut gamma: u16 = 0;
+    let set = marks::either(next_left, next_right);
+    let words = packet_set::words_for(wide(count));
+    let mut gamma = marks::next_marked(&set, 0, words, count);
     while gamma < count {
         let i = wide(gamma);
         if next_missing(
@@ -157,7 +162,7 @@ pub fn first_next_missing(
         ) {
             return Spot::At(gamma);
         }
-        gamma += 1;
+        gamma = marks::next_marked(&set, gamma + 1, words, count);
     }
     Spot::Nowhere
 }

@@ -1,30 +1,34 @@
 -- The loops that list the starting rows and the rows next of a handled one.
-use mathlib.Core.Path.{_≡_, refl, sym, _∙_, ap, subst}
-use mathlib.Core.Bool.{Bool, true, false}
+use mathlib.Core.Path.{_≡_, refl, sym, _∙_, ap, ap₂, subst}
+use mathlib.Core.Bool.{Bool, true, false, _||_}
 use mathlib.Core.List.{List, [], _∷_}
-use Prim.Native.Nat.{ℕ, suc, _+_, _≤_, _<_}
-use native.Mathlib.Nat.{le-antisymm}
+use mathlib.Core.Logic.{⊎-elim}
+use Prim.Native.Nat.{ℕ, zero, suc, _+_, _≤_, _<_}
+use native.Mathlib.Nat.{le-antisymm, le-of-suc-le-suc, eq-or-lt-of-le}
 use native.Mathlib.Numerals.{add-one}
 use native.Mathlib.Omega.{arith}
+use lib.Arith.{le-zero}
 use lib.ListN.{length, getD, length-set}
 use Rattle.packet.specs.Sizes.{product}
 use Rattle.system.specs.System as system
-use Rattle.system.specs.System.{Lawful, nextRow}
-use Rattle.system.specs.RowOrder.{starts, append, appendNext}
+use Rattle.system.specs.System.{System, Lawful, nextRow}
+use Rattle.system.specs.RowOrder.{Entry, starts, listed, append, appendNext}
 use Rattle.system.proofs.Basics.{Prefix}
 use Rattle.system.proofs.Answers.{starts-longer, appendNext-longer}
+use Rattle.system.proofs.Listing.{append-kept}
 use Rattle.pair.specs.Sides.{left, right, Pair, at, onBoth, Labelled}
 use Rattle.pair.specs.Pair.{bothZero, pairSystem}
 use Rattle.index.specs.declared.Row.{Row}
 use Rattle.index.specs.declared.Appended.{Appended}
 use Rattle.index.specs.declared.Appended.the-variants.{Rows, Full}
+use Rattle.index.specs.Columns.{sameStates, allZero}
 use Rattle.index.specs.Index.{Indexed}
 use Rattle.index.specs.Appending.{Lists, isAdded, rowsAfter, Appending}
 use Rattle.index.specs.Entries.{rowOf, entriesOf}
 use Rattle.index.proofs.Growth.{length-trees}
 use Rattle.index.proofs.Starting.{append-start}
 use Rattle.index.proofs.Entries.{grown, grows, stays, Outcome, outcome, added, full, known}
-use Rattle.rows.specs.Standing.{rowsIn, Standing, pairMasks, Nexts, Started, NextAppended}
+use Rattle.rows.specs.Standing.{rowsIn, Standing, zero-masks, pairMasks, Nexts, Started, NextAppended}
 use Rattle.rows.proofs.Standing.{stands-none, continues-rows, stands-rows, stands-full}
 
 -- no list has changed its length
@@ -161,6 +165,41 @@ pub next-none : {x : Lists} {count n p : ℕ} {lefts rights : List ℕ} → Inde
     → NextTo x x count n n 0 p lefts rights
 unfolding appendNext
 next-none {x} {count} {n} I l = record { going = going-none I l; stands = λ sizes ps lawful q r N. stands-none (pairSystem sizes ps) (pairMasks sizes ps) x count n I }
+
+append-dead : (S : System) (p : ℕ) (es : List (Entry S)) (r : system.Row S) → S .dead (r .state) ≡ true → append S p es r ≡ es
+append-dead S p es r e = append-kept S p es r (ap (λ b. b || listed S es r) e)
+
+-- a packet without marks has no row
+next-dead : {x y : Lists} {count before n γ p : ℕ} {lefts rights : List ℕ} → NextTo x y count before n γ p lefts rights → γ < count → getD lefts γ 0 ≡ 0 → getD rights γ 0 ≡ 0
+    → NextTo x y count before n (suc γ) p lefts rights
+unfolding appendNext sameStates allZero
+next-dead {x} {y} {count} {before} {n} {γ} {p} {lefts} {rights} T small l r =
+    record {
+      going = T .going;
+      stands = λ sizes ps lawful q row N.
+          subst (Standing (pairSystem sizes ps) (pairMasks sizes ps) x y count n)
+          (sym (append-dead (pairSystem sizes ps) p _ _ (dead sizes ps row N (omega arith))))
+          (T .stands sizes ps lawful q row N);
+    }
+  where
+    both-zero : allZero (getD lefts γ 0 ∷ getD rights γ 0 ∷ []) ≡ true
+    both-zero = ap₂ (λ a b. allZero (a ∷ b ∷ [])) l r
+
+    dead : (sizes : List ℕ) (ps : Pair Labelled) (row : system.Row (pairSystem sizes ps)) → Nexts sizes ps row lefts rights → γ < product sizes
+        → pairSystem sizes ps .dead (nextRow (pairSystem sizes ps) row γ .state) ≡ true
+    dead sizes ps row N h = ap (λ w. pairSystem sizes ps .dead (w .state)) (sym (next-row sizes ps row lefts rights N γ h)) ∙ zero-masks sizes ps (getD lefts γ 0 ∷ getD rights γ 0 ∷ []) ∙ both-zero
+
+-- packets without marks may be skipped
+pub next-skip : {x y : Lists} {count before n γ p : ℕ} {lefts rights : List ℕ} → NextTo x y count before n γ p lefts rights → {δ : ℕ} → γ ≤ δ → δ ≤ count
+    → ((β : ℕ) → γ ≤ β → β < δ → (getD lefts β 0 ≡ 0) × (getD rights β 0 ≡ 0)) → NextTo x y count before n δ p lefts rights
+next-skip {x} {y} {count} {before} {n} {γ} {p} {lefts} {rights} T {δ} l h zeros = go δ l h zeros
+  where
+    go : (δ : ℕ) → γ ≤ δ → δ ≤ count → ((β : ℕ) → γ ≤ β → β < δ → (getD lefts β 0 ≡ 0) × (getD rights β 0 ≡ 0)) → NextTo x y count before n δ p lefts rights
+    go zero l h zeros = subst (λ k. NextTo x y count before n k p lefts rights) (le-zero l) T
+    go (suc δ) l h zeros =
+        ⊎-elim (λ e. subst (λ k. NextTo x y count before n k p lefts rights) e T)
+        (λ q. next-dead (go δ (le-of-suc-le-suc q) (omega arith) (λ β a b. zeros β a (omega arith))) h (zeros δ (le-of-suc-le-suc q) (omega arith) .0) (zeros δ (le-of-suc-le-suc q) (omega arith) .1))
+        (eq-or-lt-of-le l)
 
 module _ {x y : Lists} {count before n γ p : ℕ} {lefts rights : List ℕ} (T : NextTo x y count before n γ p lefts rights) (small : γ < count)
     {z : Lists} {answer : Appended} (i : ℕ) (here : i ≡ γ) (appends : Appending y z count n (nextIn lefts rights i γ) p answer) where

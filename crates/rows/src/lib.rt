@@ -4,12 +4,14 @@ ghost use Prim.Native.Nat.{_+_, _<_, _≤_};
 ghost use lib.ListN.{length};
 ghost use Rattle.index.specs.Index.{Indexed};
 ghost use Rattle.index.specs.Appending.{lists};
+ghost use Rattle.marks.specs.Marks.{Marking};
 ghost use Rattle.rows.specs.Standing.{Started, NextAppended};
 use index::Appended;
 use index::Mask;
 use index::POLICIES;
 use index::Row;
 use index::append;
+use marks::Next;
 
 // Inner: lists the starting rows (α, 1, 1), each its own parent.
 pub fn start(
@@ -41,7 +43,8 @@ pub fn start(
     Appended::Rows(n)
 }
 
-// Inner: row `handled` has been handled; the rows next of it, whose masks the two lists hold, are appended to the first `listed`.
+// Inner: row `handled` has been handled; the rows next of it, whose masks the two next lists hold, are appended to the first `listed`.
+// A packet without marks has no row: only marked packets are visited.
 pub fn append_next(
     packets: &mut [u16],
     left: &mut [Mask],
@@ -51,29 +54,30 @@ pub fn append_next(
     count: u16,
     trees: &mut [u16],
     handled: u16,
-    lefts: &[Mask],
-    rights: &[Mask],
+    next_left: &Next,
+    next_right: &Next,
 ) -> Appended
     requires { ⌜ Indexed (now packets) (now left) (now right) count listed (now trees) ⌝ }
     requires { ⌜ length (now parents) ≡ length (now packets) ⌝ }
-    requires { ⌜ count ≤ length (now lefts) ⌝ }
-    requires { ⌜ count ≤ length (now rights) ⌝ }
-    ensures { λ r. ⌜ NextAppended (lists (now (packets .entry)) (now (left .entry)) (now (right .entry)) (now (parents .entry)) (now (trees .entry))) (lists (now (packets .exit)) (now (left .exit)) (now (right .exit)) (now (parents .exit)) (now (trees .exit))) count listed handled (now (lefts .entry)) (now (rights .entry)) r ⌝ }
+    requires { ⌜ (Marking count (now «next_left»)) × (Marking count (now «next_right»)) × (count ≤ 1024) ⌝ }
+    ensures { λ r. ⌜ NextAppended (lists (now (packets .entry)) (now (left .entry)) (now (right .entry)) (now (parents .entry)) (now (trees .entry))) (lists (now (packets .exit)) (now (left .exit)) (now (right .exit)) (now (parents .exit)) (now (trees .exit))) count listed handled (now («next_left» .entry)) (now («next_right» .entry)) r ⌝ }
 {
+    let set = marks::either(next_left, next_right);
+    let words = packet_set::words_for(lines::wide(count));
     let mut n = listed;
-    let mut packet: u16 = 0;
+    let mut packet = marks::next_marked(&set, 0, words, count);
     while packet < count {
         let i = lines::wide(packet);
         let row = Row {
             packet,
-            states: [lefts[i], rights[i]],
+            states: [next_left[i], next_right[i]],
         };
         let Appended::Rows(m) = append(packets, left, right, parents, n, count, trees, row, handled)
         else {
             return Appended::Full;
         };
         n = m;
-        packet += 1;
+        packet = marks::next_marked(&set, packet + 1, words, count);
     }
     Appended::Rows(n)
 }

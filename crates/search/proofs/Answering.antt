@@ -29,7 +29,8 @@ use Rattle.lent.proofs.Testing.{tests-passed, lists-passed, row-list-fits, rows
 use Rattle.verdict.specs.declared.Stop.{Stop}
 use Rattle.verdict.specs.declared.Verdict.{Verdict}
 use Rattle.verdict.specs.declared.Verdict.the-variants.{Equal, Full, Refused}
-use Rattle.compare.specs.Comparison.{BothPrepared}
+use Rattle.loaded.specs.Loaded.{Loaded}
+use Rattle.compare.specs.Comparison.{BothLoaded}
 use Rattle.verdict.specs.Ending.{endedAnswer}
 use Rattle.verdict.specs.Verdicts.{tellingVerdict, verdictOf, traceAfter, Told}
 use Rattle.search.specs.Rows.{RowsReady, RowsRun}
@@ -101,21 +102,20 @@ module _ {sizes : List ℕ} {L R : NodeLists} {x : Lent} where
   -- ---- where no cause of 1 to 10 holds
 
   module _ {count : ℕ} (A : Accepted sizes L R count x) where
-    pub rows-ready : {masksL placesL masksR placesR : List ℕ} → BothPrepared L R masksL placesL masksR placesR → (work′ : List ℕ) → work′ ≡ replicate (length (x .work)) 0
-        → RowsReady sizes L R masksL placesL masksR placesR (lists (x .packets) (x .lefts) (x .rights) (x .parents) (replicate 196608 0)) count (replicate 1024 0) (replicate 1024 0) work′
+    pub both-loaded : {nodesL testsL nodesR testsR : List ℕ} → Loaded sizes L nodesL testsL → Loaded sizes R nodesR testsR → BothLoaded sizes L R nodesL testsL nodesR testsR
+    both-loaded l r = record { legal-sizes = A .legal; left-legal = A .left-legal; right-legal = A .right-legal; left-loaded = l; right-loaded = r }
+
+    pub rows-ready : {nodesL testsL nodesR testsR : List ℕ} → BothLoaded sizes L R nodesL testsL nodesR testsR → (work′ : List ℕ) → work′ ≡ replicate (length (x .work)) 0
+        → RowsReady sizes nodesL testsL nodesR testsR (lists (x .packets) (x .lefts) (x .rights) (x .parents) (replicate 196608 0)) count work′
     rows-ready B work′ w =
         let few : product sizes ≤ 1024 = A .legal .small in
-        let k : length (replicate {A = ℕ} 1024 0) ≡ 1024 = length-replicate {A = ℕ} 1024 0 in
         record {
-          legal = A .legal;
-          left-legal = A .left-legal;
-          right-legal = A .right-legal;
-          prepared = B;
+          lists = L;
+          others = R;
+          loaded = B;
           packets = A .packets;
           indexed = indexed-none (x .packets) (x .lefts) (x .rights) count 196608 (record { left = A .lefts; right = A .rights }) (omega (arith, A .few)) (omega (arith, A .few)) (omega (arith, A .packets, few));
           parents = A .parents;
-          left-room = omega (arith, A .packets, few, k);
-          right-room = omega (arith, A .packets, few, k);
           long = subst (λ n. 16384 ≤ n) (sym (ap length w ∙ length-replicate {A = ℕ} (length (x .work)) 0)) (A .long);
           zero = λ i h. ap (λ v. getD v i 0) w ∙ getD-replicate (length (x .work)) i 0 0 (omega (arith, A .long));
         }

@@ -1,11 +1,11 @@
 -- The row order round after round: how it starts, goes on and ends. Assumes nothing.
-use Prim.Native.Nat.{ℕ, suc, _+_, _<_, _≤_}
+use Prim.Native.Nat.{ℕ, zero, suc, _+_, _<_, _≤_}
 use mathlib.Core.Bool.{Bool, true, false, cond}
 use mathlib.Core.List.{List, [], _∷_, _++_}
 use mathlib.Core.Path.{_≡_, refl, sym, ap, ap₂, _∙_, subst}
 use native.Mathlib.Omega.{arith}
 use lib.Dec.{ltb}
-use lib.ListN.{length, getD, take}
+use lib.ListN.{length, getD, take, replicate, length-replicate}
 use lib.Seq.{take-all, length-take-le}
 use borrow.Author.Tests.{ltb-true, ltb-false}
 use Rattle.packet.specs.Sizes.{product}
@@ -29,11 +29,13 @@ use Rattle.rows.specs.Standing.{Standing, pairMasks, Started}
 use Rattle.rows.proofs.Standing.{stands-length}
 use Rattle.rows.proofs.Growing.{SameLengths, lengths-none, lengths-then}
 use Rattle.rows.proofs.Searching.{Running, IsFull, stands-then, entry-at, rooted, path-line, entering-line, search-begins, start-full, search-goes, search-fills, search-ends, search-tells}
+use Rattle.marks.specs.Marks.{Unmarked, Blank}
+use Rattle.compare.specs.Comparison.{BothLoaded}
 use Rattle.verdict.specs.declared.Ended.{Ended}
 use Rattle.verdict.specs.declared.Ended.the-variants.{Done, Full}
 use Rattle.round.specs.declared.Handled.{Handled}
 use Rattle.round.specs.declared.Handled.the-variants.{Open, Stopped}
-use Rattle.round.specs.Step.{goesOn, runAt, afterRow, stepAnswer, stepRows, RowHandled, StepReady}
+use Rattle.round.specs.Step.{goesOn, runAt, afterRow, stepAnswer, stepRows, RowHandled, HandleReady}
 use Rattle.verdict.specs.Ending.{tellingAt, CanRead, tellingAnswer, answerAtEnd, endedAnswer, ReadableAt, Readable}
 use Rattle.search.specs.Rows.{RowsReady, RowsRun}
 
@@ -80,19 +82,32 @@ module _ (sizes : List ℕ) (L R : NodeLists) where
     pub running : Running sizes (policies L R) x y count n h rounds
     pub more : h < n
 
--- What a round keeps: the lengths of the lists, and the work list, since the loop began.
-pub record Kept (b y : Lists) (nextL₀ nextR₀ work₀ nextL nextR work : List ℕ) : Type 0 where
+-- What a round keeps: the lengths of the lists, and the work list, since the loop began; the next lists are empty.
+pub record Kept (b y : Lists) (work₀ nextL nextR work : List ℕ) : Type 0 where
   pub lengths : SameLengths b y
-  pub left-long : length nextL ≡ length nextL₀
-  pub right-long : length nextR ≡ length nextR₀
+  pub left-blank : Blank nextL
+  pub right-blank : Blank nextR
   pub clean : work ≡ work₀
 
-pub kept-none : {b : Lists} {nextL nextR work : List ℕ} → Kept b b nextL nextR work nextL nextR work
-kept-none = record { lengths = lengths-none; left-long = refl; right-long = refl; clean = refl }
+zero-word : (n i : ℕ) → _≡_ {A = ℕ} (getD (replicate n 0) i 0) 0
+zero-word zero i = refl
+zero-word (suc n) zero = refl
+zero-word (suc n) (suc i) = zero-word n i
 
-pub kept-more : {b y z : Lists} {nextL₀ nextR₀ work₀ nextL nextR work nextL′ nextR′ work′ : List ℕ} → Kept b y nextL₀ nextR₀ work₀ nextL nextR work → Kept y z nextL nextR work nextL′ nextR′ work′
-    → Kept b z nextL₀ nextR₀ work₀ nextL′ nextR′ work′
-kept-more a b = record { lengths = lengths-then (a .lengths) (b .lengths); left-long = b .left-long ∙ a .left-long; right-long = b .right-long ∙ a .right-long; clean = b .clean ∙ a .clean }
+blank : Blank (replicate 1056 0)
+unfolding Unmarked
+blank = record { long = length-replicate {A = ℕ} 1056 0; unmarked = zero-word 1056 }
+
+pub kept-none : {b : Lists} {work : List ℕ} → Kept b b work (replicate 1056 0) (replicate 1056 0) work
+kept-none = record { lengths = lengths-none; left-blank = blank; right-blank = blank; clean = refl }
+
+pub kept-more : {b y z : Lists} {work₀ nextL nextR work nextL′ nextR′ work′ : List ℕ} → Kept b y work₀ nextL nextR work → SameLengths y z → Blank nextL′ × Blank nextR′ → work′ ≡ work
+    → Kept b z work₀ nextL′ nextR′ work′
+kept-more a s n e = record { lengths = lengths-then (a .lengths) s; left-blank = n .0; right-blank = n .1; clean = e ∙ a .clean }
+
+-- the same from columns of the same lengths
+pub kept-before : {x b y : Lists} {work₀ nextL nextR work : List ℕ} → SameLengths x b → Kept b y work₀ nextL nextR work → Kept x y work₀ nextL nextR work
+kept-before s k = record { lengths = lengths-then s (k .lengths); left-blank = k .left-blank; right-blank = k .right-blank; clean = k .clean }
 
 pub started-full : {x y : Lists} {count : ℕ} {a : Appended} → Started x y count a → a ≡ FullUp → Started x y count FullUp
 started-full {x} {y} {count} T e = subst (Started x y count) e T
@@ -101,11 +116,13 @@ pub started-rows : {x y : Lists} {count m : ℕ} {a : Appended} → Started x y 
 started-rows {x} {y} {count} T e = subst (Started x y count) e T
 
 -- A round of a row order that started from any columns x and listed its starting rows in b.
-abbrev pub RoundFrom : List ℕ → NodeLists → NodeLists → List ℕ → List ℕ → List ℕ → List ℕ → Lists → Lists → ℕ → ℕ → ℕ → ℕ → List ℕ → List ℕ → List ℕ → Type 0
-RoundFrom sizes L R masksL placesL masksR placesR b y count m n h nextL₀ nextR₀ work₀ =
-    (x : Lists) → RowsReady sizes L R masksL placesL masksR placesR x count nextL₀ nextR₀ work₀ → Started x b count (Rows m) → SameLengths x b → Round sizes L R x y count n h
+abbrev pub RoundFrom : List ℕ → List ℕ → List ℕ → List ℕ → List ℕ → Lists → Lists → ℕ → ℕ → ℕ → ℕ → List ℕ → Type 0
+RoundFrom sizes nodesL testsL nodesR testsR b y count m n h work₀ =
+    (x : Lists) → RowsReady sizes nodesL testsL nodesR testsR x count work₀ → (L R : NodeLists) → BothLoaded sizes L R nodesL testsL nodesR testsR
+    → Started x b count (Rows m) → SameLengths x b → Round sizes L R x y count n h
 
-module _ {sizes : List ℕ} {L R : NodeLists} {masksL placesL masksR placesR : List ℕ} {x : Lists} {count : ℕ} {nextL₀ nextR₀ work₀ : List ℕ} (P : RowsReady sizes L R masksL placesL masksR placesR x count nextL₀ nextR₀ work₀) where
+module _ {sizes nodesL testsL nodesR testsR : List ℕ} {x : Lists} {count : ℕ} {work₀ : List ℕ} (P : RowsReady sizes nodesL testsL nodesR testsR x count work₀)
+    {L R : NodeLists} (b : BothLoaded sizes L R nodesL testsL nodesR testsR) where
   abbrev S′ : System
   S′ = S sizes L R
 
@@ -113,7 +130,7 @@ module _ {sizes : List ℕ} {L R : NodeLists} {masksL placesL masksR placesR : L
   M′ = M sizes L R
 
   is-lawful : Lawful S′
-  is-lawful = lawful sizes (policies L R) (legal-pair sizes L R (P .left-legal) (P .right-legal))
+  is-lawful = lawful sizes (policies L R) (legal-pair sizes L R (b .left-legal) (b .right-legal))
 
   -- so many rows as are held
   held-stands : {z : Lists} {m : ℕ} → Standing S′ M′ x z count m (held S′ (length (x .packets))) → Standing S′ M′ x z count (length (held S′ (length (x .packets)))) (held S′ (length (x .packets)))
@@ -137,10 +154,10 @@ module _ {sizes : List ℕ} {L R : NodeLists} {masksL placesL masksR placesR : L
       record {
         rounds = 0;
         running = begins;
-        more = omega (arith, invariant S′ is-lawful 0 .listing .begun, stands-length S′ M′ (begins .standing), product-positive sizes (P .legal .positive));
+        more = omega (arith, invariant S′ is-lawful 0 .listing .begun, stands-length S′ M′ (begins .standing), product-positive sizes (b .legal-sizes .positive));
       }
 
-  module _ {y : Lists} {n h : ℕ} {nextL nextR work : List ℕ} (O : Round sizes L R x y count n h) (K : Kept x y nextL₀ nextR₀ work₀ nextL nextR work) where
+  module _ {y : Lists} {n h : ℕ} {nextL nextR work : List ℕ} (O : Round sizes L R x y count n h) (K : Kept x y work₀ nextL nextR work) where
     abbrev k : ℕ
     k = O .rounds
 
@@ -150,13 +167,12 @@ module _ {sizes : List ℕ} {L R : NodeLists} {masksL placesL masksR placesR : L
     is-earlier : Earlier S′ (run S′ k .rows)
     is-earlier = earlier S′ (invariant S′ is-lawful k .listing)
 
-    pub round-ready : StepReady sizes L R masksL placesL masksR placesR y count n h nextL nextR work
+    pub round-ready : HandleReady sizes nodesL testsL nodesR testsR y count n h nextL nextR work
     round-ready =
         record {
-          legal = P .legal;
-          left-legal = P .left-legal;
-          right-legal = P .right-legal;
-          prepared = P .prepared;
+          lists = P .lists;
+          others = P .others;
+          loaded = P .loaded;
           packets = P .packets;
           indexed = O .running .standing .indexed;
           parents = parents-long;
@@ -164,8 +180,8 @@ module _ {sizes : List ℕ} {L R : NodeLists} {masksL placesL masksR placesR : L
           small =
               let at = entry-at sizes (policies L R) (O .running .standing) parents-long h (O .more) in
               omega (arith, P .packets, subst (λ e. e .row .packet < product sizes) at (invariant S′ is-lawful k .listing .small h (omega (arith, O .more, stands-length S′ M′ (O .running .standing)))));
-          left-room = omega (arith, P .left-room, K .left-long);
-          right-room = omega (arith, P .right-room, K .right-long);
+          left-blank = K .left-blank;
+          right-blank = K .right-blank;
           long = subst (λ w. 16384 ≤ length w) (sym (K .clean)) (P .long);
           zero = subst (λ w. (i : ℕ) → i < 16384 → getD w i 0 ≡ 0) (sym (K .clean)) (P .zero);
         }

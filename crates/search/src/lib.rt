@@ -2,10 +2,12 @@
 ghost use mathlib.Core.Path.{_≡_};
 ghost use Rattle.policy.specs.AsLists.{asLists};
 ghost use Rattle.index.specs.Appending.{lists};
-ghost use Rattle.search.specs.Rows.{RowsReady, RowsRun};
+ghost use Rattle.search.specs.Rows.{RowsReady, RunDone};
 ghost use Rattle.search.specs.Call.{lent, Accepted, SearchDone, Searched};
 use index::Appended;
 use index::Mask;
+use loaded::Nodes;
+use loaded::Tests;
 use packet::Counted;
 use round::Handled;
 use verdict::Ended;
@@ -16,28 +18,19 @@ use verdict::Verdict;
 fn run(
     sizes: &[u16],
     count: u16,
-    left_kind: &[u8],
-    left_first: &[u16],
-    left_second: &[u16],
-    left_masks: &[u32],
-    left_places: &[u16],
-    right_kind: &[u8],
-    right_first: &[u16],
-    right_second: &[u16],
-    right_masks: &[u32],
-    right_places: &[u16],
+    left_nodes: &Nodes,
+    left_tests: &Tests,
+    right_nodes: &Nodes,
+    right_tests: &Tests,
     packets: &mut [u16],
     lefts: &mut [Mask],
     rights: &mut [Mask],
     parents: &mut [u16],
     trees: &mut [u16],
-    next_left: &mut [u32],
-    next_right: &mut [u32],
     work: &mut [u32],
 ) -> Stop
-    requires { ⌜ RowsReady (now sizes) (asLists (now «left_kind») (now «left_first») (now «left_second»)) (asLists (now «right_kind») (now «right_first») (now «right_second»)) (now «left_masks») (now «left_places») (now «right_masks») (now «right_places») (lists (now packets) (now lefts) (now rights) (now parents) (now trees)) count (now «next_left») (now «next_right») (now work) ⌝ }
-    ensures runs { λ r. ⌜ RowsRun (now (sizes .entry)) (asLists (now («left_kind» .entry)) (now («left_first» .entry)) (now («left_second» .entry))) (asLists (now («right_kind» .entry)) (now («right_first» .entry)) (now («right_second» .entry))) (lists (now (packets .entry)) (now (lefts .entry)) (now (rights .entry)) (now (parents .entry)) (now (trees .entry))) (lists (now (packets .exit)) (now (lefts .exit)) (now (rights .exit)) (now (parents .exit)) (now (trees .exit))) count r ⌝ }
-    ensures kept { λ _. ⌜ now (work .exit) ≡ now (work .entry) ⌝ }
+    requires { ⌜ RowsReady (now sizes) (now «left_nodes») (now «left_tests») (now «right_nodes») (now «right_tests») (lists (now packets) (now lefts) (now rights) (now parents) (now trees)) count (now work) ⌝ }
+    ensures { λ r. ⌜ RunDone (now (sizes .entry)) (now («left_nodes» .entry)) (now («left_tests» .entry)) (now («right_nodes» .entry)) (now («right_tests» .entry)) (lists (now (packets .entry)) (now (lefts .entry)) (now (rights .entry)) (now (parents .entry)) (now (trees .entry))) (lists (now (packets .exit)) (now (lefts .exit)) (now (rights .exit)) (now (parents .exit)) (now (trees .exit))) count (now (work .entry)) r (now (work .exit)) ⌝ }
 {
     let Appended::Rows(started) = rows::start(packets, lefts, rights, parents, count, trees) else {
         return Stop {
@@ -46,22 +39,18 @@ fn run(
             ended: Ended::Full,
         };
     };
+    let mut next_left = [0u32; 1056];
+    let mut next_right = [0u32; 1056];
     let mut listed = started;
     let mut handled = 0;
     loop {
         match round::handle(
             sizes,
             count,
-            left_kind,
-            left_first,
-            left_second,
-            left_masks,
-            left_places,
-            right_kind,
-            right_first,
-            right_second,
-            right_masks,
-            right_places,
+            left_nodes,
+            left_tests,
+            right_nodes,
+            right_tests,
             packets,
             lefts,
             rights,
@@ -69,8 +58,8 @@ fn run(
             trees,
             handled,
             listed,
-            next_left,
-            next_right,
+            &mut next_left,
+            &mut next_right,
             work,
         ) {
             Handled::Stopped(ended) => {
@@ -109,47 +98,41 @@ fn search_accepted(
     ensures { λ r. ⌜ SearchDone (now (sizes .entry)) (asLists (now («left_kind» .entry)) (now («left_first» .entry)) (now («left_second» .entry))) (asLists (now («right_kind» .entry)) (now («right_first» .entry)) (now («right_second» .entry))) (lent (now (packets .entry)) (now (lefts .entry)) (now (rights .entry)) (now (parents .entry)) (now (trace .entry)) (now (work .entry))) r (lent (now (packets .exit)) (now (lefts .exit)) (now (rights .exit)) (now (parents .exit)) (now (trace .exit)) (now (work .exit))) ⌝ }
 {
     lent::clear(work);
-    let mut left_masks = [0u32; 512];
-    let mut left_places = [0u16; 32];
-    let left_dups = evaluator::prepare(
-        left_kind,
-        left_first,
-        left_second,
-        &mut left_masks,
-        &mut left_places,
-    );
-    let mut right_masks = [0u32; 512];
-    let mut right_places = [0u16; 32];
-    let right_dups = evaluator::prepare(
-        right_kind,
-        right_first,
-        right_second,
-        &mut right_masks,
-        &mut right_places,
-    );
-    let mut trees = [0u16; 196608];
-    let mut next_left = [0u32; 1024];
-    let mut next_right = [0u32; 1024];
-    let stop = run(
+    let mut left_nodes = [0u64; 544];
+    let mut left_tests = [0u32; 8224];
+    loaded::load(
         sizes,
         count,
         left_kind,
         left_first,
         left_second,
-        &left_masks,
-        &left_places[..left_dups],
+        &mut left_nodes,
+        &mut left_tests,
+    );
+    let mut right_nodes = [0u64; 544];
+    let mut right_tests = [0u32; 8224];
+    loaded::load(
+        sizes,
+        count,
         right_kind,
         right_first,
         right_second,
-        &right_masks,
-        &right_places[..right_dups],
+        &mut right_nodes,
+        &mut right_tests,
+    );
+    let mut trees = [0u16; 196608];
+    let stop = run(
+        sizes,
+        count,
+        &left_nodes,
+        &left_tests,
+        &right_nodes,
+        &right_tests,
         packets,
         lefts,
         rights,
         parents,
         &mut trees,
-        &mut next_left,
-        &mut next_right,
         work,
     );
     verdict::conclude(packets, parents, stop, trace)

@@ -17,6 +17,8 @@ use Rattle.policy.specs.NodeLists.{NodeLists, nodeCount, dupsBelow, policyOf}
 use Rattle.automaton.specs.State.{hasTrace}
 use Rattle.pair.specs.Sides.{left, right, policies}
 use Rattle.pair.specs.TraceCheck.{TraceAnswer, only, both, neither, has, traceAnswer}
+use Rattle.loaded.specs.Loaded.{Loaded}
+use Rattle.engine.specs.Stepping.{Stands}
 use Rattle.lent.specs.Lent as rows
 use Rattle.lent.specs.Lent.{listsStage, workAfter}
 use Rattle.traces.specs.declared.TraceChecked.{TraceChecked}
@@ -76,3 +78,15 @@ pub record FollowReady (sizes : List ℕ) (L : NodeLists) (count α : ℕ) (trac
 pub record Followed (sizes : List ℕ) (L : NodeLists) (α : ℕ) (trace work : List ℕ) (answer : Bool) (work′ : List ℕ) : Type 0 where
   pub answers : answer ≡ hasTrace sizes (policyOf L) (dupsBelow L (nodeCount L)) α trace
   pub kept : work′ ≡ work
+
+module _ (sizes nodes tests : List ℕ) where
+  -- the same of a policy that is loaded
+  pub record LoadedReady (count α : ℕ) (trace work : List ℕ) : Type 0 where
+    pub lists : NodeLists
+    pub loaded : Loaded sizes lists nodes tests
+    pub ready : FollowReady sizes lists count α trace work
+
+  -- the answer, whatever policy is loaded
+  pub record LoadedFollowed (α : ℕ) (trace work : List ℕ) (answer : Bool) (work′ : List ℕ) : Type 0 where
+    pub answers : (L : NodeLists) → Stands sizes L nodes tests α → answer ≡ hasTrace sizes (policyOf L) (dupsBelow L (nodeCount L)) α trace
+    pub kept : work′ ≡ work

@@ -6,11 +6,14 @@ ghost use Rattle.packet.specs.Lowest.{lowest, optionOf};
 ghost use Rattle.packet.specs.Sizes.{counted, product};
 ghost use Rattle.policy.specs.AsLists.{asLists};
 ghost use Rattle.pair.specs.TraceCheck.{answerOf};
-ghost use Rattle.traces.specs.Checking.{badPacket, checkedAs, lentTests, Checked, FollowReady, Followed};
+ghost use Rattle.traces.specs.Checking.{badPacket, checkedAs, lentTests, Checked, FollowReady, Followed, LoadedReady, LoadedFollowed};
+use loaded::Nodes;
+use loaded::Tests;
 use packet::Counted;
 use packet::Place;
 use packet::Refusal;
 use packet::Tested;
+use spans::Span;
 
 // The answer on a trace: which of the two policies have it, or the first cause that refuses.
 pub enum TraceChecked {
@@ -70,40 +73,35 @@ fn wide(x: u16) -> usize
     x as usize
 }
 
-// Has the policy the trace? Its state is followed along the trace; count is the packet count.
+// Has the loaded policy the trace? Its state is followed along the trace; count is the packet count.
 // The work list is 0 in its first 16,384 words before, and as it was after.
-fn has_trace(
-    kind: &[u8],
-    first: &[u16],
-    second: &[u16],
+fn follows(
     sizes: &[u16],
     count: u16,
+    nodes: &Nodes,
+    tests: &Tests,
     entering: u16,
     trace: &[u16],
     work: &mut [u32],
 ) -> bool
-    requires { ⌜ FollowReady (now sizes) (asLists (now kind) (now first) (now second)) count entering (now trace) (now work) ⌝ }
-    ensures { λ r. ⌜ Followed (now (sizes .entry)) (asLists (now (kind .entry)) (now (first .entry)) (now (second .entry))) entering (now (trace .entry)) (now (work .entry)) r (now (work .exit)) ⌝ }
+    requires { ⌜ LoadedReady (now sizes) (now nodes) (now tests) count entering (now trace) (now work) ⌝ }
+    ensures { λ r. ⌜ LoadedFollowed (now (sizes .entry)) (now (nodes .entry)) (now (tests .entry)) entering (now (trace .entry)) (now (work .entry)) r (now (work .exit)) ⌝ }
 {
-    let mut masks = [0u32; 512];
-    let mut places = [0u16; 32];
-    let dups = evaluator::prepare(kind, first, second, &mut masks, &mut places);
-    let mut next = [0u32; 1024];
+    let words = packet_set::words_for(wide(count));
+    let mut next = [0u32; 1056];
     let mut state = 1;
     let mut packet = entering;
     let mut i = 0;
     while i < trace.len() {
-        let output = evaluator::step(
-            kind,
-            first,
-            second,
-            &masks,
-            &places[..dups],
-            kind.len() - 1,
+        let mut output = [0u32; 32];
+        engine::step(
+            nodes,
+            tests,
             sizes,
-            count,
             state,
             packet,
+            Span { from: 0, to: 0 },
+            &mut output,
             &mut next,
             work,
         );
@@ -116,8 +114,30 @@ fn has_trace(
         if state == 0 {
             return false;
         }
+        marks::forget(&mut next, words);
     }
     false
+}
+
+// Has the policy the trace? It is loaded, and its state followed; count is the packet count.
+// The work list is 0 in its first 16,384 words before, and as it was after.
+fn has_trace(
+    sizes: &[u16],
+    count: u16,
+    kind: &[u8],
+    first: &[u16],
+    second: &[u16],
+    entering: u16,
+    trace: &[u16],
+    work: &mut [u32],
+) -> bool
+    requires { ⌜ FollowReady (now sizes) (asLists (now kind) (now first) (now second)) count entering (now trace) (now work) ⌝ }
+    ensures { λ r. ⌜ Followed (now (sizes .entry)) (asLists (now (kind .entry)) (now (first .entry)) (now (second .entry))) entering (now (trace .entry)) (now (work .entry)) r (now (work .exit)) ⌝ }
+{
+    let mut nodes = [0u64; 544];
+    let mut tests = [0u32; 8224];
+    loaded::load(sizes, count, kind, first, second, &mut nodes, &mut tests);
+    follows(sizes, count, &nodes, &tests, entering, trace, work)
 }
 
 // The answer from what each policy has.
@@ -169,21 +189,21 @@ pub fn check(
                 Tested::Refused(r) => TraceChecked::Refused(r),
                 Tested::Passed => {
                     let left = has_trace(
+                        sizes,
+                        count,
                         left_kind,
                         left_first,
                         left_second,
-                        sizes,
-                        count,
                         entering,
                         trace,
                         work,
                     );
                     let right = has_trace(
+                        sizes,
+                        count,
                         right_kind,
                         right_first,
                         right_second,
-                        sizes,
-                        count,
                         entering,
                         trace,
                         work,

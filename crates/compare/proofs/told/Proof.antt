@@ -22,13 +22,13 @@ returns : tie.Need-returns
 returns c = told-same _ _ _ _ (c .before .before .before .before .exclusive-or .ensures) _ (c .before .before .lowest-member .ensures) (c .enum-told .given .1)
 
 contains-requires : tie.Need-contains-requires
-contains-requires c κs = apart-small _ _ _ _ (c .before .before .before .before .before .before .exclusive-or .ensures) _ (c .before .before .before .before .lowest-member .ensures) (c .before .before .before .before .before .before .before .before .before .pre) _ (c .before .before .packet .given .1)
+contains-requires c κs = apart-small _ _ _ _ (c .before .before .before .before .before .exclusive-or .ensures) _ (c .before .before .before .lowest-member .ensures) (c .before .before .before .before .before .before .before .before .pre) _ (c .before .packet .given .1)
 
 returns-2 : tie.Need-returns-2
-returns-2 c = told-side _ _ _ _ (c .before .before .before .before .before .before .before .before .exclusive-or .ensures) _ (c .before .before .before .before .before .before .lowest-member .ensures) _ (c .before .before .before .before .packet .given .1) true (sym (c .before .contains .ensures) ∙ c .if1 .taken)
+returns-2 c = told-side _ _ _ _ (c .before .before .before .before .before .before .before .exclusive-or .ensures) _ (c .before .before .before .before .before .lowest-member .ensures) _ (c .before .before .before .packet .given .1) true (sym (c .before .contains .ensures) ∙ c .if1 .taken)
 
 returns-3 : tie.Need-returns-3
-returns-3 c = told-side _ _ _ _ (c .before .before .before .before .before .before .before .before .exclusive-or .ensures) _ (c .before .before .before .before .before .before .lowest-member .ensures) _ (c .before .before .before .before .packet .given .1) false (sym (c .before .contains .ensures) ∙ c .if1 .left)
+returns-3 c = told-side _ _ _ _ (c .before .before .before .before .before .before .before .exclusive-or .ensures) _ (c .before .before .before .before .before .lowest-member .ensures) _ (c .before .before .before .packet .given .1) false (sym (c .before .contains .ensures) ∙ c .if1 .left)
 
 pub told-spec : {M : Type 1} → statement M
 told-spec =

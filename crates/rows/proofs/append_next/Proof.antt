@@ -1,40 +1,53 @@
--- `rows::append_next` meets its contract: a row is appended after another. Assumes nothing.
+-- `rows::append_next` meets its contract: a row is appended after another, and packets without marks have none. Assumes nothing.
 use borrow.Author.Needs.{needs}
 use Prim.Native.Nat.{_≤_, _-_}
 use native.Mathlib.Omega.{arith}
 use Rattle.index.specs.Appending.{lists}
-use Rattle.rows.proofs.Growing.{NextTo, next-none, next-more, next-full, next-all, going-long, lengths-appended, lengths-then}
+use Rattle.marks.proofs.Touched.{walk-asks, passed-over}
+use Rattle.rows.proofs.Growing.{NextTo, next-none, next-skip, next-more, next-full, next-all, going-long, lengths-appended, lengths-then}
 use Rattle.rows.proofs.append_next.Statement.{statement}
 use Rattle.rows.proofs.append_next.Tie as tie
 
 abbrev Inv-loop : tie.InvT-loop
-Inv-loop packets₀ left₀ right₀ parents₀ listed count trees₀ handled lefts rights n₀ packet₀ packets left right parents trees n packet =
-    NextTo (lists packets₀ left₀ right₀ parents₀ trees₀) (lists packets left right parents trees) count n₀ n packet handled lefts rights × (packet ≤ count)
+Inv-loop packets₀ left₀ right₀ parents₀ listed count trees₀ handled next-left next-right set words n₀ packet₀ packets left right parents trees n packet =
+    NextTo (lists packets₀ left₀ right₀ parents₀ trees₀) (lists packets left right parents trees) count n₀ n packet handled next-left next-right × (packet ≤ count)
 
 abbrev μ-loop : tie.MeasureT-loop
-μ-loop packets₀ left₀ right₀ parents₀ listed count trees₀ handled lefts rights n₀ packet₀ packets left right parents trees n packet =
+μ-loop packets₀ left₀ right₀ parents₀ listed count trees₀ handled next-left next-right set words n₀ packet₀ packets left right parents trees n packet =
     count - packet
 
-loop-holds : tie.Need-loop-holds Inv-loop μ-loop
-loop-holds c = (next-none (c .before .before .before .before .before .before .before .pre .0) (c .before .before .before .before .before .before .before .pre .1 .0), omega arith)
+either-requires : tie.Need-either-requires Inv-loop μ-loop
+either-requires c κs = search needs
 
 wide-requires : tie.Need-wide-requires Inv-loop μ-loop
 wide-requires c κs = search needs
 
-mul-t17 : tie.Need-mul-t17 Inv-loop μ-loop
-mul-t17 c = search needs
+words-for-requires : tie.Need-words-for-requires Inv-loop μ-loop
+words-for-requires c κs = search needs
 
-shared-slice-read-t19 : tie.Need-shared-slice-read-t19 Inv-loop μ-loop
-shared-slice-read-t19 c = search needs
+next-marked-requires : tie.Need-next-marked-requires Inv-loop μ-loop
+next-marked-requires c κs = walk-asks (c .before .before .before .before .before .before .before .before .before .pre .1 .1 .0) (c .before .before .before .before .before .before .before .before .before .pre .1 .1 .1) _ (c .before .before .before .either .ensures) (c .before .words-for .ensures) (c .before .before .wide .ensures) (c .before .before .before .before .before .before .before .before .before .pre .1 .1 .2) (omega arith)
 
-mul-t20 : tie.Need-mul-t20 Inv-loop μ-loop
-mul-t20 c = search needs
+loop-holds : tie.Need-loop-holds Inv-loop μ-loop
+loop-holds c = (next-skip (next-none (c .before .before .before .before .before .before .before .before .before .before .pre .0) (c .before .before .before .before .before .before .before .before .before .before .pre .1 .0)) (omega arith) (c .next-marked .ensures .within) (passed-over (c .before .before .before .before .before .before .before .before .before .before .pre .1 .1 .0) (c .before .before .before .before .before .before .before .before .before .before .pre .1 .1 .1) _ (c .before .before .before .before .either .ensures) (c .before .before .before .before .before .before .before .before .before .before .pre .1 .1 .2) (c .next-marked .ensures)), c .next-marked .ensures .within)
 
-shared-slice-read-t22 : tie.Need-shared-slice-read-t22 Inv-loop μ-loop
-shared-slice-read-t22 c = search needs
+wide-requires-2 : tie.Need-wide-requires-2 Inv-loop μ-loop
+wide-requires-2 c κs = search needs
+
+mul-t22 : tie.Need-mul-t22 Inv-loop μ-loop
+mul-t22 c = search needs
+
+element-copy-out-t25 : tie.Need-element-copy-out-t25 Inv-loop μ-loop
+element-copy-out-t25 c = search needs
+
+mul-t26 : tie.Need-mul-t26 Inv-loop μ-loop
+mul-t26 c = search needs
+
+element-copy-out-t29 : tie.Need-element-copy-out-t29 Inv-loop μ-loop
+element-copy-out-t29 c = search needs
 
 append-requires : tie.Need-append-requires Inv-loop μ-loop
-append-requires c κs = ((c .before .before .before .before .before .before .before .before .before .loop .inv .0 .going .indexed), (going-long (c .before .before .before .before .before .before .before .before .before .loop .inv .0 .going), (c .before .before .before .before .before .before .before .before .loop-test .taken)))
+append-requires c κs = (c .before .before .before .before .before .before .before .before .before .loop .inv .0 .going .indexed, (going-long (c .before .before .before .before .before .before .before .before .before .loop .inv .0 .going), c .before .before .before .before .before .before .before .before .loop-test .taken))
 
 enum-known-m : tie.Need-enum-known-m Inv-loop μ-loop
 enum-known-m c = search needs
@@ -58,31 +71,34 @@ same-length-5 : tie.Need-same-length-5 Inv-loop μ-loop
 same-length-5 c = lengths-then (c .before .before .before .before .before .before .before .before .before .before .before .before .before .before .before .before .before .before .before .before .before .before .loop .inv .0 .going .same) (lengths-appended (c .before .before .before .before .before .before .before .before .before .before .before .before .append .ensures)) .trees
 
 returns : tie.Need-returns Inv-loop μ-loop
-returns c = next-full (c .before .before .before .before .before .before .before .before .before .before .before .before .before .before .before .before .before .before .before .before .before .before .loop .inv .0) (c .before .before .before .before .before .before .before .before .before .before .before .before .before .before .before .before .before .before .before .before .before .loop-test .taken) _ (c .before .before .before .before .before .before .before .before .before .before .before .before .before .before .before .before .before .before .before .before .wide .ensures) (c .before .before .before .before .before .before .before .before .before .before .before .before .append .ensures) (c .enum-told .given .1)
+returns c = next-full (c .before .before .before .before .before .before .before .before .before .before .before .before .before .before .before .before .before .before .before .before .before .before .loop .inv .0) (c .before .before .before .before .before .before .before .before .before .before .before .before .before .before .before .before .before .before .before .before .before .loop-test .taken) _ (c .before .before .before .before .before .before .before .before .before .before .before .before .before .before .before .before .before .before .before .before .wide2 .ensures) (c .before .before .before .before .before .before .before .before .before .before .before .before .append .ensures) (c .enum-told .given .1)
 
-add-packet : tie.Need-add-packet Inv-loop μ-loop
-add-packet c = omega (arith, (c .before .before .before .before .before .before .before .before .before .before .before .before .before .before .before .before .before .before .before .before .before .before .loop-test .taken), (c .before .before .before .before .before .before .before .before .before .before .before .before .before .before .before .before .before .before .before .before .before .before .before .before .before .before .before .before .before .before .before .fits .count))
+add-next-marked : tie.Need-add-next-marked Inv-loop μ-loop
+add-next-marked c = omega (arith, c .before .before .before .before .before .before .before .before .before .before .before .before .before .before .before .before .before .before .before .before .before .before .before .loop-test .taken, c .before .before .before .before .before .before .before .before .before .before .before .before .before .before .before .before .before .before .before .before .before .before .before .before .before .before .before .before .before .before .before .before .before .before .before .fits .count)
+
+next-marked-requires-2 : tie.Need-next-marked-requires-2 Inv-loop μ-loop
+next-marked-requires-2 c κs = walk-asks (c .before .before .before .before .before .before .before .before .before .before .before .before .before .before .before .before .before .before .before .before .before .before .before .before .before .before .before .before .before .before .before .before .before .before .before .pre .1 .1 .0) (c .before .before .before .before .before .before .before .before .before .before .before .before .before .before .before .before .before .before .before .before .before .before .before .before .before .before .before .before .before .before .before .before .before .before .before .pre .1 .1 .1) _ (c .before .before .before .before .before .before .before .before .before .before .before .before .before .before .before .before .before .before .before .before .before .before .before .before .before .before .before .before .before .either .ensures) (c .before .before .before .before .before .before .before .before .before .before .before .before .before .before .before .before .before .before .before .before .before .before .before .before .before .before .before .words-for .ensures) (c .before .before .before .before .before .before .before .before .before .before .before .before .before .before .before .before .before .before .before .before .before .before .before .before .before .before .before .before .wide .ensures) (c .before .before .before .before .before .before .before .before .before .before .before .before .before .before .before .before .before .before .before .before .before .before .before .before .before .before .before .before .before .before .before .before .before .before .before .pre .1 .1 .2) (omega (arith, c .before .before .before .before .before .before .before .before .before .before .before .before .before .before .before .before .before .before .before .before .before .before .before .loop-test .taken))
 
 loop-less : tie.Need-loop-less Inv-loop μ-loop
-loop-less c = omega (arith, (c .before .before .before .before .before .before .before .before .before .before .before .before .before .before .before .before .before .before .before .before .before .before .loop-test .taken))
+loop-less c = omega (arith, c .before .before .before .before .before .before .before .before .before .before .before .before .before .before .before .before .before .before .before .before .before .before .before .before .loop-test .taken, c .next-marked2 .ensures .after)
 
 loop-again : tie.Need-loop-again Inv-loop μ-loop
-loop-again c = (next-more (c .before .before .before .before .before .before .before .before .before .before .before .before .before .before .before .before .before .before .before .before .before .before .before .loop .inv .0) (c .before .before .before .before .before .before .before .before .before .before .before .before .before .before .before .before .before .before .before .before .before .before .loop-test .taken) _ (c .before .before .before .before .before .before .before .before .before .before .before .before .before .before .before .before .before .before .before .before .before .wide .ensures) (c .before .before .before .before .before .before .before .before .before .before .before .before .before .append .ensures) _ (c .before .m .given .1), omega (arith, (c .before .before .before .before .before .before .before .before .before .before .before .before .before .before .before .before .before .before .before .before .before .before .loop-test .taken)))
+loop-again c = (next-skip (next-more (c .before .before .before .before .before .before .before .before .before .before .before .before .before .before .before .before .before .before .before .before .before .before .before .before .before .loop .inv .0) (c .before .before .before .before .before .before .before .before .before .before .before .before .before .before .before .before .before .before .before .before .before .before .before .before .loop-test .taken) _ (c .before .before .before .before .before .before .before .before .before .before .before .before .before .before .before .before .before .before .before .before .before .before .before .wide2 .ensures) (c .before .before .before .before .before .before .before .before .before .before .before .before .before .before .before .append .ensures) _ (c .before .before .before .m .given .1)) (c .next-marked2 .ensures .after) (c .next-marked2 .ensures .within) (passed-over (c .before .before .before .before .before .before .before .before .before .before .before .before .before .before .before .before .before .before .before .before .before .before .before .before .before .before .before .before .before .before .before .before .before .before .before .before .pre .1 .1 .0) (c .before .before .before .before .before .before .before .before .before .before .before .before .before .before .before .before .before .before .before .before .before .before .before .before .before .before .before .before .before .before .before .before .before .before .before .before .pre .1 .1 .1) _ (c .before .before .before .before .before .before .before .before .before .before .before .before .before .before .before .before .before .before .before .before .before .before .before .before .before .before .before .before .before .before .either .ensures) (c .before .before .before .before .before .before .before .before .before .before .before .before .before .before .before .before .before .before .before .before .before .before .before .before .before .before .before .before .before .before .before .before .before .before .before .before .pre .1 .1 .2) (c .next-marked2 .ensures)), c .next-marked2 .ensures .within)
 
 same-length-6 : tie.Need-same-length-6 Inv-loop μ-loop
-same-length-6 c = (c .before .loop .inv .0 .going .same .packets)
+same-length-6 c = c .before .loop .inv .0 .going .same .packets
 
 same-length-7 : tie.Need-same-length-7 Inv-loop μ-loop
-same-length-7 c = (c .before .loop .inv .0 .going .same .left)
+same-length-7 c = c .before .loop .inv .0 .going .same .left
 
 same-length-8 : tie.Need-same-length-8 Inv-loop μ-loop
-same-length-8 c = (c .before .loop .inv .0 .going .same .right)
+same-length-8 c = c .before .loop .inv .0 .going .same .right
 
 same-length-9 : tie.Need-same-length-9 Inv-loop μ-loop
-same-length-9 c = (c .before .loop .inv .0 .going .same .parents)
+same-length-9 c = c .before .loop .inv .0 .going .same .parents
 
 same-length-10 : tie.Need-same-length-10 Inv-loop μ-loop
-same-length-10 c = (c .before .loop .inv .0 .going .same .trees)
+same-length-10 c = c .before .loop .inv .0 .going .same .trees
 
 returns-2 : tie.Need-returns-2 Inv-loop μ-loop
 returns-2 c = next-all (c .before .loop .inv .0) (c .before .loop .inv .1) (c .loop-test .left)
@@ -93,12 +109,16 @@ append-next-spec =
     (tie.spec
     Inv-loop
     μ-loop
-    loop-holds
+    either-requires
     wide-requires
-    mul-t17
-    shared-slice-read-t19
-    mul-t20
-    shared-slice-read-t22
+    words-for-requires
+    next-marked-requires
+    loop-holds
+    wide-requires-2
+    mul-t22
+    element-copy-out-t25
+    mul-t26
+    element-copy-out-t29
     append-requires
     enum-known-m
     enum-told
@@ -108,7 +128,8 @@ append-next-spec =
     same-length-4
     same-length-5
     returns
-    add-packet
+    add-next-marked
+    next-marked-requires-2
     loop-less
     loop-again
     same-length-6

@@ -1,0 +1,16 @@
+pub mod Parts
+pub mod Goings
+pub mod Entries
+pub mod Throughs
+pub mod Rounds
+pub mod Remains
+pub mod Closing
+pub mod Tails
+pub mod Climbing
+pub mod Steps
+pub mod Visits
+pub mod Records
+pub mod Leaving
+pub mod Following
+pub mod Stepping
+pub mod Answers

@@ -1,0 +1,167 @@
+-- What follows a dup of a node, from the same of its children.
+use Prim.Native.Nat.{ℕ, zero, suc, _+_, _<_, _≤_}
+use mathlib.Core.List.{List, []}
+use mathlib.Core.Logic.{_⊎_, ⊎-map, ⊎-elim, _↔_}
+use mathlib.Core.Path.{_≡_, refl, sym, ap, subst}
+use native.Mathlib.Nat.{not-suc-le-zero}
+use native.Mathlib.Omega.{arith}
+use Rattle.policy.specs.declared.Node.{Node}
+use Rattle.policy.specs.declared.Node.the-variants.{Drop, Id, Field, Dup, Sum, Seq, Star}
+use Rattle.policy.specs.Legality.{Legal}
+use Rattle.policy.specs.Meaning.{Packets, numbered}
+use Rattle.policy.specs.NodeLists.{NodeLists, nodeCount, nodeAt, children, one, isDup, dupsBelow, grow}
+use Rattle.policy.specs.Tree.{Policy, star}
+use Rattle.policy.proofs.LabelLaws.{dups-more}
+use Rattle.automaton.specs.Remainder.{HasDup}
+use Rattle.automaton.specs.Reaches.{Passes, Reaches}
+use Rattle.automaton.proofs.Words.{Star as Stars, Tr}
+use Rattle.automaton.proofs.Spines.{Meets, meets-iff, Rem, RemMeets}
+use Rattle.loaded.specs.Loaded.{treeOf}
+use Rattle.engine.proofs.Parts.{then-nil, passes-iff, two-kids, one-kid, tree-at}
+
+module _ (sizes : List ℕ) (L : NodeLists) where
+  -- dup i stands in the tree of node n
+  abbrev pub HasAt : ℕ → ℕ → Type 0
+  HasAt n i = HasDup (treeOf L n) i
+
+  -- what remains of node n after its dup i lets β through as γ and records nothing
+  abbrev pub RemPass : ℕ → ℕ → ℕ → ℕ → Type 0
+  RemPass n i β γ = Rem (numbered sizes) (treeOf L n) i β [] γ
+
+  -- from β, what remains of node n after its dup i reaches dup j with γ
+  abbrev pub RemReach : ℕ → ℕ → ℕ → ℕ → ℕ → Type 0
+  RemReach n i j β γ = RemMeets (numbered sizes) (treeOf L n) i j β γ
+
+  -- the same of a node of each kind
+  unfoldable pub HasBy : ℕ → ℕ → Node → Type 0
+  HasBy n i Drop = ⊥
+  HasBy n i Id = ⊥
+  HasBy n i (Field a) = ⊥
+  HasBy n i Dup = i ≡ dupsBelow L (suc n)
+  HasBy n i (Sum x y) = HasAt x i ⊎ HasAt y i
+  HasBy n i (Seq x y) = HasAt x i ⊎ HasAt y i
+  HasBy n i (Star x) = HasAt x i
+
+  unfoldable pub PassBy : ℕ → ℕ → ℕ → ℕ → Node → Type 0
+  PassBy n i β γ Drop = ⊥
+  PassBy n i β γ Id = ⊥
+  PassBy n i β γ (Field a) = ⊥
+  PassBy n i β γ Dup = (i ≡ dupsBelow L (suc n)) × (γ ≡ β)
+  PassBy n i β γ (Sum x y) = RemPass x i β γ ⊎ RemPass y i β γ
+  PassBy n i β γ (Seq x y) = ((μ : ℕ) × RemPass x i β μ × Passes (numbered sizes) (treeOf L y) μ γ) ⊎ RemPass y i β γ
+  PassBy n i β γ (Star x) = (μ : ℕ) × RemPass x i β μ × Passes (numbered sizes) (treeOf L n) μ γ
+
+  unfoldable pub ReachBy : ℕ → ℕ → ℕ → ℕ → ℕ → Node → Type 0
+  ReachBy n i j β γ Drop = ⊥
+  ReachBy n i j β γ Id = ⊥
+  ReachBy n i j β γ (Field a) = ⊥
+  ReachBy n i j β γ Dup = ⊥
+  ReachBy n i j β γ (Sum x y) = RemReach x i j β γ ⊎ RemReach y i j β γ
+  ReachBy n i j β γ (Seq x y) =
+      (RemReach x i j β γ ⊎ ((μ : ℕ) × RemPass x i β μ × Reaches (numbered sizes) (treeOf L y) j μ γ)) ⊎ RemReach y i j β γ
+  ReachBy n i j β γ (Star x) = RemReach x i j β γ ⊎ ((μ : ℕ) × RemPass x i β μ × Reaches (numbered sizes) (treeOf L n) j μ γ)
+
+  -- a label belongs to one dup
+  dups-suc : (n : ℕ) → nodeAt L n ≡ Dup → dupsBelow L (suc n) ≡ dupsBelow L n + 1
+  unfolding dupsBelow isDup one
+  dups-suc n e = rw e
+
+  pub same-label : (m n : ℕ) → nodeAt L m ≡ Dup → nodeAt L n ≡ Dup → dupsBelow L (suc m) ≡ dupsBelow L (suc n) → m ≡ n
+  same-label m n a b e =
+      let not-below : m < n → ⊥ = λ l. omega (arith, dups-suc n b, dups-more L (suc m) n l) in
+      let not-above : n < m → ⊥ = λ l. omega (arith, dups-suc m a, dups-more L (suc n) m l) in
+      omega arith
+
+module _ {sizes : List ℕ} {L : NodeLists} (lg : Legal sizes L) (n : ℕ) (l : n < nodeCount L) where
+  abbrev P : Packets
+  P = numbered sizes
+
+  abbrev label : ℕ
+  label = dupsBelow L (suc n)
+
+  pub has-by : (i : ℕ) (d : Node) → nodeAt L n ≡ d → HasDup (treeOf L n) i ↔ HasBy sizes L n i d
+  unfolding HasBy HasDup grow
+  has-by i d e = subst (λ p. HasDup p i ↔ HasBy sizes L n i d) (sym (tree-at lg n l d e)) (go d)
+    where
+      go : (d : Node) → HasDup (grow (treeOf L) label d) i ↔ HasBy sizes L n i d
+      go Drop = (λ h. h, λ h. h)
+      go Id = (λ h. h, λ h. h)
+      go (Field a) = (λ h. h, λ h. h)
+      go Dup = (λ h. h, λ h. h)
+      go (Sum x y) = (λ h. h, λ h. h)
+      go (Seq x y) = (λ h. h, λ h. h)
+      go (Star x) = (λ h. h, λ h. h)
+
+  pub pass-by : (i β γ : ℕ) (d : Node) → nodeAt L n ≡ d → Rem (numbered sizes) (treeOf L n) i β [] γ ↔ PassBy sizes L n i β γ d
+  unfolding PassBy Rem grow Tr
+  pass-by i β γ d e = go d (tree-at lg n l d e)
+    where
+      by-tree : (p : Policy) (A : Type 0) → treeOf L n ≡ p → Rem P p i β [] γ ↔ A → Rem P (treeOf L n) i β [] γ ↔ A
+      by-tree p A q f = subst (λ r. Rem P r i β [] γ ↔ A) (sym q) f
+
+      go : (d : Node) → treeOf L n ≡ grow (treeOf L) label d → Rem P (treeOf L n) i β [] γ ↔ PassBy sizes L n i β γ d
+      go Drop q = by-tree _ _ q (λ h. h, λ h. h)
+      go Id q = by-tree _ _ q (λ h. h, λ h. h)
+      go (Field a) q = by-tree _ _ q (λ h. h, λ h. h)
+      go Dup q = by-tree _ _ q (λ h. (h .0, h .2), λ h. (h .0, refl, h .1))
+      go (Sum x y) q = by-tree _ _ q (λ h. h, λ h. h)
+      go (Seq x y) q =
+          let k = then-nil P (Rem P (treeOf L x) i) (Tr P (treeOf L y)) β γ in
+          by-tree _ _ q (
+            λ h. ⊎-map (λ t. let s = k .0 t in (s .0, s .1, passes-iff P (treeOf L y) (s .0) γ .1 (s .2))) (λ t. t) h,
+            λ h. ⊎-map (λ s. k .1 (s .0, s .1, passes-iff P (treeOf L y) (s .0) γ .0 (s .2))) (λ t. t) h,
+          )
+      go (Star x) q =
+          let k = then-nil P (Rem P (treeOf L x) i) (Stars P (Tr P (treeOf L x))) β γ in
+          let f : (μ : ℕ) → Passes P (treeOf L n) μ γ ↔ Tr P (star (treeOf L x)) μ [] γ
+          = λ μ. subst (λ r. Passes P r μ γ ↔ Tr P (star (treeOf L x)) μ [] γ) (sym q) (passes-iff P (star (treeOf L x)) μ γ) in
+          by-tree _ _ q (λ h. let s = k .0 h in (s .0, s .1, f (s .0) .1 (s .2)), λ s. k .1 (s .0, s .1, f (s .0) .0 (s .2)))
+
+  pub reach-by : (i j β γ : ℕ) (d : Node) → nodeAt L n ≡ d → RemMeets (numbered sizes) (treeOf L n) i j β γ ↔ ReachBy sizes L n i j β γ d
+  unfolding ReachBy RemMeets grow
+  reach-by i j β γ d e = go d (tree-at lg n l d e)
+    where
+      by-tree : (p : Policy) (A : Type 0) → treeOf L n ≡ p → RemMeets P p i j β γ ↔ A → RemMeets P (treeOf L n) i j β γ ↔ A
+      by-tree p A q f = subst (λ r. RemMeets P r i j β γ ↔ A) (sym q) f
+
+      go : (d : Node) → treeOf L n ≡ grow (treeOf L) label d → RemMeets P (treeOf L n) i j β γ ↔ ReachBy sizes L n i j β γ d
+      go Drop q = by-tree _ _ q (λ h. h, λ h. h)
+      go Id q = by-tree _ _ q (λ h. h, λ h. h)
+      go (Field a) q = by-tree _ _ q (λ h. h, λ h. h)
+      go Dup q = by-tree _ _ q (λ h. h, λ h. h)
+      go (Sum x y) q = by-tree _ _ q (λ h. h, λ h. h)
+      go (Seq x y) q =
+          by-tree _ _ q (
+            λ h. ⊎-map (λ t. ⊎-map (λ s. s) (λ s. (s .0, s .1, meets-iff P (treeOf L y) j (s .0) γ .1 (s .2))) t) (λ t. t) h,
+            λ h. ⊎-map (λ t. ⊎-map (λ s. s) (λ s. (s .0, s .1, meets-iff P (treeOf L y) j (s .0) γ .0 (s .2))) t) (λ t. t) h,
+          )
+      go (Star x) q =
+          let f : (μ : ℕ) → Reaches P (treeOf L n) j μ γ ↔ Meets P (star (treeOf L x)) j μ γ
+          = λ μ. subst (λ r. Reaches P r j μ γ ↔ Meets P (star (treeOf L x)) j μ γ) (sym q) (meets-iff P (star (treeOf L x)) j μ γ) in
+          by-tree _ _ q (
+            λ h. ⊎-map (λ s. s) (λ s. (s .0, s .1, f (s .0) .1 (s .2))) h,
+            λ h. ⊎-map (λ s. s) (λ s. (s .0, s .1, f (s .0) .0 (s .2))) h,
+          )
+
+-- the number of a dup is within those of the lists
+module _ {sizes : List ℕ} {L : NodeLists} (lg : Legal sizes L) where
+  most-on : (n : ℕ) → n < nodeCount L → (i : ℕ) → ((c : ℕ) → c < n → HasAt sizes L c i → i ≤ dupsBelow L (nodeCount L)) → HasAt sizes L n i
+      → i ≤ dupsBelow L (nodeCount L)
+  unfolding HasBy children
+  most-on n l i ih h = go (nodeAt L n) refl (has-by lg n l i (nodeAt L n) refl .0 h)
+    where
+      go : (d : Node) → nodeAt L n ≡ d → HasBy sizes L n i d → i ≤ dupsBelow L (nodeCount L)
+      go Drop e r = absurd r
+      go Id e r = absurd r
+      go (Field a) e r = absurd r
+      go Dup e r = omega (arith, r, dups-more L (suc n) (nodeCount L) l)
+      go (Sum x y) e r = let k = two-kids lg n x y l (ap children e) in ⊎-elim (ih x (k .0)) (ih y (k .1)) r
+      go (Seq x y) e r = let k = two-kids lg n x y l (ap children e) in ⊎-elim (ih x (k .0)) (ih y (k .1)) r
+      go (Star c) e r = ih c (one-kid lg n c l (ap children e)) r
+
+  most : (t n : ℕ) → n < t → n < nodeCount L → (i : ℕ) → HasAt sizes L n i → i ≤ dupsBelow L (nodeCount L)
+  most zero n a l i h = absurd (not-suc-le-zero a)
+  most (suc t) n a l i h = most-on n l i (λ c k. most t c (omega arith) (omega arith) i) h
+
+  pub has-most : (n : ℕ) → n < nodeCount L → (i : ℕ) → HasDup (treeOf L n) i → i ≤ dupsBelow L (nodeCount L)
+  has-most n l i h = most (suc n) n (omega arith) l i h

@@ -1,0 +1,3 @@
+pub mod Going
+pub mod Visiting
+pub mod Stepping

@@ -1,0 +1,120 @@
+// Runs the steps of its input through the engine: the sizes, a policy's kinds, first and second entries, each list after
+// its length, then a state and a packet. It writes the packets of the output, and each packet with the state next there.
+use legality::PolicyAnswer;
+use marks::Next;
+use packet::Counted;
+use packet_set::Lowest;
+use packet_set::PacketSet;
+use spans::Span;
+
+fn output(set: PacketSet) {
+    let mut from: u16 = 0;
+    let mut turns: usize = 0;
+    while turns < 1024 {
+        let Lowest::At(packet) = packet_set::next_member(&set, from, 32) else {
+            return;
+        };
+        harness::space();
+        harness::number(harness::wide(packet));
+        if packet == 65535 {
+            return;
+        }
+        from = packet + 1;
+        turns += 1;
+    }
+}
+
+fn wide(x: u32) -> u64 {
+    x as u64
+}
+
+fn states(next: &Next) {
+    let mut i = 0;
+    while i < 1024 {
+        if next[i] != 0 {
+            harness::space();
+            harness::number(i as u64);
+            io::write_all(1, b":");
+            harness::number(wide(next[i]));
+        }
+        i += 1;
+    }
+}
+
+fn step(sizes: &[u16], kind: &[u8], first: &[u16], second: &[u16], state: u32, packet: u16) {
+    let PolicyAnswer::Legal(_) = legality::policy_legality(sizes, kind, first, second) else {
+        io::write_all(1, b"refused\n");
+        return;
+    };
+    let Counted::Packets(count) = packet::packet_count(sizes) else {
+        return;
+    };
+    if count <= packet {
+        io::write_all(1, b"no packet\n");
+        return;
+    }
+    let mut nodes = [0u64; 544];
+    let mut tests = [0u32; 8224];
+    loaded::load(sizes, count, kind, first, second, &mut nodes, &mut tests);
+    let mut out = [0u32; 32];
+    let mut next = [0u32; 1056];
+    let mut work = [0u32; 16384];
+    engine::step(
+        &nodes,
+        &tests,
+        sizes,
+        state,
+        packet,
+        Span { from: 0, to: 0 },
+        &mut out,
+        &mut next,
+        &mut work,
+    );
+    io::write_all(1, b"output");
+    output(out);
+    io::write_all(1, b", next");
+    states(&next);
+    harness::line_end();
+}
+
+fn one_case(input: &[u8], from: usize) -> usize {
+    let declared = harness::scan_short(input, from);
+    let kinds = harness::scan_long_bytes(input, declared.at);
+    let firsts = harness::scan_long(input, kinds.at);
+    let seconds = harness::scan_long(input, firsts.at);
+    let state = harness::scan(input, seconds.at);
+    let packet = harness::scan(input, state.at);
+    let sizes = declared.numbers;
+    let d = declared.count;
+    let kind = kinds.numbers;
+    let k = kinds.count;
+    let first = firsts.numbers;
+    let f = firsts.count;
+    let second = seconds.numbers;
+    let s = seconds.count;
+    step(
+        &sizes[..d],
+        &kind[..k],
+        &first[..f],
+        &second[..s],
+        state.value,
+        (packet.value % 65536) as u16,
+    );
+    packet.at
+}
+
+fn run(input: &[u8]) {
+    let mut at = harness::next_digit(input, 0);
+    for _ in 0..input.len() {
+        if input.len() <= at {
+            return;
+        }
+        at = harness::next_digit(input, one_case(input, at));
+    }
+}
+
+fn main() {
+    let mut input = io::large_buffer();
+    let n = io::read_full(0, &mut input);
+    run(&input[..n]);
+}

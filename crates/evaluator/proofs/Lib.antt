@@ -1,8 +1,0 @@
-pub mod Images
-pub mod Settling
-pub mod Passing
-pub mod Looping
-pub mod Entering
-pub mod Evaluating
-pub mod Stepping
-pub mod Answering

@@ -1,0 +1,16 @@
+pub mod Packing
+pub mod Bounds
+pub mod Trees
+pub mod Children
+pub mod Flags
+pub mod Upward
+pub mod Labelling
+pub mod Runs
+pub mod Meeting
+pub mod Testing
+pub mod Sums
+pub mod Giving
+pub mod Guarding
+pub mod Writing
+pub mod Meanings
+pub mod Assembly

@@ -1,0 +1,82 @@
+-- The nodes of the lists of a legal policy: their trees and their children.
+use Prim.Native.Nat.{ℕ, suc, _≤_, _<_}
+use mathlib.Core.List.{List}
+use mathlib.Core.Path.{_≡_, refl, sym, ap, ap₂, _∙_, subst}
+use native.Mathlib.Omega.{arith}
+use lib.ListN.{length}
+use Rattle.policy.specs.declared.Node.{Node}
+use Rattle.policy.specs.declared.Node.the-variants.{Drop, Id, Field, Dup, Sum, Seq, Star}
+use Rattle.policy.specs.Legality.{Legal, maxDups}
+use Rattle.policy.specs.NodeLists.{NodeLists, nodeCount, nodeAt, children, dupsBelow, grow, treeAt}
+use Rattle.policy.specs.Tree.{sum, seq, star}
+use Rattle.policy.proofs.EachLaws.{each-map}
+use Rattle.policy.proofs.LabelLaws.{dups-more}
+use Rattle.policy.proofs.Trees.{ChildrenBelow, children-below, tree-fuel, two-below, one-below}
+use Rattle.loaded.specs.Loaded.{treeOf}
+use Rattle.loaded.specs.Loading.{Formed, Placed}
+
+pub legal-formed : (sizes : List ℕ) (L : NodeLists) → Legal sizes L → Formed L
+legal-formed sizes L g = record { sizes = sizes; legal = g }
+
+module _ (L : NodeLists) (f : Formed L) where
+  pub below : ChildrenBelow L
+  below = children-below (f .legal .wellFormed)
+
+  pub few : nodeCount L ≤ 512
+  few = f .legal .wellFormed .few
+
+  pub firsts : length (L .first) ≡ nodeCount L
+  firsts = f .legal .wellFormed .firsts
+
+  pub seconds : length (L .second) ≡ nodeCount L
+  seconds = f .legal .wellFormed .seconds
+
+  pub some : 0 < nodeCount L
+  some = f .legal .some
+
+  -- dups are numbered up to 31
+  pub few-dups : (n : ℕ) → n ≤ nodeCount L → dupsBelow L n < 32
+  unfolding maxDups
+  few-dups n l = let h = dups-more L n (nodeCount L) l in let k = f .legal .wellFormed .dups in omega arith
+
+  module _ (n : ℕ) (l : n < nodeCount L) where
+    pub small : n < 512
+    small = let h = few in omega arith
+
+    -- the children of a node have a place
+    pub placed : Placed (nodeAt L n)
+    unfolding Placed
+    placed = let h = few in each-map (λ c. c < n) (λ c. c < 512) (children (nodeAt L n)) (λ c k. omega arith) (below n l)
+
+    -- a tree by the trees of the children
+    pub tree-grow : treeOf L n ≡ grow (treeOf L) (dupsBelow L (suc n)) (nodeAt L n)
+    unfolding treeOf treeAt grow children
+    tree-grow = go (nodeAt L n) refl
+      where
+        here : (c : ℕ) → c < n → treeAt L n c ≡ treeAt L (suc c) c
+        here c k = tree-fuel L below n (suc c) c k (omega arith) (omega arith)
+
+        go : (d : Node) → nodeAt L n ≡ d → grow (treeAt L n) (dupsBelow L (suc n)) d ≡ grow (treeOf L) (dupsBelow L (suc n)) d
+        go Drop e = refl
+        go Id e = refl
+        go (Field a) e = refl
+        go Dup e = refl
+        go (Sum x y) e = let k = two-below L below n x y l (ap children e) in ap₂ sum (here x (k .0)) (here y (k .1))
+        go (Seq x y) e = let k = two-below L below n x y l (ap children e) in ap₂ seq (here x (k .0)) (here y (k .1))
+        go (Star x) e = let k = one-below L below n x l (ap children e) in ap star (here x k)
+
+    -- the same where the node is known
+    pub tree-of : (d : Node) → nodeAt L n ≡ d → treeOf L n ≡ grow (treeOf L) (dupsBelow L (suc n)) d
+    tree-of d e = tree-grow ∙ ap (grow (treeOf L) (dupsBelow L (suc n))) e
+
+    pub placed-read : (node : Node) → node ≡ nodeAt L n → Placed node
+    placed-read node e = subst Placed (sym e) placed
+
+    pub in-lists : (n < length (L .kind)) × (n < length (L .first)) × (n < length (L .second))
+    unfolding nodeCount
+    in-lists = let h = firsts in let k = seconds in omega arith
+
+  -- an index that the loops read at
+  pub in-reach : (n : ℕ) → n < length (L .kind) → (n < length (L .kind)) × (n < length (L .first)) × (n < length (L .second)) × (n < 512)
+  unfolding nodeCount
+  in-reach n l = let h = firsts in let k = seconds in let q = few in omega arith

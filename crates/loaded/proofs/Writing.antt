@@ -1,0 +1,73 @@
+-- Packed nodes and places are written one after the other.
+use Prim.Native.Nat.{ℕ, _+_, _≤_, _<_}
+use mathlib.Core.List.{List}
+use mathlib.Core.Path.{_≡_, refl, sym, _∙_, subst}
+use native.Mathlib.Decide.{ℕ-discrete}
+use native.Mathlib.Omega.{arith}
+use borrow.Author.Tests.{ltb-false}
+use lib.ListN.{length, getD, set, length-set}
+use lib.Seq.{getD-set-same, getD-set-other}
+use Rattle.policy.specs.Legality.{badKind}
+use Rattle.policy.specs.NodeLists.{NodeLists, nodeCount}
+use Rattle.loaded.specs.Loading.{Formed, packed, Packed, PackedAll, PlacedAll}
+use Rattle.loaded.proofs.Trees.{small}
+
+pub kind-small : (L : NodeLists) → Formed L → (n : ℕ) → n < nodeCount L → getD (L .kind) n 0 ≤ 8
+unfolding badKind
+kind-small L f n l = ltb-false 8 (getD (L .kind) n 0) (f .legal .wellFormed .kinds n l)
+
+-- the first n nodes are packed
+pub record Writing (L : NodeLists) (guards alone labels ups nodes now : List ℕ) (n : ℕ) : Type 0 where
+  pub at : n ≤ nodeCount L
+  pub long : length now ≡ length nodes
+  pub each : (j : ℕ) → j < n → Packed L guards alone labels ups now j
+
+module _ (L : NodeLists) (guards alone labels ups nodes : List ℕ) where
+  pub writing-start : Writing L guards alone labels ups nodes nodes 0
+  writing-start = record { at = omega arith; long = refl; each = λ j h. absurd (omega arith) }
+
+  module _ (now : List ℕ) (n : ℕ) (m : Writing L guards alone labels ups nodes now n) where
+    pub writing-turn : Formed L → length nodes ≡ 544 → n < nodeCount L → (keeps : ℕ) → keeps ≤ 1 → (getD (L .kind) n 0 ≡ 8 → keeps ≡ 1)
+        → (x : ℕ) → x ≡ packed (getD (L .kind) n 0) (getD (L .first) n 0) (getD (L .second) n 0) (getD guards n 0) (getD alone n 0) (getD labels n 0) (getD ups n 0) keeps
+        → Writing L guards alone labels ups nodes (set now n x) (n + 1)
+    writing-turn f w l keeps flag star x e = record { at = omega arith; long = length-set now n x ∙ m .long; each = λ j h. split j h (ℕ-discrete j n) }
+      where
+        split : (j : ℕ) → j < n + 1 → Dec (j ≡ n) → Packed L guards alone labels ups (set now n x) j
+        split j h (yes q) =
+            subst (Packed L guards alone labels ups (set now n x)) (sym q)
+            (record { keeps = keeps; flag = flag; star = star; here = getD-set-same now n x 0 (let s = small L f n l in omega (arith, m .long)) ∙ e })
+        split j h (no q) =
+            let p = m .each j (omega arith) in
+            record { keeps = p .keeps; flag = p .flag; star = p .star; here = getD-set-other now n j x 0 q ∙ p .here }
+
+    pub writing-end : nodeCount L ≤ n → PackedAll L guards alone labels ups nodes now
+    writing-end h = record { long = m .long; each = λ j l. m .each j (omega arith) }
+
+-- i places are written
+pub record Listing (places nodes now : List ℕ) (i : ℕ) : Type 0 where
+  pub at : i ≤ 32
+  pub long : length now ≡ length nodes
+  pub after : (j : ℕ) → j < i → getD now (512 + j) 0 ≡ getD places j 0
+  pub before : (n : ℕ) → n < 512 → getD now n 0 ≡ getD nodes n 0
+
+module _ (places nodes : List ℕ) where
+  pub listing-start : Listing places nodes nodes 0
+  listing-start = record { at = omega arith; long = refl; after = λ j h. absurd (omega arith); before = λ n h. refl }
+
+  module _ (now : List ℕ) (i : ℕ) (m : Listing places nodes now i) where
+    pub listing-turn : length nodes ≡ 544 → i < 32 → (x : ℕ) → x ≡ getD places i 0 → Listing places nodes (set now (512 + i) x) (i + 1)
+    listing-turn w l x e = subst (λ (v : ℕ). Listing places nodes (set now (512 + i) v) (i + 1)) (sym e) (record {
+      at = omega arith;
+      long = length-set now (512 + i) (getD places i 0) ∙ m .long;
+      after = λ j h. split j h (ℕ-discrete j i);
+      before = λ n h. getD-set-other now (512 + i) n (getD places i 0) 0 (omega arith) ∙ m .before n h;
+    })
+      where
+        split : (j : ℕ) → j < i + 1 → Dec (j ≡ i) → getD (set now (512 + i) (getD places i 0)) (512 + j) 0 ≡ getD places j 0
+        split j h (yes e) =
+            subst (λ (x : ℕ). getD (set now (512 + i) (getD places i 0)) (512 + x) 0 ≡ getD places x 0) (sym e)
+            (getD-set-same now (512 + i) (getD places i 0) 0 (omega (arith, m .long)))
+        split j h (no e) = getD-set-other now (512 + i) (512 + j) (getD places i 0) 0 (λ q. e (omega arith)) ∙ m .after j (omega arith)
+
+    pub listing-end : 32 ≤ i → PlacedAll places nodes now
+    listing-end h = record { after = λ j l. m .after j (omega arith); before = m .before }

@@ -1,0 +1,4 @@
+pub mod Nodes
+pub mod Loaded
+pub mod Tests
+pub mod Loading

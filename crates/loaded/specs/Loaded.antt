@@ -1,0 +1,115 @@
+-- What the lists of a loaded policy mean: they stand for the tree of the node lists, node for node.
+use Prim.Native.Nat.{ℕ, suc, pred, _<_, _≤_}
+use mathlib.Core.Bool.{false}
+use mathlib.Core.List.{List, [], _∷_}
+use mathlib.Core.Logic.{_↔_}
+use mathlib.Core.Path.{_≡_}
+use lib.Dec.{T}
+use lib.ListN.{getD}
+use Rattle.packet.specs.Sizes.{product}
+use Rattle.policy.specs.declared.FieldAction.the-variants.{Equals, Differs, Set}
+use Rattle.policy.specs.declared.Node.{Node}
+use Rattle.policy.specs.declared.Node.the-variants.{Drop, Id, Field, Dup, Sum, Seq, Star}
+use Rattle.policy.specs.Meaning.{numbered, Traces}
+use Rattle.policy.specs.NodeLists.{NodeLists, nodeCount, nodeAt, dupsBelow, treeAt}
+use Rattle.policy.specs.Tree.{Policy}
+use Rattle.automaton.specs.Reaches.{Reaches}
+use Rattle.automaton.specs.Remainder.{HasDup}
+use Rattle.loaded.specs.Nodes.{setIn, labelIn, slotIn, readAt, testsAt, upAt, guardAt, placeAt}
+
+-- the tree of node n
+unfoldable pub treeOf : NodeLists → ℕ → Policy
+treeOf L n = treeAt L (suc n) n
+
+-- what comes out of the children of node n goes on where what comes out of n does, but: out of the first part of a sequence at the
+-- sequence, out of the body of a star at the star
+unfoldable pub Linked : List ℕ → ℕ → Node → Type 0
+Linked nodes n Drop = Unit
+Linked nodes n Id = Unit
+Linked nodes n (Field a) = Unit
+Linked nodes n Dup = Unit
+Linked nodes n (Sum l r) = (upAt nodes l ≡ upAt nodes n) × (upAt nodes r ≡ upAt nodes n)
+Linked nodes n (Seq l r) = (upAt nodes l ≡ n) × (upAt nodes r ≡ upAt nodes n)
+Linked nodes n (Star c) = upAt nodes c ≡ n
+
+-- a node that is no tests alone: a change of a field, a dup, a sum, a sequence or a star
+unfoldable pub Moves : Node → Type 0
+Moves Drop = ⊥
+Moves Id = ⊥
+Moves (Field (Equals f v)) = ⊥
+Moves (Field (Differs f v)) = ⊥
+Moves (Field (Set f v)) = Unit
+Moves Dup = Unit
+Moves (Sum l r) = Unit
+Moves (Seq l r) = Unit
+Moves (Star c) = Unit
+
+unfoldable pub KeepsSlot : List ℕ → ℕ → Node → Type 0
+KeepsSlot nodes n Drop = Unit
+KeepsSlot nodes n Id = Unit
+KeepsSlot nodes n (Field a) = Unit
+KeepsSlot nodes n Dup = Unit
+KeepsSlot nodes n (Sum l r) = Unit
+KeepsSlot nodes n (Seq l r) = Unit
+KeepsSlot nodes n (Star c) = T (slotIn (getD nodes n 0))
+
+-- the way up from node n ends, or leads to a node above that is no tests alone
+pub data Rises (L : NodeLists) (nodes : List ℕ) (n : ℕ) : Type 0 where
+  ends : upAt nodes n ≡ 512 → Rises L nodes n
+  rises : n < upAt nodes n → upAt nodes n < nodeCount L → testsAt nodes (upAt nodes n) ≡ false → Rises L nodes n
+
+-- node v is the dup with number i
+pub record DupAt (L : NodeLists) (nodes : List ℕ) (i v : ℕ) : Type 0 where
+  pub within : v < nodeCount L
+  pub isDup : nodeAt L v ≡ Dup
+  pub numbered : i ≡ dupsBelow L (suc v)
+  pub moves : testsAt nodes v ≡ false
+
+module _ (sizes : List ℕ) (L : NodeLists) (nodes tests : List ℕ) where
+  -- a packet from which the policy has a trace, or reaches a dup, passes its guard
+  pub record Guarded (n : ℕ) : Type 0 where
+    pub passing : (α : ℕ) → α < product sizes → (t : List ℕ) → Traces (numbered sizes) (treeOf L n) α t → T (guardAt nodes tests n α)
+    pub reaching : (α : ℕ) → α < product sizes → (i γ : ℕ) → Reaches (numbered sizes) (treeOf L n) i α γ → T (guardAt nodes tests n α)
+
+  -- a policy made of tests alone: from a packet of its set the packet itself is the one trace, from any other there is none
+  pub record OnlyTests (n : ℕ) : Type 0 where
+    pub traces : (α : ℕ) → α < product sizes → (t : List ℕ) → Traces (numbered sizes) (treeOf L n) α t ↔ (T (guardAt nodes tests n α) × (t ≡ α ∷ []))
+    -- and there is no dup in it
+    pub dupless : (i : ℕ) → HasDup (treeOf L n) i → ⊥
+
+  -- a node that may be entered: if it is tests alone, its set is worked out
+  unfoldable pub Enterable : ℕ → Type 0
+  Enterable n = T (testsAt nodes n) → OnlyTests n
+
+  -- the children of a node may be entered
+  unfoldable pub Enters : Node → Type 0
+  Enters Drop = Unit
+  Enters Id = Unit
+  Enters (Field a) = Unit
+  Enters Dup = Unit
+  Enters (Sum l r) = Enterable l × Enterable r
+  Enters (Seq l r) = Enterable l × Enterable r
+  Enters (Star c) = Enterable c
+
+  -- what a visit asks of a node that is no tests alone
+  pub record Moving (n : ℕ) : Type 0 where
+    pub moves : Moves (nodeAt L n)
+    pub linked : Linked nodes n (nodeAt L n)
+    pub slotted : KeepsSlot nodes n (nodeAt L n)
+    pub enters : Enters (nodeAt L n)
+    pub guarded : Guarded n
+    pub label : nodeAt L n ≡ Dup → labelIn (getD nodes n 0) ≡ dupsBelow L (suc n)
+
+  -- the loaded policy
+  pub record Loaded : Type 0 where
+    pub node : (n : ℕ) → n < nodeCount L → readAt nodes n ≡ nodeAt L n
+    pub small : (n : ℕ) → n < nodeCount L → setIn (getD nodes n 0) ≤ 256
+    pub moving : (n : ℕ) → n < nodeCount L → testsAt nodes n ≡ false → Moving n
+    pub rise : (n : ℕ) → n < nodeCount L → Rises L nodes n
+    -- the root
+    pub root : Enterable (pred (nodeCount L))
+    pub last : upAt nodes (pred (nodeCount L)) ≡ 512
+    -- remainder 0 is the whole policy, remainder i follows dup i
+    pub whole : placeAt nodes 0 ≡ pred (nodeCount L)
+    pub placed : (i : ℕ) → 0 < i → i ≤ dupsBelow L (nodeCount L) → DupAt L nodes i (placeAt nodes i)
+    pub absent : (i : ℕ) → dupsBelow L (nodeCount L) < i → i < 32 → placeAt nodes i ≡ 512

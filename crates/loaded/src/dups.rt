@@ -1,0 +1,77 @@
+// The numbers of the dups and the places of the remainders.
+ghost use Prim.Native.Nat.{_+_, _<_};
+ghost use mathlib.Core.Path.{_≡_};
+ghost use Rattle.policy.specs.AsLists.{asLists};
+ghost use Rattle.policy.specs.NodeLists.{isDup, one};
+ghost use Rattle.loaded.specs.Loading.{Formed, Labels, placed, Places};
+use policy::Node;
+
+// Inner. The number of the dups up to and with a node, where there are d before it.
+fn label_after(node: Node, d: u16) -> u16
+    requires { ⌜ d < 32 ⌝ }
+    ensures { λ r. ⌜ r ≡ d + one (isDup node) ⌝ }
+{
+    match node {
+        Node::Dup => d + 1,
+        Node::Drop => d,
+        Node::Id => d,
+        Node::Field(_) => d,
+        Node::Sum(_, _) => d,
+        Node::Seq(_, _) => d,
+        Node::Star(_) => d,
+    }
+}
+
+// Inner. How many dups there are up to and with each node.
+pub fn labels_of(kind: &[u8], first: &[u16], second: &[u16]) -> [u16; 512]
+    requires { ⌜ Formed (asLists (now kind) (now first) (now second)) ⌝ }
+    ensures { λ r. ⌜ Labels (asLists (now (kind .entry)) (now (first .entry)) (now (second .entry))) r ⌝ }
+{
+    let mut labels = [0u16; 512];
+    let mut d: u16 = 0;
+    let mut n = 0;
+    while n < kind.len() {
+        d = label_after(policy::lent::node_at(kind, first, second, n), d);
+        labels[n] = d;
+        n += 1;
+    }
+    labels
+}
+
+// Inner. A dup is put at the place of its number.
+fn put(node: Node, label: u16, n: usize, places: &mut [u16; 32])
+    requires { ⌜ (label < 32) × (n < 512) ⌝ }
+    ensures { λ _. ⌜ now (places .exit) ≡ placed label n (now (places .entry)) node ⌝ }
+{
+    match node {
+        Node::Dup => {
+            places[label as usize] = n as u16;
+        }
+        Node::Drop => {}
+        Node::Id => {}
+        Node::Field(_) => {}
+        Node::Sum(_, _) => {}
+        Node::Seq(_, _) => {}
+        Node::Star(_) => {}
+    }
+}
+
+// Inner. The places of the remainders.
+pub fn places_of(kind: &[u8], first: &[u16], second: &[u16], labels: &[u16; 512]) -> [u16; 32]
+    requires { ⌜ Formed (asLists (now kind) (now first) (now second)) × Labels (asLists (now kind) (now first) (now second)) (now labels) ⌝ }
+    ensures { λ r. ⌜ Places (asLists (now (kind .entry)) (now (first .entry)) (now (second .entry))) r ⌝ }
+{
+    let mut places = [512u16; 32];
+    places[0] = (kind.len() - 1) as u16;
+    let mut n = 0;
+    while n < kind.len() {
+        put(
+            policy::lent::node_at(kind, first, second, n),
+            labels[n],
+            n,
+            &mut places,
+        );
+        n += 1;
+    }
+    places
+}

@@ -1,0 +1,4 @@
+pub mod Rewriting
+pub mod Sets
+pub mod Slots
+pub mod Marks
