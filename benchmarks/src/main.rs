@@ -1,14 +1,17 @@
 //! Times the verified library, through the C interface, against the second implementation, called directly, in one run;
 //! that both give the same answers and leave the same in every list is tested first.
 //!
-//! `benchmarks` prints a table. `--write FOLDER --date DATE` also writes BENCHMARKS.md and benchmarks.svg there. `--quick`
-//! runs each benchmark once, hostile tables shorter, and times nothing.
+//! `benchmarks` prints a table of the fixed benchmarks and what a sweep of random pairs comes to. `--write FOLDER --date DATE`
+//! also writes BENCHMARKS.md and benchmarks.svg there. `--quick` runs each benchmark once, hostile tables shorter, and times
+//! nothing.
 
+mod before;
 mod clock;
 mod measure;
 mod plot;
 mod report;
 mod tables;
+mod traces;
 mod workload;
 
 use std::env;
@@ -17,7 +20,7 @@ use std::path::PathBuf;
 use std::process::ExitCode;
 use std::thread;
 
-use measure::Measured;
+use measure::{Measured, Pace};
 use report::Circumstances;
 use workload::Extent;
 
@@ -42,21 +45,41 @@ fn options() -> Option<Options> {
     (options.folder.is_some() == options.date.is_some()).then_some(options)
 }
 
+/// The fixed benchmarks, and the random pairs.
+#[derive(Default)]
+struct Run {
+    fixed: Vec<Measured>,
+    sweep: Vec<Measured>,
+}
+
 /// Compares the answers of all benchmarks, and times them unless quick.
-fn run(quick: bool) -> Vec<Measured> {
-    let extent = if quick { Extent::Quick } else { Extent::Full };
-    let mut measured = Vec::new();
-    for benchmark in workload::benchmarks(extent) {
-        let compared = measure::compared(benchmark);
-        if quick {
+fn run(quick: bool) -> Run {
+    let mut run = Run::default();
+    if quick {
+        for benchmark in workload::benchmarks(Extent::Quick) {
+            let compared = measure::compared(benchmark);
             println!("{}: {}", compared.benchmark.title(), compared.answer);
-        } else {
-            let timed = compared.timed();
-            eprintln!("{}", report::progress(&timed));
-            measured.push(timed);
         }
+        let swept: Vec<String> = workload::sweep()
+            .map(|pair| measure::compared(pair).answer)
+            .collect();
+        println!(
+            "random sweep: {}",
+            measure::tally(swept.iter().map(String::as_str))
+        );
+        return run;
     }
-    measured
+    let benchmarks = workload::benchmarks(Extent::Full);
+    before::test(&benchmarks);
+    for benchmark in benchmarks {
+        let timed = measure::compared(benchmark).timed(&Pace::FIXED);
+        eprintln!("{}", report::progress(&timed));
+        run.fixed.push(timed);
+    }
+    run.sweep = workload::sweep()
+        .map(|pair| measure::compared(pair).timed(&Pace::SWEEP).slim())
+        .collect();
+    run
 }
 
 /// Load average over the last minute, where the system says it.
@@ -82,8 +105,8 @@ fn main() -> ExitCode {
     let worker = thread::Builder::new()
         .stack_size(netkat::STACK)
         .spawn(move || run(options.quick));
-    let measured = match worker.map(thread::JoinHandle::join) {
-        Ok(Ok(measured)) => measured,
+    let Run { fixed, sweep } = match worker.map(thread::JoinHandle::join) {
+        Ok(Ok(run)) => run,
         _ => {
             eprintln!("benchmarks: broken off");
             return ExitCode::FAILURE;
@@ -92,7 +115,7 @@ fn main() -> ExitCode {
     if options.quick {
         return ExitCode::SUCCESS;
     }
-    print!("{}", report::table(&measured));
+    print!("{}\n{}", report::table(&fixed), report::sweep(&sweep));
     let (folder, date) = match (options.folder, options.date) {
         (Some(folder), Some(date)) => (folder, date),
         _ => return ExitCode::SUCCESS,
@@ -101,9 +124,9 @@ fn main() -> ExitCode {
     let files = [
         (
             "BENCHMARKS.md",
-            report::document(&measured, &Circumstances { date, load, cores }),
+            report::document(&fixed, &sweep, &Circumstances { date, load, cores }),
         ),
-        ("benchmarks.svg", plot::svg(&measured)),
+        ("benchmarks.svg", plot::svg(&fixed)),
     ];
     for (name, contents) in files {
         if let Err(error) = fs::write(folder.join(name), contents) {

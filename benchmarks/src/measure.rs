@@ -6,16 +6,34 @@ use netkat_reference::answer::Numbers;
 use netkat_reference::case::Case;
 
 use crate::clock;
+use crate::report::thousands;
 use crate::workload::Benchmark;
 
-/// Rounds of each benchmark, unless they take too long.
-pub const ROUNDS: usize = 7;
+/// How much time is given to a benchmark.
+pub struct Pace {
+    /// Rounds, unless they take too long.
+    pub rounds: usize,
+    /// What one side of a round should take at least; short calls are repeated.
+    span: Duration,
+}
+
+impl Pace {
+    /// Of the fixed benchmarks.
+    pub const FIXED: Pace = Pace {
+        rounds: 7,
+        span: Duration::from_millis(20),
+    };
+    /// Of each random pair: there are many.
+    pub const SWEEP: Pace = Pace {
+        rounds: 3,
+        span: Duration::from_millis(2),
+    };
+}
+
 /// Rounds of one that takes long.
 const LEAST_ROUNDS: usize = 2;
 /// How long the rounds of one benchmark may take before no more than the least are run.
 const PATIENCE: Duration = Duration::from_secs(12);
-/// What one side of a round should take at least; short calls are repeated.
-const SPAN: Duration = Duration::from_millis(20);
 
 /// One of the two that are timed.
 type Runner = fn(&mut Case) -> Numbers;
@@ -58,6 +76,12 @@ impl Measured {
         self.library / self.second
     }
 
+    /// Without its calls, whose lists are long.
+    pub fn slim(mut self) -> Measured {
+        self.compared.benchmark.cases.clear();
+        self
+    }
+
     /// Microseconds for each row handled: library, second implementation.
     pub fn per_row(&self) -> Option<(f64, f64)> {
         let rows = self.compared.handled? as f64;
@@ -85,10 +109,7 @@ pub fn compared(benchmark: Benchmark) -> Compared {
         [answer] => answer.clone(),
         _ => {
             (rows, handled) = (None, None);
-            let equal = answers.iter().filter(|a| *a == "equal").count();
-            let refused = answers.iter().filter(|a| a.starts_with("refused")).count();
-            let different = answers.len() - equal - refused;
-            format!("{equal} equal, {different} different, {refused} refused")
+            tally(answers.iter().map(String::as_str))
         }
     };
     Compared {
@@ -98,6 +119,19 @@ pub fn compared(benchmark: Benchmark) -> Compared {
         handled,
         once,
     }
+}
+
+/// How many searches end how.
+pub fn tally<'a>(answers: impl Iterator<Item = &'a str>) -> String {
+    let (mut equal, mut different, mut refused) = (0, 0, 0);
+    for answer in answers {
+        match answer {
+            "equal" => equal += 1,
+            _ if answer.starts_with("refused") => refused += 1,
+            _ => different += 1,
+        }
+    }
+    format!("{equal} equal, {different} different, {refused} refused")
 }
 
 /// One call with the seconds that it took.
@@ -126,7 +160,17 @@ fn rows_of(case: &Case, answer: Numbers) -> (Option<usize>, Option<usize>) {
 fn in_words(case: &Case, answer: Numbers) -> String {
     match (case, answer) {
         (_, [9, number, ..]) => format!("refused by {number}"),
-        (_, [5, rule, ..]) => format!("rejected by ({})", ["a", "b", "c", "d"][rule as usize - 1]),
+        (Case::Trace { .. }, [holders, ..]) => {
+            format!(
+                "of {}",
+                ["left", "right", "both", "neither"][holders as usize - 1]
+            )
+        }
+        (_, [5, 2, ..]) => "rejected by (b)".to_string(),
+        (_, [5, rule, row, ..]) => {
+            let rule = ["a", "b", "c", "d"][rule as usize - 1];
+            format!("rejected by ({rule}), row {}", thousands(row as usize))
+        }
         (Case::Read { .. }, [0, nodes, ..]) => format!("{nodes} nodes"),
         (Case::Evidence { .. }, _) => "accepted".to_string(),
         (_, [0, ..]) => "equal".to_string(),
@@ -152,20 +196,21 @@ fn seconds(cases: &mut [Case], runner: Runner, times: u32) -> f64 {
 }
 
 /// How often to run calls that take so long.
-fn times(once: f64) -> u32 {
-    (SPAN.as_secs_f64() / once).ceil().clamp(1.0, 10_000.0) as u32
+fn times(span: Duration, once: f64) -> u32 {
+    (span.as_secs_f64() / once).ceil().clamp(1.0, 10_000.0) as u32
 }
 
 impl Compared {
     /// Times both sides by turns.
-    pub fn timed(self) -> Measured {
+    pub fn timed(self, pace: &Pace) -> Measured {
         let mut here = self.benchmark.cases.clone();
         let mut there = here.clone();
         let begun = Instant::now();
-        let (library_times, second_times) = (times(self.once.0), times(self.once.1));
+        let (library_times, second_times) =
+            (times(pace.span, self.once.0), times(pace.span, self.once.1));
         let mut best = (f64::INFINITY, f64::INFINITY);
         let mut spread = (f64::INFINITY, 0.0f64);
-        for round in 0..ROUNDS {
+        for round in 0..pace.rounds {
             if round >= LEAST_ROUNDS && begun.elapsed() > PATIENCE {
                 break;
             }

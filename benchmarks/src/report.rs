@@ -2,7 +2,8 @@
 
 use std::fmt::Write;
 
-use crate::measure::{Measured, ROUNDS};
+use crate::before;
+use crate::measure::{tally, Measured, Pace};
 use crate::workload::Group;
 
 /// A positive number to three significant digits, but no fewer than all before the point.
@@ -34,19 +35,20 @@ pub fn progress(measured: &Measured) -> String {
     )
 }
 
-const HEADS: [&str; 9] = [
+const HEADS: [&str; 10] = [
     "Group",
     "Benchmark",
     "Answer",
     "Rows",
     "Library, ms",
     "Second, ms",
+    "Ratio before",
     "Ratio",
     "of the rounds",
     "µs a row, library / second",
 ];
 
-fn cells(measured: &Measured) -> [String; 9] {
+fn cells(measured: &Measured) -> [String; 10] {
     let compared = &measured.compared;
     let per_row = measured
         .per_row()
@@ -58,6 +60,9 @@ fn cells(measured: &Measured) -> [String; 9] {
         compared.rows.map(thousands).unwrap_or_default(),
         digits(measured.library * 1e3),
         digits(measured.second * 1e3),
+        before::ratio(&compared.benchmark)
+            .map(digits)
+            .unwrap_or_default(),
         digits(measured.ratio()),
         format!(
             "{}–{}",
@@ -70,7 +75,7 @@ fn cells(measured: &Measured) -> [String; 9] {
 
 /// The Markdown table, padded so that it reads in a terminal too.
 pub fn table(measured: &[Measured]) -> String {
-    let rows: Vec<[String; 9]> = measured.iter().map(cells).collect();
+    let rows: Vec<[String; 10]> = measured.iter().map(cells).collect();
     let width = |column: usize| {
         let cells = rows.iter().map(|row| row[column].chars().count());
         cells
@@ -111,15 +116,45 @@ fn mean(ratios: &[f64]) -> f64 {
     (ratios.iter().map(|ratio| ratio.ln()).sum::<f64>() / ratios.len() as f64).exp()
 }
 
+/// The means of the benchmarks that were run before.
+fn since_before(measured: &[Measured]) -> String {
+    let ratios = measured.iter().filter_map(|one| {
+        let before = before::ratio(&one.compared.benchmark)?;
+        Some((before, one.ratio()))
+    });
+    let (before, now): (Vec<f64>, Vec<f64>) = ratios.unzip();
+    format!(
+        "Of the {} that were run before, it was {} then and is {} now.\n",
+        now.len(),
+        digits(mean(&before)),
+        digits(mean(&now))
+    )
+}
+
+/// The random pairs in one line.
+pub fn sweep(measured: &[Measured]) -> String {
+    let ratios: Vec<f64> = measured.iter().map(Measured::ratio).collect();
+    let slower = ratios.iter().filter(|&&ratio| ratio > 1.0).count();
+    format!(
+        "Random sweep, {} pairs ({}): geometric mean {}, from {} to {}; the library is slower on {slower}.\n",
+        ratios.len(),
+        tally(measured.iter().map(|one| one.compared.answer.as_str())),
+        digits(mean(&ratios)),
+        digits(ratios.iter().copied().fold(f64::INFINITY, f64::min)),
+        digits(ratios.iter().copied().fold(0.0, f64::max)),
+    )
+}
+
 /// Where the library is slower and by how much, from the numbers.
 fn comparison(measured: &[Measured]) -> String {
     let ratios: Vec<f64> = measured.iter().map(Measured::ratio).collect();
     let slower = ratios.iter().filter(|&&ratio| ratio > 1.0).count();
     let mut text = format!(
         "The library is slower than the second implementation on {slower} of {} benchmarks; the geometric mean of the \
-         ratios is {}.\nBy group:\n\n",
+         ratios is {}.\n{}By group:\n\n",
         ratios.len(),
-        digits(mean(&ratios))
+        digits(mean(&ratios)),
+        since_before(measured)
     );
     let mut names: Vec<&str> = Vec::new();
     for one in measured {
@@ -221,8 +256,13 @@ pub struct Circumstances {
 }
 
 /// BENCHMARKS.md.
-pub fn document(measured: &[Measured], circumstances: &Circumstances) -> String {
+pub fn document(
+    measured: &[Measured],
+    swept: &[Measured],
+    circumstances: &Circumstances,
+) -> String {
     let Circumstances { date, load, cores } = circumstances;
+    let rounds = Pace::FIXED.rounds;
     format!(
         "\
 # Benchmarks
@@ -231,9 +271,11 @@ Run on {date} by `tools/benchmarks`, which writes this file and the plot anew; {
 the run. Where that is far from 0 other work ran beside it, and the numbers are rough.
 
 The verified library, called through the C interface, against the second implementation (`reference/`), called directly:
-in one run and by turns, up to {ROUNDS} rounds, fewer where one takes seconds. Times are processor times, the best of the
+in one run and by turns, up to {rounds} rounds, fewer where one takes seconds. Times are processor times, the best of the
 rounds; the ratio is that of the best times, and beside it stand the lowest and the highest ratio of a round. A ratio over 1
-says that the library is slower. Before anything is timed, both must give the same answer and leave the same in every list.
+says that the library is slower; the ratio before is that of the last run published before the library compiled policies,
+and empty where the benchmark is newer. Before anything is timed, both must give the same answer and leave the same in every
+list.
 
 ![Ratios, and time per row](benchmarks.svg)
 
@@ -241,6 +283,7 @@ says that the library is slower. Before anything is timed, both must give the sa
 ## Where the library is slower
 
 {comparison}
+{sweep}
 {WHY}
 ## Time per row
 
@@ -251,6 +294,7 @@ says that the library is slower. Before anything is timed, both must give the sa
 {WHAT}",
         table = table(measured),
         comparison = comparison(measured),
+        sweep = sweep(swept),
         flatness = flatness(measured),
     )
 }
@@ -258,11 +302,15 @@ says that the library is slower. Before anything is timed, both must give the sa
 const WHY: &str = "\
 What is known of the causes, from how the two are built and from profiles of some searches:
 
-- The second implementation compiles a policy to a graph once and remembers what each remainder does at each packet; a
-  state's step is then a union of remembered ones. The library works each step out anew from the nodes, and keeps nothing
-  but the rows and their index. This should tell most where many rows share few remainders and packets, as in the groups
-  rows and evidence, and least where each step is new to both, as in nondet. In a profile of many rows seven tenths of
-  the library's time go into sets on their way through the nodes; of many dups, nine tenths into marking next, packet by packet.
+- Both compile each policy once a call. The library then works a state's step out one remainder at a time, by packet sets,
+  and remembers no step: it keeps nothing but the compiled policies, the rows and their index. The second implementation
+  remembers what each remainder does at each packet; a state's step is then a union of remembered ones. So it still wins
+  where many rows share few remainders and packets, as in many states and many rows.
+- The library changes a field of a set packet by packet, with two divisions for each. In a profile of nondet, where large sets
+  meet many changes, nearly all of its time goes there; of many rows, nearly eight tenths.
+- Each search and each check of a table begins with setting the library's index to 0, 384 KiB, and with loading both policies;
+  each check of a trace with loading. Calls that have little else to do pay for that: in a profile of a search of one row nine
+  tenths of the time go into setting memory to 0.
 - The second implementation's index is seeded at random. The library's is fixed, so a stranger can choose rows that share a
   bucket; the rows of a bucket make a tree, and a lookup passes at most 64 of them.
 - The second implementation's reader makes a list of tokens. The library's keeps none: it goes over a legal text four
@@ -284,15 +332,24 @@ const WHAT: &str = "\
 - networks: shortest-path forwarding by destination on a ring and on a binary tree, as large as 512 nodes allow: one
   switch reachable from another; all paths recorded, with the rules in two orders; two slices side by side, isolated, and
   with a leak from one to the other.
-- heavy pairs: 500 nested stars; 31 dups and 1,024 packets, each next to each; a window over recorded packets.
+- heavy pairs: 500 nested stars; 31 dups and 1,024 packets, each next to each; 31 dups under one star, each followed by a
+  change or a test of its own, against the summands in reverse order; a window over recorded packets.
+- small: searches of one to ten rows, with one field and 16 rows lent, and one that ends at the first row, on policies of
+  several hundred nodes. A call takes microseconds: some hundred are timed together, and the time is that of one.
 - rows: cycles (271 packets, 241 pairs of states, one next row a row) and many states (two packets, two next rows a
   row), with 1,000 to 65,535 rows lent. Where the lists are too short the answer is refusal 11.
-- evidence: a table of 65,535 rows in row order, reversed, shuffled, and with its last row missing; then tables of 65,535
-  rows as a stranger may send them: nearly all rows at one packet of 1,024; the same chosen to share a bucket of the
+- evidence: a table of 65,535 rows in row order, reversed, shuffled, and with its last row missing; tables of 10, 364 and
+  65,535 rows that are rejected at their first row, the two shorter ones of policies of several hundred nodes; then tables of
+  65,535 rows as a stranger may send them: nearly all rows at one packet of 1,024; the same chosen to share a bucket of the
   library's index, and the bits by which its tree branches first; one such row repeated, after others that a lookup passes;
   one row with 1,024 next rows repeated.
+- traces: checks of a trace of one packet on a ring of 14, of the trace that the search finds for the leak in a tree of 15,
+  and of the 256 packets of a counter of eight bits, unrolled once and twice; the last with a test that one of the two fails.
 - text: one call of the reader on 1,048,576 bytes. A legal text has at most 512 nodes, so the legal one is mostly
   parentheses and blanks; the others are refused at their end.
 - forty checks: texts checked one after the other, with 4,096 rows lent: document 01's pairs, the networks, and random
   pairs.
+- random sweep: pairs of random policies from a fixed seed, made as for the comparison of library and second implementation
+  but none damaged, each searched by both with 65,535 rows lent. They have one to 1,024 packets and mostly fewer than 120
+  nodes; the right policy is mostly the left one rewritten by laws of NetKAT.
 ";

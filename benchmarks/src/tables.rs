@@ -3,6 +3,7 @@
 use netkat_reference::answer::Verdict;
 use netkat_reference::case::Case;
 use netkat_reference::generate::heavy::{self, Pair};
+use netkat_reference::generate::network;
 use netkat_reference::random::Random;
 use netkat_reference::search::{self, Lists, LEAST_WORK, MOST_ROWS};
 
@@ -44,6 +45,7 @@ fn evidence(name: &str, pair: &Pair, rows: &[Row]) -> Benchmark {
 /// All tables, the friendly one first.
 pub fn benchmarks(extent: Extent) -> Vec<Benchmark> {
     let mut all = orders();
+    all.extend(rejected_at_first());
     all.extend(stars(extent));
     all.push(costly_repeats(extent));
     all
@@ -68,6 +70,36 @@ fn orders() -> Vec<Benchmark> {
         evidence("shuffled", &pair, &shuffled),
         evidence("rejected at its last row", &pair, &lacking),
     ]
+}
+
+/// Tables that are good but for their first row: what is paid before any row is looked at.
+fn rejected_at_first() -> Vec<Benchmark> {
+    let few = heavy::all_but_first();
+    let starts: Vec<Row> = (0..few.sizes[0]).map(|packet| (packet, 1, 1)).collect();
+    let ring = network::ring(14).rule_orders();
+    let full = heavy::full_table();
+    vec![
+        evidence("rejected at the first of 10 rows", &few, &starts),
+        evidence(
+            "rejected at the first of 364 rows",
+            &ring,
+            &first_lacking(&ring),
+        ),
+        evidence(
+            "rejected at the first of 65,535 rows",
+            &full,
+            &first_lacking(&full),
+        ),
+    ]
+}
+
+/// The row order with the last row's parent first, and a repeat of that instead of the last row.
+fn first_lacking(pair: &Pair) -> Vec<Row> {
+    let (mut rows, parent) = row_order(pair);
+    rows.swap(0, parent);
+    let last = rows.len() - 1;
+    rows[last] = rows[0];
+    rows
 }
 
 /// The star of 31 dups: whatever is marked, every dup is marked next. So all rows whose states are not 0 keep the rules,

@@ -1,6 +1,7 @@
 //! What is timed.
 
 use netkat_reference::case::Case;
+use netkat_reference::generate::cases;
 use netkat_reference::generate::heavy::{self, Pair};
 use netkat_reference::generate::tree;
 use netkat_reference::policy::{OwnedLists, MOST_NODES};
@@ -10,6 +11,7 @@ use netkat_reference::text;
 
 use crate::report::thousands;
 use crate::tables;
+use crate::traces;
 
 /// How much is run.
 #[derive(Clone, Copy, Debug, PartialEq, Eq)]
@@ -55,14 +57,20 @@ pub enum Group {
     Networks,
     /// Nested stars, and the other pairs that cost much.
     Heavy,
+    /// Searches of one to ten rows.
+    Small,
     /// Searches of the same pair with more and more rows lent, by the pair's name.
     Rows(&'static str),
     /// Evidence tables.
     Evidence,
+    /// Traces checked.
+    Traces,
     /// Long texts.
     Text,
     /// Checks one after the other.
     Checks,
+    /// Random pairs.
+    Sweep,
 }
 
 impl Group {
@@ -72,10 +80,13 @@ impl Group {
             Group::Combinatorial => "combinatorial",
             Group::Networks => "networks",
             Group::Heavy => "heavy pairs",
+            Group::Small => "small",
             Group::Rows(_) => "rows",
             Group::Evidence => "evidence",
+            Group::Traces => "traces",
             Group::Text => "text",
             Group::Checks => "forty checks",
+            Group::Sweep => "random sweep",
         }
     }
 }
@@ -116,8 +127,10 @@ pub fn benchmarks(extent: Extent) -> Vec<Benchmark> {
     all.extend(searches(Group::Networks, heavy::networks()));
     all.extend(searches(Group::Networks, heavy::leaks()));
     all.extend(searches(Group::Heavy, heavy_pairs(extent)));
+    all.extend(small());
     all.extend(rows(extent));
     all.extend(tables::benchmarks(extent));
+    all.extend(traces::benchmarks());
     all.extend(texts());
     all.push(checks());
     all
@@ -128,6 +141,7 @@ fn heavy_pairs(extent: Extent) -> Vec<Pair> {
         heavy::nested_stars(500, "id"),
         heavy::nested_stars(500, "dup"),
         heavy::many_dups(),
+        heavy::own_continuations(),
         heavy::many_rows(extent.places()),
     ]
 }
@@ -147,6 +161,22 @@ pub fn search(pair: &Pair, rows: usize) -> Case {
     }
 }
 
+/// Rows lent to the searches of one to ten rows.
+const FEW_ROWS: usize = 16;
+
+/// Searches that are done in microseconds, the last of them by a difference at the first row.
+fn small() -> Vec<Benchmark> {
+    let mut pairs = heavy::small();
+    pairs.push(Pair {
+        name: "different at the first of 10 rows".to_string(),
+        ..heavy::all_but_first()
+    });
+    pairs
+        .iter()
+        .map(|pair| Benchmark::new(Group::Small, &pair.name, search(pair, FEW_ROWS)))
+        .collect()
+}
+
 /// The same pair with more and more rows lent: does the time per row stay flat?
 fn rows(extent: Extent) -> Vec<Benchmark> {
     let family = |name, pair: Pair| {
@@ -159,6 +189,24 @@ fn rows(extent: Extent) -> Vec<Benchmark> {
     all.extend(family("cycles", heavy::cycles()));
     all.extend(family("many states", heavy::many_states(15)));
     all
+}
+
+/// Pairs of the random sweep.
+const SWEPT: usize = 300;
+
+/// Random pairs, from a fixed seed: as the comparison makes them, but none damaged, and rows lent as many as may be.
+pub fn sweep() -> impl Iterator<Item = Benchmark> {
+    let mut random = Random::new(16);
+    (0..SWEPT).map(move |pair| {
+        let (sizes, left, right) = cases::numbered_pair(&mut random, cases::Extent::Large);
+        let case = Case::Search {
+            sizes,
+            left,
+            right,
+            lists: Lists::new(MOST_ROWS, MOST_ROWS, LEAST_WORK),
+        };
+        Benchmark::new(Group::Sweep, &format!("pair {pair}"), case)
+    })
 }
 
 /// Bytes of a long text.

@@ -286,6 +286,16 @@ fn heavy_pairs_are_equal() {
 }
 
 #[test]
+fn small_pairs_have_as_many_rows_as_they_say() {
+    for pair in heavy::small() {
+        let outcome = search(&pair.sizes, &pair.left, &pair.right);
+        let rows = pair.name.split(' ').next().and_then(|n| n.parse().ok());
+        let rows = rows.expect("a number of rows");
+        assert_eq!(outcome.answer, Ok(Verdict::Equal { rows }), "{}", pair.name);
+    }
+}
+
+#[test]
 fn leaks_are_different() {
     for pair in heavy::leaks() {
         let outcome = search(&pair.sizes, &pair.left, &pair.right);

@@ -42,16 +42,6 @@ no-marks next h i γ = ap (λ m. ltb γ 1024 && bit m i) (h γ) ∙ go (ltb γ 1
     go true = bit-of-zero i
     go false = refl
 
--- a new next list is empty
-pub blank-new : Blank (replicate 1056 0)
-unfolding Unmarked
-blank-new = record { long = length-replicate {A = ℕ} 1056 0; unmarked = zeros 1056 }
-  where
-    zeros : (n i : ℕ) → _≡_ {A = ℕ} (getD (replicate n 0) i 0) 0
-    zeros zero i = refl
-    zeros (suc n) zero = refl
-    zeros (suc n) (suc i) = zeros n i
-
 module _ {sizes nodes tests : List ℕ} {state β : ℕ} {next work : List ℕ} {f t : ℕ} {out next′ work′ : List ℕ} (bl : Blank next)
     (sp : Stepped sizes nodes tests state β emptySet next work f t out next′ work′) where
   -- all marks are touched, and what is touched is below N

@@ -32,7 +32,7 @@ use Rattle.engine.specs.Stepping.{Steps, Stands, FollowReady, Followed, 
 use Rattle.engine.proofs.Parts.{root-inside, two-kids}
 use Rattle.engine.proofs.Climbing.{Climbing, Joint, seq-joint, star-joint, Above, climbing-start, climbing-next, climbing-seq, climbing-star}
 use Rattle.engine.proofs.Steps.{placed-at, steps-start, steps-idle, steps-whole, steps-after, steps-lost, steps-output, steps-marks}
-use Rattle.engine.proofs.Records.{zero-word, empty-span, records-none, records-then}
+use Rattle.engine.proofs.Records.{empty-span, records-none, records-then}
 use Rattle.engine.proofs.Leaving.{long-still}
 
 -- ---- one packet

@@ -20,6 +20,7 @@ use Rattle.policy.proofs.Trees.{children-below, tree-fields}
 use Rattle.packet_set.specs.Members.{Members, Within, member, emptySet}
 use Rattle.packet_set.proofs.Words.{member-empty}
 use Rattle.automaton.proofs.Tests.{both, either, eqb-true, T-true}
+use Rattle.spans.proofs.Sets.{no-packet}
 use Rattle.spans.specs.Spans.{slot, hasMark, Spanned, Holds, Noted, GotMark}
 use Rattle.changes.specs.Changes.{Changing}
 use Rattle.loaded.specs.Nodes.{setIn, testsIn, labelIn, slotIn, nodeIn, readAt, testsAt, guardAt}
@@ -30,7 +31,7 @@ use Rattle.engine.proofs.Parts.{tree-at}
 use Rattle.engine.proofs.Entries.{Entered, entered-plain, entered-slot}
 use Rattle.engine.proofs.Throughs.{through-none, through-empty, through-known, through-tests, through-change, through-dup, through-sum, through-seq, through-below}
 use Rattle.engine.proofs.Rounds.{Turning, turning-start, turning-more, turning-end, turning-below}
-use Rattle.engine.proofs.Records.{zero-word, slot-small, empty-span, records-none, records-then, records-note, records-mark, missing, missing-lt}
+use Rattle.engine.proofs.Records.{slot-small, empty-span, records-none, records-then, records-note, records-mark, missing, missing-lt}
 
 pub never-drop : Moves Drop → ⊥
 unfolding Moves
@@ -189,7 +190,7 @@ module _ {sizes nodes tests : List ℕ} {n from to : ℕ} {set work : List ℕ} 
           }
         where
           none : Spanned 0 0 emptySet
-          none = record { wide = refl; within = omega arith; outside = λ i h. zero-word 32 i }
+          none = no-packet 0
 
     -- ---- nodes with children
 

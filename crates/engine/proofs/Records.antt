@@ -17,11 +17,6 @@ use Rattle.automaton.proofs.Tests.{both, either, eqb-true}
 use Rattle.spans.specs.Spans.{slot, hasMark, touched, Spanned, Noted, GotMark}
 use Rattle.engine.specs.Going.{Recorded}
 
-pub zero-word : (n i : ℕ) → _≡_ {A = ℕ} (getD (replicate n 0) i 0) 0
-zero-word zero i = refl
-zero-word (suc n) zero = refl
-zero-word (suc n) (suc i) = zero-word n i
-
 -- a slot holds packets below 1,024
 pub slot-small : (list : List ℕ) (n γ : ℕ) → T (slot list n γ) → γ < 1024
 unfolding slot

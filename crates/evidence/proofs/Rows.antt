@@ -18,6 +18,7 @@ use Rattle.packet.proofs.Tests.{and-true, last-or-before}
 use Rattle.policy.specs.NodeLists.{NodeLists}
 use Rattle.packet_set.specs.Members.{wordsFor}
 use Rattle.packet_set.proofs.Words.{words-hold, words-within}
+use Rattle.marks.proofs.Touched.{marking-wider, forget-asks, blank-new}
 use Rattle.marks.specs.Marks.{Marking, Unmarked, Blank}
 use Rattle.system.specs.System.{System}
 use Rattle.system.specs.RowOrder.{lowestTelling}
@@ -45,10 +46,6 @@ use Rattle.evidence.proofs.Repeats.{repeat-keeps}
 
 -- ---- one row
 
--- touched packets are below any bound that N does not pass
-marking-up : {m n : ℕ} {next : List ℕ} → m ≤ n → Marking m next → Marking n next
-marking-up l M = record { rest = M .rest; below = λ γ t. lt-of-lt-of-le (M .below γ t) l }
-
 module _ {sizes nodesL testsL nodesR testsR packets lefts rights : List ℕ} {count : ℕ} {trees work : List ℕ} (ready : Ready sizes nodesL testsL nodesR testsR packets lefts rights count trees work) where
   count-is : count ≡ product sizes
   count-is = ready .cleared .lent .allowed .packet-count
@@ -58,7 +55,7 @@ module _ {sizes nodesL testsL nodesR testsR packets lefts rights : List ℕ} {co
 
   -- what emptying a next list asks, with the words that N packets need
   pub forget-ready : {words : ℕ} → words ≡ wordsFor count → {next : List ℕ} → Marking (product sizes) next → (words ≤ 32) × Marking (32 * words) next
-  forget-ready e M = (omega (arith, e, words-within count count-small), marking-up (omega (arith, e, count-is, words-hold count)) M)
+  forget-ready e {next} M = forget-asks next count-small e (marking-wider next (omega (arith, count-is)) M)
 
   module _ {i : ℕ} (inside : i < length packets) {x : MaskRow} (isRow : x ≡ rowAt packets lefts rights i) where
     pub compare-ready : {nextL nextR : List ℕ} → Blank nextL → Blank nextR → CompareReady sizes nodesL testsL nodesR testsR (x .packet) nextL nextR work
@@ -78,7 +75,7 @@ module _ {sizes nodesL testsL nodesR testsR packets lefts rights : List ℕ} {co
         (compared : ComparedStates sizes nodesL testsL nodesR testsR (x .packet) (getD (x .states) 0 0) (getD (x .states) 1 0) work answer nextL nextR work′) where
       -- what rule (d) asks
       pub next-ready : Indexed packets lefts rights count (length packets) trees × (Marking count nextL × Marking count nextR × (count ≤ 1024))
-      next-ready = (ready .indexed, (marking-up (omega (arith, count-is)) (compared .left-marking), marking-up (omega (arith, count-is)) (compared .right-marking), count-small))
+      next-ready = (ready .indexed, (marking-wider _ (omega (arith, count-is)) (compared .left-marking), marking-wider _ (omega (arith, count-is)) (compared .right-marking), count-small))
 
       module _ (L R : NodeLists) (both : BothLoaded sizes L R nodesL testsL nodesR testsR) where
         abbrev S : System
@@ -165,20 +162,10 @@ pub record RowsTo (sizes nodesL testsL nodesR testsR packets lefts rights work�
   pub right-blank : Blank nextR
   pub kept : work ≡ work₀
 
--- zeros are an empty next list
-zero-word : (n i : ℕ) → _≡_ {A = ℕ} (getD (replicate n 0) i 0) 0
-zero-word zero i = refl
-zero-word (suc n) zero = refl
-zero-word (suc n) (suc i) = zero-word n i
-
-zeros-blank : (n : ℕ) → n ≡ 1056 → Blank (replicate n 0)
-unfolding Unmarked
-zeros-blank n e = record { long = length-replicate n 0 ∙ e; unmarked = zero-word n }
-
 module _ {sizes nodesL testsL nodesR testsR packets lefts rights : List ℕ} where
   pub rows-none : {work : List ℕ} → RowsTo sizes nodesL testsL nodesR testsR packets lefts rights work work (replicate 1056 0) (replicate 1056 0) 0
   unfolding checkRows
-  rows-none = record { within = omega arith; keep = λ L R b. refl; left-blank = zeros-blank 1056 refl; right-blank = zeros-blank 1056 refl; kept = refl }
+  rows-none = record { within = omega arith; keep = λ L R b. refl; left-blank = blank-new; right-blank = blank-new; kept = refl }
 
   module _ {work₀ work nextL nextR : List ℕ} {i : ℕ} (to : RowsTo sizes nodesL testsL nodesR testsR packets lefts rights work₀ work nextL nextR i) where
     pub rows-ready : {count : ℕ} {trees : List ℕ} → Ready sizes nodesL testsL nodesR testsR packets lefts rights count trees work₀ → Ready sizes nodesL testsL nodesR testsR packets lefts rights count trees work

@@ -7,7 +7,7 @@ use native.Mathlib.Decide.{decLt}
 use native.Mathlib.Omega.{arith}
 use lib.Bits.{bitOr}
 use lib.Dec.{T}
-use lib.ListN.{length, getD, set, length-set, List·getD-eq-default}
+use lib.ListN.{length, getD, set, replicate, length-set, length-replicate, List·getD-eq-default}
 use lib.Seq.{getD-set-same, getD-set-other}
 use borrow.Author.Count.{below-more}
 use borrow.Author.Tests.{lt-ltb, le-ltb}
@@ -19,7 +19,8 @@ use Rattle.packet_set.proofs.Digits.{bit-or, bit-of-zero}
 use Rattle.packet_set.proofs.Walk.{LowestIn, found-at, found-none}
 use Rattle.packet_set.proofs.Words.{words-hold, words-within}
 use Rattle.spans.specs.Spans.{slot, touched}
-use Rattle.marks.specs.Marks.{Marking, Unmarked, NextMarked}
+use Rattle.spans.proofs.Sets.{zero-word}
+use Rattle.marks.specs.Marks.{Marking, Unmarked, Blank, NextMarked}
 
 -- ---- one next list
 
@@ -47,11 +48,6 @@ module _ (next : List ℕ) where
       go (yes l) = touched-bit γ l ∙ ap (λ (x : ℕ). bit x (γ % 32)) (U (1024 + γ / 32)) ∙ bit-of-zero (γ % 32)
       go (no l) = touched-over γ (omega arith)
 
-  pub unmarked-marking : (N : ℕ) → Unmarked next → Marking N next
-  unfolding Unmarked
-  unmarked-marking N U = record { rest = λ γ l e. U γ; below = λ γ t. absurd (subst T (unmarked-untouched U γ) t) }
-
-  -- as `forget` asks, whose bound is a number of words
   pub marking-wider : {N M : ℕ} → N ≤ M → Marking N next → Marking M next
   marking-wider {N} l A =
       record {
@@ -60,6 +56,15 @@ module _ (next : List ℕ) where
             let h : γ < N = A .below γ t in
             omega arith;
       }
+
+  -- what `forget` asks, whose bound is a number of words
+  pub forget-asks : {N words : ℕ} → N ≤ 1024 → words ≡ wordsFor N → Marking N next → (words ≤ 32) × Marking (32 * words) next
+  forget-asks {N} l e A = (subst (λ (k : ℕ). k ≤ 32) (sym e) (words-within N l), marking-wider (subst (λ (k : ℕ). N ≤ 32 * k) (sym e) (words-hold N)) A)
+
+-- a new next list
+pub blank-new : Blank (replicate 1056 0)
+unfolding Unmarked
+blank-new = record { long = length-replicate {A = ℕ} 1056 0; unmarked = zero-word 1056 }
 
 -- ---- either of two
 

@@ -10,9 +10,8 @@ use lib.ListN.{length, getD}
 use Rattle.packet.specs.Sizes.{product}
 use Rattle.policy.specs.NodeLists.{NodeLists}
 use Rattle.packet_set.specs.Members.{wordsFor}
-use Rattle.packet_set.proofs.Words.{words-hold, words-within}
 use Rattle.marks.specs.Marks.{Marking, Blank}
-use Rattle.marks.proofs.Touched.{marking-wider}
+use Rattle.marks.proofs.Touched.{forget-asks}
 use Rattle.system.specs.System.{System}
 use Rattle.system.specs.RowOrder.{Run, turn, telling, handling, current}
 use Rattle.system.specs.RowOrder as order
@@ -66,10 +65,6 @@ module _ (sizes : List ℕ) (ps : Pair Labelled) (lent : ℕ) (x : Run (pairSyst
       go true e = absurd (let z : _≡_ {A = ℕ} 0 1 = cc in omega arith)
       go false e = let same : m ≡ length (x .rows) = cc in ap (goesOn (x .handled)) same
 
--- the words that N packets need hold them, and N is at most 1,024
-forget-words : {N k : ℕ} → N ≤ 1024 → k ≡ wordsFor N → (k ≤ 32) × (N ≤ 32 * k)
-forget-words {N} l e = (subst (λ x. x ≤ 32) (sym e) (words-within N l), subst (λ x. N ≤ 32 * x) (sym e) (words-hold N))
-
 module _ {sizes nodesL testsL nodesR testsR : List ℕ} {y : Lists} {count n h : ℕ} {nextL nextR work : List ℕ} (P : HandleReady sizes nodesL testsL nodesR testsR y count n h nextL nextR work) where
   pub compare-ready : (r : Row) → r ≡ rowAt (y .packets) (y .left) (y .right) h → CompareReady sizes nodesL testsL nodesR testsR (r .packet) nextL nextR work
   compare-ready r is =
@@ -94,7 +89,7 @@ module _ {sizes nodesL testsL nodesR testsR : List ℕ} {y : Lists} {count n h :
 
   -- what emptying a next list asks
   pub forget-ready : {words : ℕ} {next : List ℕ} → words ≡ wordsFor count → Marking (product sizes) next → (words ≤ 32) × Marking (32 * words) next
-  forget-ready {next = next} e m = let k = forget-words count-small e in (k .0, marking-wider next (let q = P .packets in let g = k .1 in omega arith) m)
+  forget-ready {next = next} e m = forget-asks next count-small e (subst (λ k. Marking k next) (sym (P .packets)) m)
 
   -- rows have 16-bit numbers
   pub row-fits : h < 65535

@@ -1,11 +1,11 @@
 -- The row order round after round: how it starts, goes on and ends. Assumes nothing.
-use Prim.Native.Nat.{ℕ, zero, suc, _+_, _<_, _≤_}
+use Prim.Native.Nat.{ℕ, suc, _+_, _<_, _≤_}
 use mathlib.Core.Bool.{Bool, true, false, cond}
 use mathlib.Core.List.{List, [], _∷_, _++_}
 use mathlib.Core.Path.{_≡_, refl, sym, ap, ap₂, _∙_, subst}
 use native.Mathlib.Omega.{arith}
 use lib.Dec.{ltb}
-use lib.ListN.{length, getD, take, replicate, length-replicate}
+use lib.ListN.{length, getD, take, replicate}
 use lib.Seq.{take-all, length-take-le}
 use borrow.Author.Tests.{ltb-true, ltb-false}
 use Rattle.packet.specs.Sizes.{product}
@@ -29,7 +29,8 @@ use Rattle.rows.specs.Standing.{Standing, pairMasks, Started}
 use Rattle.rows.proofs.Standing.{stands-length}
 use Rattle.rows.proofs.Growing.{SameLengths, lengths-none, lengths-then}
 use Rattle.rows.proofs.Searching.{Running, IsFull, stands-then, entry-at, rooted, path-line, entering-line, search-begins, start-full, search-goes, search-fills, search-ends, search-tells}
-use Rattle.marks.specs.Marks.{Unmarked, Blank}
+use Rattle.marks.specs.Marks.{Blank}
+use Rattle.marks.proofs.Touched.{blank-new}
 use Rattle.compare.specs.Comparison.{BothLoaded}
 use Rattle.verdict.specs.declared.Ended.{Ended}
 use Rattle.verdict.specs.declared.Ended.the-variants.{Done, Full}
@@ -89,17 +90,8 @@ pub record Kept (b y : Lists) (work₀ nextL nextR work : List ℕ) : Type 0 whe
   pub right-blank : Blank nextR
   pub clean : work ≡ work₀
 
-zero-word : (n i : ℕ) → _≡_ {A = ℕ} (getD (replicate n 0) i 0) 0
-zero-word zero i = refl
-zero-word (suc n) zero = refl
-zero-word (suc n) (suc i) = zero-word n i
-
-blank : Blank (replicate 1056 0)
-unfolding Unmarked
-blank = record { long = length-replicate {A = ℕ} 1056 0; unmarked = zero-word 1056 }
-
 pub kept-none : {b : Lists} {work : List ℕ} → Kept b b work (replicate 1056 0) (replicate 1056 0) work
-kept-none = record { lengths = lengths-none; left-blank = blank; right-blank = blank; clean = refl }
+kept-none = record { lengths = lengths-none; left-blank = blank-new; right-blank = blank-new; clean = refl }
 
 pub kept-more : {b y z : Lists} {work₀ nextL nextR work nextL′ nextR′ work′ : List ℕ} → Kept b y work₀ nextL nextR work → SameLengths y z → Blank nextL′ × Blank nextR′ → work′ ≡ work
     → Kept b z work₀ nextL′ nextR′ work′

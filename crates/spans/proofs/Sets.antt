@@ -29,14 +29,15 @@ outside-of from to i h = go (decLt i from) (decLt i to)
     go (no a) (yes b) = absurd (h (omega arith) b)
     go (no a) (no b) = inr (omega arith)
 
+-- a list of zeros
+pub zero-word : (n i : ℕ) → _≡_ {A = ℕ} (getD (replicate n 0) i 0) 0
+zero-word zero i = refl
+zero-word (suc n) zero = refl
+zero-word (suc n) (suc i) = zero-word n i
+
 empty-word : (i : ℕ) → getD emptySet i 0 ≡ 0
 unfolding emptySet
-empty-word i = go 32 i
-  where
-    go : (n i : ℕ) → _≡_ {A = ℕ} (getD (replicate n 0) i 0) 0
-    go zero i = refl
-    go (suc n) zero = refl
-    go (suc n) (suc i) = go n i
+empty-word i = zero-word 32 i
 
 -- ---- one packet, and none
 

@@ -75,22 +75,6 @@ pub fn keep(tests: &[u32; 8224], k: usize, span: Span, set: &mut PacketSet) -> b
     any_bit(any)
 }
 
-// Inner. Has the set a packet that slot k of the tests has?
-pub fn meets(tests: &[u32; 8224], k: usize, span: Span, set: &PacketSet) -> bool
-    requires { ⌜ (k ≤ 256) × Spanned (span .from) (span .to) (now set) ⌝ }
-    ensures { λ r. ⌜ Tells r (λ γ. member (now (set .entry)) γ && slot (now (tests .entry)) k γ) ⌝ }
-{
-    let base = 32 * k;
-    let to = span.to;
-    let mut any: u32 = 0;
-    let mut i = span.from;
-    while i < to {
-        any = any | (set[i] & tests[base + i]);
-        i += 1;
-    }
-    any_bit(any)
-}
-
 // Inner. Slot n of the work list takes the set, and node n is seen; what was not there before stays in the set. Is anything new?
 pub fn note(work: &mut [u32], seen: &mut [u32; 16], n: u16, span: Span, set: &mut PacketSet) -> bool
     requires { ⌜ (n < 512) × (16384 ≤ length (now work)) × (length (now seen) ≡ 16) × Spanned (span .from) (span .to) (now set) ⌝ }

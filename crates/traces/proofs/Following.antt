@@ -19,9 +19,9 @@ use Rattle.automaton.proofs.Laws.{dead-nextMask, dead-outputMask}
 use Rattle.automaton.proofs.Trees.{policy-evaluable}
 use Rattle.spans.proofs.Sets.{no-packet}
 use Rattle.marks.specs.Marks.{Marking, Blank}
-use Rattle.marks.proofs.Touched.{marking-wider}
+use Rattle.marks.proofs.Touched.{forget-asks, blank-new}
 use Rattle.engine.specs.Stepping.{Stands, StepReady, Stepped}
-use Rattle.engine.proofs.Answers.{blank-new, step-marking, output-is, next-is}
+use Rattle.engine.proofs.Answers.{step-marking, output-is, next-is}
 use Rattle.traces.specs.Checking.{Followed, LoadedReady, LoadedFollowed}
 
 -- a state 0 has no trace
@@ -94,7 +94,7 @@ module _ {sizes nodes tests : List ℕ} {count α : ℕ} {trace work : List ℕ}
         -- what `forget` asks
         pub few-marked : {n : ℕ} → n ≡ count → {words : ℕ} → words ≡ wordsFor n → (words ≤ 32) × Marking (32 * words) next′
         few-marked {n} e {words} w =
-            (rw w (words-within n (rw e count-small)), marking-wider next′ (rw (w, sym (a .ready .packets), sym e) (words-hold n)) (step-marking (f .blank) st))
+            forget-asks next′ (rw e count-small) w (rw (e, a .ready .packets) (step-marking (f .blank) st))
 
         -- the last packet: it is in the output or not
         pub last-packet : suc i ≡ length trace → (answer : Bool) → answer ≡ member out γ → LoadedFollowed sizes nodes tests α trace work answer work₂

@@ -177,6 +177,15 @@ fn numbered(random: &mut Random, policy: &Tree) -> OwnedLists {
     }
 }
 
+/// Legal sizes and two policies over them, often with the same traces.
+pub fn numbered_pair(random: &mut Random, extent: Extent) -> (Vec<u16>, OwnedLists, OwnedLists) {
+    let legal = legal_sizes(random, extent);
+    let (left, right) = pair(random, &legal, extent);
+    let left = numbered(random, &left);
+    let right = numbered(random, &right);
+    (legal, left, right)
+}
+
 fn policy_case(random: &mut Random, extent: Extent) -> Case {
     let legal = legal_sizes(random, extent);
     let tree = random_tree(random, &legal, extent);
@@ -344,10 +353,7 @@ fn damaged_pair(
 }
 
 fn search_case(random: &mut Random, extent: Extent) -> Case {
-    let legal = legal_sizes(random, extent);
-    let (left, right) = pair(random, &legal, extent);
-    let left = numbered(random, &left);
-    let right = numbered(random, &right);
+    let (legal, left, right) = numbered_pair(random, extent);
     let needs = needs(&legal, &left, &right, extent);
     let lists = lent(random, &needs);
     let (left, right) = damaged_pair(random, &legal, left, right);
@@ -394,10 +400,7 @@ fn text_pair(random: &mut Random, left: &Tree, right: &Tree) -> (Vec<u8>, Vec<u8
 }
 
 fn evidence(random: &mut Random, extent: Extent) -> Case {
-    let legal = legal_sizes(random, extent);
-    let (left, right) = pair(random, &legal, extent);
-    let left = numbered(random, &left);
-    let right = numbered(random, &right);
+    let (legal, left, right) = numbered_pair(random, extent);
     let needs = needs(&legal, &left, &right, extent);
     let mut rows: Vec<Row> = (0..needs.rows)
         .map(|row| row_at(&needs.lists, row))
@@ -522,10 +525,7 @@ fn walk(random: &mut Random, packets: &Packets, lists: &OwnedLists, entering: us
 }
 
 fn trace(random: &mut Random, extent: Extent) -> Case {
-    let legal = legal_sizes(random, extent);
-    let (left, right) = pair(random, &legal, extent);
-    let left = numbered(random, &left);
-    let right = numbered(random, &right);
+    let (legal, left, right) = numbered_pair(random, extent);
     let packets = Packets::new(&legal).expect("legal sizes");
     let needs = needs(&legal, &left, &right, extent);
     let (mut entering, mut trace) = match needs.answer {

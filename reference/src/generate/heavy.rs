@@ -29,6 +29,7 @@ pub fn pairs() -> Vec<Pair> {
         many_dups(),
         many_states(14),
         many_rows(5),
+        own_continuations(),
     ]);
     pairs
 }
@@ -155,6 +156,52 @@ fn counter() -> Pair {
     }
 }
 
+/// The counter unrolled once, and unrolled twice with this test at its end: several hundred nodes.
+pub fn long_counters(end: &str) -> Pair {
+    let round = format!("({});dup", increment(8, 2));
+    let once = format!("id+{round};({round})*");
+    Pair {
+        name: "long counters".to_string(),
+        sizes: vec![2; 8],
+        left: once.clone(),
+        right: format!("(id+{round};({once}));{end}"),
+    }
+}
+
+/// One digit turned on by one, as often as its base says, which returns the packet; and the same for all packets but the
+/// first: ten starting rows, of which the first breaks rule (c). Several hundred nodes.
+pub fn all_but_first() -> Pair {
+    let turned = flip(1, 10);
+    Pair {
+        name: "all but the first".to_string(),
+        right: format!("f0!=0;{}", turned.left),
+        ..turned
+    }
+}
+
+/// Searches of one to ten rows, as their names say.
+pub fn small() -> Vec<Pair> {
+    let pair = |name: &str, size, left: &str, right: &str| Pair {
+        name: name.to_string(),
+        sizes: vec![size],
+        left: left.to_string(),
+        right: right.to_string(),
+    };
+    vec![
+        pair("1 row", 1, "id", "id*"),
+        pair("2 rows", 2, "f0<-1;f0=1", "f0<-1"),
+        pair("3 rows, a dup", 1, "dup*", "id+dup;dup*"),
+        pair("5 rows", 5, "f0!=0", "f0=1+f0=2+f0=3+f0=4"),
+        pair(
+            "10 rows",
+            10,
+            "(f0=0+f0=1;f0<-2)*;f0!=1",
+            "f0!=1+f0=1;f0<-2",
+        ),
+        pair("10 rows, a dup", 5, "dup;f0!=0", "f0!=0;dup"),
+    ]
+}
+
 /// A ring of 32 switches that forwards one way, recorded at each switch, and its rules in another order.
 fn one_way() -> Pair {
     let hop = |switch| format!("f0={switch};f1!={switch};f0<-{}", (switch + 1) % 32);
@@ -210,6 +257,20 @@ pub fn many_dups() -> Pair {
 fn window(any: &str, mark: &str, places: usize) -> String {
     let step = format!(";{any};dup").repeat(places);
     format!("({any};dup)*;{any};{mark};dup{step}")
+}
+
+/// 31 dups under one star, each followed by a change or a test of its own; and the summands in reverse order.
+pub fn own_continuations() -> Pair {
+    let acts = |act: &'static str| {
+        (0..5).flat_map(move |field| (0..4).map(move |value| format!("dup;f{field}{act}{value}")))
+    };
+    let summands: Vec<String> = acts("<-").chain(acts("!=")).take(31).collect();
+    Pair {
+        name: "31 dups, each with its continuation".to_string(),
+        sizes: vec![4; 5],
+        left: format!("({})*", joined("+", summands.clone())),
+        right: format!("({})*", joined("+", summands.into_iter().rev())),
+    }
 }
 
 /// Two packets, and a state for each set of so many places and two more.
