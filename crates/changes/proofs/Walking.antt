@@ -68,7 +68,7 @@ pub digit-within : (t z α : ℕ) → α / t % z * t ≤ α
 digit-within t z α = le-trans (mul-le-mul-right t (mod-le (α / t) z)) (div-mul-le-self α t)
 
 module _ (sizes : List ℕ) (field value : ℕ) (legal : LegalSizes sizes) (inField : badField sizes field value ≡ false) where
-  in-field : (field < length sizes) × (value < getD sizes field 0)
+  pub in-field : (field < length sizes) × (value < getD sizes field 0)
   unfolding badField
   in-field = let h = or-false (leb (length sizes) field) (leb (getD sizes field 0) value) inField in
       (leb-false (length sizes) field (h .0), leb-false (getD sizes field 0) value (h .1))
@@ -79,7 +79,7 @@ module _ (sizes : List ℕ) (field value : ℕ) (legal : LegalSizes sizes) (inFi
   pub field-within : field < length sizes
   field-within = in-field .0
 
-  stride-some : 0 < stride sizes field
+  pub stride-some : 0 < stride sizes field
   stride-some = stride-positive sizes field 0 some-packet
 
   goal-small : value * stride sizes field < 1024

@@ -1,8 +1,10 @@
-// One field is changed in each packet of a set. All functions here are inner.
+// One field is changed in each packet of a set: of few words packet by packet, of many words by words. All functions here are inner.
 ghost use mathlib.Core.Path.{_≡_};
-ghost use Prim.Native.Nat.{_+_, _-_, _*_, _/_, _%_, _<_};
+ghost use Prim.Native.Nat.{_+_, _-_, _*_, _/_, _%_, _≤_, _<_};
+ghost use lib.ListN.{length};
 ghost use Rattle.spans.specs.Spans.{Spanned};
 ghost use Rattle.changes.specs.Changes.{Changing, Changed, Added};
+ghost use Rattle.changes.specs.Folding.{Joined, Window, Padded, Gathered, Folded};
 use packet_set::Lowest;
 use packet_set::PacketSet;
 use spans::Span;
@@ -26,8 +28,8 @@ fn add(set: &mut PacketSet, span: Span, packet: u16) -> Span
     spans::hull(span, Span { from: w, to: w + 1 })
 }
 
-// Inner. The set becomes the packets that the change makes of its members; its span.
-pub fn change(sizes: &[u16], field: u16, value: u16, span: Span, set: &mut PacketSet) -> Span
+// Inner. `change`, packet by packet.
+fn walk(sizes: &[u16], field: u16, value: u16, span: Span, set: &mut PacketSet) -> Span
     requires { ⌜ Changing (now sizes) field value (span .from) (span .to) (now set) ⌝ }
     ensures { λ r. ⌜ Changed (now (sizes .entry)) field value (now (set .entry)) (r .from) (r .to) (now (set .exit)) ⌝ }
 {
@@ -52,4 +54,118 @@ pub fn change(sizes: &[u16], field: u16, value: u16, span: Span, set: &mut Packe
         out = wider;
         from = alpha + 1;
     }
+}
+
+// Inner. The 32 bits of two words from bit b of the first on.
+fn joined(low: u32, high: u32, b: u32) -> u32
+    requires { ⌜ b < 32 ⌝ }
+    ensures { λ r. ⌜ Joined low high b r ⌝ }
+{
+    let both = (high as u64) * 4294967296 + low as u64;
+    ((both >> b) % 4294967296) as u32
+}
+
+// Inner. The 32 bits from bit `at` on.
+fn bits_from(pad: &[u32; 96], at: usize) -> u32
+    requires { ⌜ at < 3040 ⌝ }
+    ensures { λ r. ⌜ Window (now (pad .entry)) at r ⌝ }
+{
+    let w = at / 32;
+    joined(pad[w], pad[w + 1], (at % 32) as u32)
+}
+
+// Inner. The set between words of 0, so that what lies before it can be asked for.
+fn padded(set: &PacketSet) -> [u32; 96]
+    ensures { λ r. ⌜ Padded (now (set .entry)) r ⌝ }
+{
+    let mut pad = [0u32; 96];
+    let mut i = 0;
+    while i < 32 {
+        pad[32 + i] = set[i];
+        i += 1;
+    }
+    pad
+}
+
+// Inner. The 32 bits from `at` on, and those from each stride on, as many as the field has values.
+fn gather(pad: &[u32; 96], at: usize, stride: usize, size: usize) -> u32
+    requires { ⌜ (0 < stride) × (at + size * stride ≤ 3040) ⌝ }
+    ensures { λ r. ⌜ Gathered (now (pad .entry)) at stride size r ⌝ }
+{
+    let mut word: u32 = 0;
+    let mut u = 0;
+    while u < size {
+        word = word | bits_from(pad, at + u * stride);
+        u += 1;
+    }
+    word
+}
+
+// Inner. The first words of the set become what is gathered there and in the mask.
+fn fill(
+    pad: &[u32; 96],
+    mask: &PacketSet,
+    words: usize,
+    at: usize,
+    stride: usize,
+    size: usize,
+    set: &mut PacketSet,
+)
+    requires { ⌜ (words ≤ 32) × (at ≤ 1024) × (0 < stride) × (size * stride ≤ 1024) × (length (now set) ≡ 32) ⌝ }
+    ensures { λ _. ⌜ Folded (now (pad .entry)) (now (mask .entry)) words at stride size (now (set .entry)) (now (set .exit)) ⌝ }
+{
+    let mut i = 0;
+    while i < words {
+        let word = gather(pad, at + 32 * i, stride, size) & mask[i];
+        set[i] = word;
+        i += 1;
+    }
+}
+
+// Inner. `change`, by words: the packets with the value that are so many strides away from a member as its value is from the new one.
+fn fold(sizes: &[u16], field: u16, value: u16, span: Span, set: &mut PacketSet) -> Span
+    requires { ⌜ Changing (now sizes) field value (span .from) (span .to) (now set) ⌝ }
+    ensures { λ r. ⌜ Changed (now (sizes .entry)) field value (now (set .entry)) (r .from) (r .to) (now (set .exit)) ⌝ }
+{
+    let at = field as usize;
+    let stride = packet::stride_of(sizes, at);
+    let size = sizes[at];
+    let goal = value * stride;
+    let count = packet::stride_of(sizes, 0) * sizes[0];
+    let mask = loaded::sets::with_value(sizes, count, field, value);
+    let pad = padded(set);
+    spans::clear(set, span);
+    let words = packet_set::words_for(count as usize);
+    fill(
+        &pad,
+        &mask,
+        words,
+        1024 - goal as usize,
+        stride as usize,
+        size as usize,
+        set,
+    );
+    Span { from: 0, to: words }
+}
+
+// Inner. Is it cheaper to go by words? (A word costs as many steps as the field has values.)
+fn by_words(span: Span, size: u16) -> bool {
+    if 32 < size {
+        return false;
+    }
+    if span.to <= 2 {
+        return false;
+    }
+    span.from < span.to - 2
+}
+
+// Inner. The set becomes the packets that the change makes of its members; its span.
+pub fn change(sizes: &[u16], field: u16, value: u16, span: Span, set: &mut PacketSet) -> Span
+    requires { ⌜ Changing (now sizes) field value (span .from) (span .to) (now set) ⌝ }
+    ensures { λ r. ⌜ Changed (now (sizes .entry)) field value (now (set .entry)) (r .from) (r .to) (now (set .exit)) ⌝ }
+{
+    if by_words(span, sizes[field as usize]) {
+        return fold(sizes, field, value, span, set);
+    }
+    walk(sizes, field, value, span, set)
 }

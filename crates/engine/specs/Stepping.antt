@@ -1,7 +1,7 @@
 -- One step of a state of a loaded policy at a packet (document 01, "States and rows"): it adds the output to a set and the marks of
 -- next to a list.
 use Prim.Native.Nat.{ℕ, suc, pred, _<_, _≤_}
-use mathlib.Core.Bool.{_||_}
+use mathlib.Core.Bool.{Bool, true, false, _||_}
 use mathlib.Core.List.{List}
 use mathlib.Core.Logic.{_⊎_}
 use mathlib.Core.Path.{_≡_}
@@ -33,6 +33,11 @@ pub record Steps (sizes : List ℕ) (L : NodeLists) (nodes tests : List ℕ) (R�
   pub whole : 0 < i → T (marks 0) → Goes sizes L nodes tests S D 512 R into (pred (nodeCount L)) β
   pub after : (j : ℕ) → 0 < j → j < i → j ≤ dupsBelow L (nodeCount L) → T (marks j) → Goes sizes L nodes tests S D 512 R out-of (placeAt nodes j) β
 
+-- whether remainder i or a later one is marked; `left` false: none is
+pub record MarksLeft (state i : ℕ) (left : Bool) : Type 0 where
+  pub inside : left ≡ true → i < 32
+  pub none : left ≡ false → (j : ℕ) → i ≤ j → j < 32 → bit state j ≡ false
+
 -- the policy is loaded, and the packet is one
 pub record Stands (sizes : List ℕ) (L : NodeLists) (nodes tests : List ℕ) (β : ℕ) : Type 0 where
   pub legal-sizes : LegalSizes sizes
@@ -56,6 +61,14 @@ module _ (sizes nodes tests : List ℕ) where
     pub followed : (L : NodeLists) → Stands sizes L nodes tests β → (R₀ : Members) (D₀ : ℕ → Members) (marks : Marks)
         → Steps sizes L nodes tests R₀ D₀ marks β i (slot work) (hasMark next) (member out) → T (marks i)
         → Steps sizes L nodes tests R₀ D₀ marks β (suc i) (slot work′) (hasMark next′) (member out′)
+
+  -- the same if the state marks remainder i, and else nothing is done
+  pub record Visited (state i β : ℕ) (out work seen next : List ℕ) (from to : ℕ) (out′ work′ seen′ next′ : List ℕ) : Type 0 where
+    pub spanned : Spanned from to out′
+    pub recorded : Recorded sizes work seen next work′ seen′ next′
+    pub visited : (L : NodeLists) → Stands sizes L nodes tests β → (R₀ : Members) (D₀ : ℕ → Members)
+        → Steps sizes L nodes tests R₀ D₀ (bit state) β i (slot work) (hasMark next) (member out)
+        → Steps sizes L nodes tests R₀ D₀ (bit state) β (suc i) (slot work′) (hasMark next′) (member out′)
 
   -- what a step asks: the first words of the work list are 0
   pub record StepReady (β from to : ℕ) (out work next : List ℕ) : Type 0 where

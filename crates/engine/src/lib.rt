@@ -6,12 +6,11 @@ ghost use lib.ListN.{length};
 ghost use Rattle.policy.specs.Legality.{fieldOf, valueOf};
 ghost use Rattle.spans.specs.Spans.{Spanned};
 ghost use Rattle.changes.specs.Changes.{Changing};
-ghost use Rattle.engine.specs.Stepping.{FollowReady, Followed, StepReady, Stepped};
+ghost use Rattle.engine.specs.Stepping.{FollowReady, Followed, MarksLeft, Visited, StepReady, Stepped};
 ghost use Rattle.engine.specs.Visiting.{Admitted, EnteredLists, Acted, onward, SomeReady, Sent};
 use loaded::Nodes;
 use loaded::Tests;
 use marks::Next;
-use packet_set::Lowest;
 use packet_set::Mask;
 use packet_set::PacketSet;
 use policy::FieldAction;
@@ -225,11 +224,22 @@ fn follow_dup(
     }
 }
 
-// Inner. One remainder from a packet: 0 is the whole policy, i what remains after dup i.
+// Inner. Is remainder i or a later one marked?
+fn marks_left(state: Mask, i: u16) -> bool
+    ensures { λ r. ⌜ MarksLeft state i r ⌝ }
+{
+    if 31 < i {
+        return false;
+    }
+    state >> i != 0
+}
+
+// Inner. One remainder from a packet, if the state marks it: 0 is the whole policy, i what remains after dup i.
 fn follow(
     nodes: &Nodes,
     tests: &Tests,
     sizes: &[u16],
+    state: Mask,
     i: u16,
     packet: u16,
     span: Span,
@@ -239,8 +249,11 @@ fn follow(
     next: &mut Next,
 ) -> Span
     requires { ⌜ (i < 32) × FollowReady (now sizes) (now nodes) (now tests) packet (span .from) (span .to) (now out) (now work) (now seen) (now next) ⌝ }
-    ensures { λ r. ⌜ Followed (now (sizes .entry)) (now (nodes .entry)) (now (tests .entry)) i packet (now (out .entry)) (now (work .entry)) (now (seen .entry)) (now (next .entry)) (r .from) (r .to) (now (out .exit)) (now (work .exit)) (now (seen .exit)) (now (next .exit)) ⌝ }
+    ensures { λ r. ⌜ Visited (now (sizes .entry)) (now (nodes .entry)) (now (tests .entry)) state i packet (now (out .entry)) (now (work .entry)) (now (seen .entry)) (now (next .entry)) (r .from) (r .to) (now (out .exit)) (now (work .exit)) (now (seen .exit)) (now (next .exit)) ⌝ }
 {
+    if !packet_set::is_marked(state, i as u32) {
+        return span;
+    }
     if i == 0 {
         return follow_whole(nodes, tests, sizes, packet, span, out, work, seen, next);
     }
@@ -263,19 +276,15 @@ pub fn step(
     requires { ⌜ StepReady (now sizes) (now nodes) (now tests) packet (span .from) (span .to) (now out) (now work) (now next) ⌝ }
     ensures { λ r. ⌜ Stepped (now (sizes .entry)) (now (nodes .entry)) (now (tests .entry)) state packet (now (out .entry)) (now (next .entry)) (now (work .entry)) (r .from) (r .to) (now (out .exit)) (now (next .exit)) (now (work .exit)) ⌝ }
 {
-    let marks = [state];
     let mut seen = [0u32; 16];
     let mut at = span;
-    let mut from: u16 = 0;
-    loop {
-        let Lowest::At(i) = packet_set::next_member(&marks, from, 1) else {
-            spans::unsee(work, &seen);
-            return at;
-        };
+    let mut i: u16 = 0;
+    while marks_left(state, i) {
         let came = follow(
             nodes,
             tests,
             sizes,
+            state,
             i,
             packet,
             at,
@@ -285,6 +294,8 @@ pub fn step(
             next,
         );
         at = came;
-        from = i + 1;
+        i += 1;
     }
+    spans::unsee(work, &seen);
+    at
 }

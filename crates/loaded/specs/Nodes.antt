@@ -1,5 +1,6 @@
--- A node packed into one number of 64 bits: kind, first, second, the number of a packet set, whether the tree of the node is made of
--- tests alone, the dup's number, whether a slot is kept, and the node above at which what comes out of this one goes on.
+-- A node packed into one number of 64 bits. From the lowest: bits 0 to 3 the kind, 4 to 19 the first entry, 20 to 35 the second, 36 to
+-- 44 the number of a packet set, 45 whether the tree of the node is made of tests alone, 46 to 51 the dup's number, 52 to 61 the node
+-- above at which what comes out of this one goes on, 62 whether a slot is kept.
 use Prim.Native.Nat.{ℕ, _+_, _/_, _%_}
 use mathlib.Core.Bool.{Bool, _||_}
 use mathlib.Core.List.{List}

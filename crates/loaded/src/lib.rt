@@ -13,7 +13,7 @@ mod dups;
 mod guards;
 mod numbering;
 mod pack;
-mod sets;
+pub mod sets;
 mod slots;
 mod ways;
 

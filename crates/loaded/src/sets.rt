@@ -39,7 +39,7 @@ pub fn every_packet(sizes: &[u16], count: u16) -> PacketSet
 }
 
 // Inner. The packets with a value in a field: runs as long as the field's stride, a period apart.
-fn with_value(sizes: &[u16], count: u16, field: u16, value: u16) -> PacketSet
+pub fn with_value(sizes: &[u16], count: u16, field: u16, value: u16) -> PacketSet
     requires { ⌜ LegalSizes (now sizes) × (count ≡ product (now sizes)) × (badField (now sizes) field value ≡ false) ⌝ }
     ensures { λ r. ⌜ SetOf r (withValue (now (sizes .entry)) field value) ⌝ }
 {

@@ -24,7 +24,7 @@ pub record Blank (next : List ℕ) : Type 0 where
   pub long : length next ≡ 1056
   pub unmarked : Unmarked next
 
--- from `from` on, r is the lowest packet of the set, or N
+-- from `from` on no packet of the set is passed over before r, which is at most N
 pub record NextMarked (N from : ℕ) (X : Members) (r : ℕ) : Type 0 where
   pub within : r ≤ N
   pub after : from ≤ r

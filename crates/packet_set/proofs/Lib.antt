@@ -3,5 +3,4 @@ pub mod Trailing
 pub mod Loops
 pub mod Words
 pub mod Walk
-pub mod Work
 pub mod Masks

@@ -8,19 +8,18 @@ use native.Mathlib.Decide.{decLt}
 use native.Mathlib.Omega.{arith}
 use lib.Dec.{leb}
 use borrow.Author.Tests.{le-leb, lt-leb}
-use lib.ListN.{length, getD}
+use lib.ListN.{getD}
 use lib.Count.{trailingZeros}
 use lib.Pow.{shr-le}
 use Rattle.packet_set.specs.Bits.{bit}
 use Rattle.packet.specs.Lowest.{lowest}
-use Rattle.packet.proofs.Tests.{xor-same, xor-false}
 use Rattle.packet.proofs.Lowest.{IsLowest, Found, lowest-is, lowest-only}
-use Rattle.packet_set.specs.Members.{member, exclusiveOrOf, lowestIn, isNone, lowestAnswer, isEmpty}
+use Rattle.packet_set.specs.Members.{member, lowestIn, lowestAnswer}
 use Rattle.packet_set.specs.declared.Lowest.{Lowest}
 use Rattle.packet_set.specs.declared.Lowest.the-variants.{At, Nothing}
 use Rattle.packet_set.proofs.Digits.{bit-of-zero, bit-high, bit-shift}
 use Rattle.packet_set.proofs.Trailing.{trailing-lowest}
-use Rattle.packet_set.proofs.Words.{member-in-word, member-exclusive-or}
+use Rattle.packet_set.proofs.Words.{member-in-word}
 
 -- γ is the lowest packet in the first k words that is not below `from`
 pub record LowestIn (k from : ℕ) (s : List ℕ) (γ : ℕ) : Type 0 where
@@ -177,31 +176,6 @@ lowest-as k n s test same beyond nothing = lowest-in-only k 0 s (lowest test n) 
             record { below = h; above = omega arith; inside = same γ l h ∙ f .passes; first = λ β m g. same β (omega arith) (omega arith) ∙ f .first β g }
         at (no h) = absurd (true≢false (sym (f .passes) ∙ beyond γ (omega arith) (f .below)))
 
--- ---- empty: no member
-
-module _ (s : List ℕ) where
-  pub empty-members : (k : ℕ) → isEmpty k s ≡ true → (γ : ℕ) → γ < 32 * k → member s γ ≡ false
-  unfolding isEmpty
-  empty-members k = go (lowestIn k 0 s) (lowest-in-is k 0 s)
-    where
-      go : (o : Option ℕ) → FoundIn k 0 s o → isNone o ≡ true → (γ : ℕ) → γ < 32 * k → member s γ ≡ false
-      go none f e = λ γ l. f γ (omega arith) l
-      go (some γ) f e = absurd (true≢false (sym e))
-
-  pub members-empty : (k : ℕ) → ((γ : ℕ) → γ < 32 * k → member s γ ≡ false) → isEmpty k s ≡ true
-  unfolding isEmpty
-  members-empty k h = ap isNone (lowest-in-only k 0 s none (λ γ m l. h γ l))
-
--- whether there is a member, read off the answer
-abbrev pub isNothing : Lowest → Bool
-isNothing Nothing = true
-isNothing (At γ) = false
-
-pub nothing-answer : (o : Option ℕ) → isNothing (lowestAnswer o) ≡ isNone o
-unfolding lowestAnswer
-nothing-answer none = refl
-nothing-answer (some γ) = refl
-
 pub at-same : {α γ : ℕ} → At α ≡ At γ → α ≡ γ
 at-same {α} {γ} e = cc
 
@@ -222,11 +196,3 @@ module _ (k from : ℕ) (s : List ℕ) (r : Lowest) (e : r ≡ lowestAnswer (low
       go : (o : Option ℕ) → FoundIn k from s o → lowestAnswer o ≡ Nothing → (β : ℕ) → from ≤ β → β < 32 * k → member s β ≡ false
       go none f q = f
       go (some β) f q = absurd (let y : _≡_ {A = ℕ} 0 1 = cc in omega arith)
-
--- two sets with the same members: their exclusive or is empty
-module _ (k : ℕ) (a b : List ℕ) (long : k ≤ length a) where
-  pub same-empty : ((γ : ℕ) → γ < 32 * k → member a γ ≡ member b γ) → isEmpty k (exclusiveOrOf k a b) ≡ true
-  same-empty h = members-empty (exclusiveOrOf k a b) k (λ γ l. member-exclusive-or k a b γ l long ∙ xor-same _ _ (h γ l))
-
-  pub empty-same : isEmpty k (exclusiveOrOf k a b) ≡ true → (γ : ℕ) → γ < 32 * k → member a γ ≡ member b γ
-  empty-same e γ l = xor-false _ _ (sym (member-exclusive-or k a b γ l long) ∙ empty-members (exclusiveOrOf k a b) k e γ l)

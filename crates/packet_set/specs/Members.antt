@@ -1,7 +1,7 @@
 -- Sets of packets as 32 words of 32 bits. A set function works on the first k words and keeps the other words of its first set;
 -- k = wordsFor N words hold every packet below N.
 use Prim.Native.Nat.{ℕ, zero, suc, _+_, _*_, _/_, _%_}
-use mathlib.Core.Bool.{Bool, true, false, _&&_}
+use mathlib.Core.Bool.{Bool, _&&_}
 use mathlib.Core.List.{List, [], _∷_}
 use mathlib.Core.Option.{Option, none, some}
 use lib.ListN.{getD, set, replicate}
@@ -54,14 +54,6 @@ lowestIn k from s = lowest (λ γ. leb from γ && member s γ) (32 * k)
 unfoldable pub lowestAnswer : Option ℕ → Lowest
 lowestAnswer none = Nothing
 lowestAnswer (some γ) = At γ
-
-abbrev pub isNone : Option ℕ → Bool
-isNone none = true
-isNone (some γ) = false
-
--- no packet is in the first k words
-unfoldable pub isEmpty : ℕ → List ℕ → Bool
-isEmpty k s = isNone (lowestIn k 0 s)
 
 -- a set by its members
 abbrev pub Members : Type 0

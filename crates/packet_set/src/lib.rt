@@ -3,7 +3,7 @@ ghost use mathlib.Core.Path.{_≡_};
 ghost use Prim.Native.Nat.{_+_, _*_, _<_, _≤_};
 ghost use lib.ListN.{length};
 ghost use Rattle.packet_set.specs.Bits.{maskBits, bit, marked, onlyBits};
-ghost use Rattle.packet_set.specs.Members.{member, wordsFor, emptySet, withPacket, unionOf, exclusiveOrOf, lowestIn, lowestAnswer, isEmpty};
+ghost use Rattle.packet_set.specs.Members.{member, wordsFor, emptySet, withPacket, unionOf, exclusiveOrOf, lowestIn, lowestAnswer};
 
 pub type PacketSet = [u32; 32];
 
@@ -148,16 +148,4 @@ pub fn next_member(set: &[u32], from: u16, words: usize) -> Lowest
         return Lowest::At(from + u32::trailing_zeros(rest) as u16);
     }
     lowest_from(set, start + 1, words)
-}
-
-// Inner. No packet is in the first words.
-pub fn is_empty(set: &PacketSet, words: usize) -> bool
-    requires { ⌜ words ≤ 32 ⌝ }
-    ensures { λ r. ⌜ r ≡ isEmpty words (now (set .entry)) ⌝ }
-{
-    if let Lowest::At(_) = lowest_member(set, words) {
-        false
-    } else {
-        true
-    }
 }

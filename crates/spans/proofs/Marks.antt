@@ -72,10 +72,10 @@ module _ (next : List ℕ) (label i word : ℕ) where
     pub lowest-small : 0 < rest → trailingZeros 32 rest < 32
     lowest-small p = trailing-lowest 32 rest (m .small) p .below
 
-    pub marking-turn : label < 32 → i < 32 → length next ≡ 1056 → 0 < rest
+    turn : label < 32 → i < 32 → length next ≡ 1056 → 0 < rest
         → Marking next label i word (L.set now (32 * i + trailingZeros 32 rest) (bitOr (getD now (32 * i + trailingZeros 32 rest) 0) (1 * 2 ^ label % 2 ^ 32))) (bitAnd rest (rest - 1))
     unfolding markedEntry
-    marking-turn ll li wide p = go (trailingZeros 32 rest) (trailing-lowest 32 rest (m .small) p) (bit-left 32 rest (m .small) p)
+    turn ll li wide p = go (trailingZeros 32 rest) (trailing-lowest 32 rest (m .small) p) (bit-left 32 rest (m .small) p)
       where
         go : (z : ℕ) → IsLowest (bit rest) 32 z → ((j : ℕ) → bit (bitAnd rest (rest - 1)) j ≡ bit rest j && not (eqb j z))
             → Marking next label i word (L.set now (32 * i + z) (bitOr (getD now (32 * i + z) 0) (1 * 2 ^ label % 2 ^ 32))) (bitAnd rest (rest - 1))
@@ -125,6 +125,12 @@ module _ (next : List ℕ) (label i word : ℕ) where
             split : (γ : ℕ) → Dec (γ ≡ 32 * i + z) → getD (L.set now (32 * i + z) (bitOr (getD now (32 * i + z) 0) (1 * 2 ^ label % 2 ^ 32))) γ 0 ≡ cond (eqb (γ / 32) i && bit (bitAnd rest (rest - 1)) (γ % 32)) (getD next γ 0) (markedEntry next label i word γ)
             split γ (yes e) = subst (λ (x : ℕ). getD (L.set now at v) x 0 ≡ entry rest′ x) (sym e) there
             split γ (no e) = getD-set-other now at γ v 0 e ∙ m .entries γ ∙ ap (λ (q : Bool). cond q (getD next γ 0) (markedEntry next label i word γ)) (same γ e (ℕ-discrete (γ / 32) i))
+
+    -- the lowest packet left gets the mark
+    pub marking-turn : label < 32 → i < 32 → length next ≡ 1056 → 0 < rest → (mask : ℕ) → mask ≡ marked (getD now (32 * i + trailingZeros 32 rest) 0) label
+        → Marking next label i word (L.set now (32 * i + trailingZeros 32 rest) mask) (bitAnd rest (rest - 1))
+    marking-turn ll li wide p mask e =
+        subst (λ (x : ℕ). Marking next label i word (L.set now (32 * i + trailingZeros 32 rest) x) (bitAnd rest (rest - 1))) (shift-marks 32 _ label ll ∙ sym e) (turn ll li wide p)
 
     pub marking-end : rest ≡ 0 → Rewritten (markedEntry next label i word) next now
     marking-end e = record {

@@ -40,7 +40,7 @@ clearedWord work n i = cond (eqb (i / 32) n) 0 (getD work i 0)
 unfoldable pub markedEntry : List ℕ → ℕ → ℕ → ℕ → ℕ → ℕ
 markedEntry next label i word γ = cond (eqb (γ / 32) i && bit word (γ % 32)) (marked (getD next γ 0) label) (getD next γ 0)
 
--- the words from r to s are those of both spans (an empty span is within any)
+-- the words from r to s hold both spans (an empty span is within any)
 pub record Hull (a b c d r s : ℕ) : Type 0 where
   pub first : (i : ℕ) → a ≤ i → i < b → (r ≤ i) × (i < s)
   pub second : (i : ℕ) → c ≤ i → i < d → (r ≤ i) × (i < s)

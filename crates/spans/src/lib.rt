@@ -104,12 +104,11 @@ fn mark_word(next: &mut [u32; 1056], label: u32, i: usize, word: u32)
     requires { ⌜ (label < 32) × (i < 32) × (length (now next) ≡ 1056) ⌝ }
     ensures { λ _. ⌜ Rewritten (markedEntry (now (next .entry)) label i word) (now (next .entry)) (now (next .exit)) ⌝ }
 {
-    let mark = 1u32 << label;
     let start = 32 * i;
     let mut rest = word;
     while rest != 0 {
         let at = start + u32::trailing_zeros(rest) as usize;
-        next[at] = next[at] | mark;
+        next[at] = packet_set::mark(next[at], label);
         rest = rest & (rest - 1);
     }
 }

@@ -1,97 +1,39 @@
--- `change` meets its contract: each turn changes the next member. Assumes nothing.
-use Prim.Native.Nat.{_-_, _*_}
-use mathlib.Core.Path.{sym}
+-- `change` meets its contract, by words or packet by packet. Assumes nothing.
 use native.Mathlib.Omega.{arith}
 use borrow.Author.Needs.{needs}
-use Rattle.changes.proofs.Walking.{Walked, field-within, goal-fits, walk-empty, walk-start, walk-at, walk-needs, walk-small, walk-turn, walk-end}
+use Rattle.changes.proofs.Walking.{field-within}
 use Rattle.changes.proofs.change.Statement.{statement}
 use Rattle.changes.proofs.change.Tie as tie
 
-abbrev Inv-loop : tie.InvT-loop
-Inv-loop sizes field value set₀ start words at stride size goal before out₀ from₀ set out from = Walked sizes field value words before stride size goal set (out .from) (out .to) from
+mul-by-words : tie.Need-mul-by-words
+mul-by-words c = omega (arith, field-within _ _ _ (c .before .pre .legal) (c .before .pre .inField))
 
-abbrev μ-loop : tie.MeasureT-loop
-μ-loop sizes field value set₀ start words at stride size goal before out₀ from₀ set out from = 32 * words - from
+shared-slice-read-by-words : tie.Need-shared-slice-read-by-words
+shared-slice-read-by-words c = field-within _ _ _ (c .before .before .pre .legal) (c .before .before .pre .inField)
 
-returns : tie.Need-returns Inv-loop μ-loop
-returns c = walk-empty _ _ _ _ _ _ (c .before .before .pre) (c .if1 .taken)
+by-words-requires : tie.Need-by-words-requires
+by-words-requires c κs = search needs
 
-stride-of-requires : tie.Need-stride-of-requires Inv-loop μ-loop
-stride-of-requires c κs = (c .before .before .pre .legal, field-within _ _ _ (c .before .before .pre .legal) (c .before .before .pre .inField))
+fold-requires : tie.Need-fold-requires
+fold-requires c κs = search needs
 
-mul-size : tie.Need-mul-size Inv-loop μ-loop
-mul-size c = omega (arith, field-within _ _ _ (c .before .before .before .pre .legal) (c .before .before .before .pre .inField))
+returns : tie.Need-returns
+returns c = search needs
 
-shared-slice-read-size : tie.Need-shared-slice-read-size Inv-loop μ-loop
-shared-slice-read-size c = field-within _ _ _ (c .before .before .before .before .pre .legal) (c .before .before .before .before .pre .inField)
+walk-requires : tie.Need-walk-requires
+walk-requires c κs = search needs
 
-mul-goal : tie.Need-mul-goal Inv-loop μ-loop
-mul-goal c = let h = goal-fits _ _ _ _ _ _ (c .before .before .before .before .pre) _ (c .before .stride-of .ensures) in omega arith
-
-clear-requires : tie.Need-clear-requires Inv-loop μ-loop
-clear-requires c κs = c .before .before .before .before .before .before .pre .spanned
-
-cast-from : tie.Need-cast-from Inv-loop μ-loop
-cast-from c = omega (arith, c .before .before .before .before .before .before .before .pre .spanned .within, c .before .before .before .before .before .if1 .left)
-
-mul-from : tie.Need-mul-from Inv-loop μ-loop
-mul-from c = omega (arith, c .before .before .before .before .before .before .before .pre .spanned .within, c .before .before .before .before .before .if1 .left)
-
-loop-holds : tie.Need-loop-holds Inv-loop μ-loop
-loop-holds c = walk-start _ _ _ _ _ _ (c .before .before .before .before .before .before .before .pre) (c .before .before .before .before .before .if1 .left) _ _ (c .before .before .before .before .stride-of .ensures) (search needs) _ (c .clear .ensures)
-
-slice-aggregate-next-member : tie.Need-slice-aggregate-next-member Inv-loop μ-loop
-slice-aggregate-next-member c = sym (c .before .before .before .before .before .before .before .before .before .pre .spanned .wide)
-
-next-member-requires : tie.Need-next-member-requires Inv-loop μ-loop
-next-member-requires c κs = omega (arith, c .before .before .before .before .before .before .before .before .before .pre .spanned .within, c .before .before .before .before .before .before .before .before .before .pre .spanned .wide)
-
-enum-known-alpha : tie.Need-enum-known-alpha Inv-loop μ-loop
-enum-known-alpha c = search needs
-
-enum-told : tie.Need-enum-told Inv-loop μ-loop
-enum-told c = search needs
-
-returns-2 : tie.Need-returns-2 Inv-loop μ-loop
-returns-2 c = walk-end _ _ _ _ _ _ (c .before .before .before .before .before .before .before .before .before .before .before .before .pre) _ _ _ _ _ _ _ (c .before .before .before .before .loop .inv) _ (c .before .before .next-member .ensures) (c .enum-told .given .1)
-
-landing-requires : tie.Need-landing-requires Inv-loop μ-loop
-landing-requires c κs = walk-needs _ _ _ _ _ _ (c .before .before .before .before .before .before .before .before .before .before .before .before .before .before .pre) _ _ _ _ _ _ _ (c .before .before .before .before .before .before .loop .inv) _ (c .before .before .before .before .next-member .ensures) _ (c .before .before .alpha .given .1)
-
-add-requires : tie.Need-add-requires Inv-loop μ-loop
-add-requires c κs = (walk-small _ _ _ _ _ _ (c .before .before .before .before .before .before .before .before .before .before .before .before .before .before .before .pre) _ _ _ _ _ _ _ (c .before .before .before .before .before .before .before .loop .inv) _ (c .before .before .before .before .before .next-member .ensures) _ (c .before .before .before .alpha .given .1) _ (c .landing .ensures), c .before .before .before .before .before .before .before .loop .inv .spanned)
-
-add-from : tie.Need-add-from Inv-loop μ-loop
-add-from c = let h = walk-needs _ _ _ _ _ _ (c .before .before .before .before .before .before .before .before .before .before .before .before .before .before .before .before .pre) _ _ _ _ _ _ _ (c .before .before .before .before .before .before .before .before .loop .inv) _ (c .before .before .before .before .before .before .next-member .ensures) _ (c .before .before .before .before .alpha .given .1) in omega arith
-
-loop-less : tie.Need-loop-less Inv-loop μ-loop
-loop-less c = let h = walk-at _ _ _ _ _ _ (c .before .before .before .before .before .before .before .before .before .before .before .before .before .before .before .before .pre) _ _ _ _ _ _ _ (c .before .before .before .before .before .before .before .before .loop .inv) _ (c .before .before .before .before .before .before .next-member .ensures) _ (c .before .before .before .before .alpha .given .1) in omega (arith, h .below, h .above)
-
-loop-again : tie.Need-loop-again Inv-loop μ-loop
-loop-again c = walk-turn _ _ _ _ _ _ (c .before .before .before .before .before .before .before .before .before .before .before .before .before .before .before .before .pre) _ _ _ _ _ _ _ (c .before .before .before .before .before .before .before .before .loop .inv) _ (c .before .before .before .before .before .before .next-member .ensures) _ (c .before .before .before .before .alpha .given .1) _ (c .before .landing .ensures) _ _ _ (c .add .ensures)
+returns-2 : tie.Need-returns-2
+returns-2 c = search needs
 
 pub change-spec : {M : Type 1} → statement M
 change-spec =
     tie.close
     (tie.spec
-    Inv-loop
-    μ-loop
+    mul-by-words
+    shared-slice-read-by-words
+    by-words-requires
+    fold-requires
     returns
-    stride-of-requires
-    mul-size
-    shared-slice-read-size
-    mul-goal
-    clear-requires
-    cast-from
-    mul-from
-    loop-holds
-    slice-aggregate-next-member
-    next-member-requires
-    enum-known-alpha
-    enum-told
-    returns-2
-    landing-requires
-    add-requires
-    add-from
-    loop-less
-    loop-again)
+    walk-requires
+    returns-2)

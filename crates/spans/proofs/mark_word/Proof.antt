@@ -7,13 +7,10 @@ use Rattle.spans.proofs.mark_word.Statement.{statement}
 use Rattle.spans.proofs.mark_word.Tie as tie
 
 abbrev Inv-loop : tie.InvT-loop
-Inv-loop next₀ label i word mark start rest₀ next rest = Marking next₀ label i word next rest
+Inv-loop next₀ label i word start rest₀ next rest = Marking next₀ label i word next rest
 
 abbrev μ-loop : tie.MeasureT-loop
-μ-loop next₀ label i word mark start rest₀ next rest = rest
-
-shl-mark : tie.Need-shl-mark Inv-loop μ-loop
-shl-mark c = search needs
+μ-loop next₀ label i word start rest₀ next rest = rest
 
 mul-start : tie.Need-mul-start Inv-loop μ-loop
 mul-start c = search needs
@@ -27,17 +24,20 @@ cast-at c = omega (arith, trailing-le 32 (c .before .loop .rest))
 add-at : tie.Need-add-at Inv-loop μ-loop
 add-at c = omega (arith, trailing-le 32 (c .before .loop .rest))
 
+mul-mark : tie.Need-mul-mark Inv-loop μ-loop
+mul-mark c = omega (arith, trailing-le 32 (c .before .loop .rest))
+
+element-copy-out-mark : tie.Need-element-copy-out-mark Inv-loop μ-loop
+element-copy-out-mark c = omega (arith, lowest-small _ _ _ _ _ _ (c .before .loop .inv) (omega arith))
+
+mark-requires : tie.Need-mark-requires Inv-loop μ-loop
+mark-requires c κs = search needs
+
 mul-next : tie.Need-mul-next Inv-loop μ-loop
-mul-next c = omega (arith, trailing-le 32 (c .before .loop .rest))
-
-element-copy-out-next : tie.Need-element-copy-out-next Inv-loop μ-loop
-element-copy-out-next c = omega (arith, lowest-small _ _ _ _ _ _ (c .before .loop .inv) (omega arith))
-
-mul-next-2 : tie.Need-mul-next-2 Inv-loop μ-loop
-mul-next-2 c = omega (arith, trailing-le 32 (c .before .before .loop .rest))
+mul-next c = omega (arith, trailing-le 32 (c .before .before .before .loop .rest))
 
 element-write-next : tie.Need-element-write-next Inv-loop μ-loop
-element-write-next c = omega (arith, lowest-small _ _ _ _ _ _ (c .before .before .loop .inv) (omega arith))
+element-write-next c = omega (arith, lowest-small _ _ _ _ _ _ (c .before .before .before .loop .inv) (omega arith))
 
 sub-rest : tie.Need-sub-rest Inv-loop μ-loop
 sub-rest c = search needs
@@ -46,7 +46,7 @@ loop-less : tie.Need-loop-less Inv-loop μ-loop
 loop-less c = bits-fall _ (omega arith)
 
 loop-again : tie.Need-loop-again Inv-loop μ-loop
-loop-again c = marking-turn _ _ _ _ _ _ (c .before .before .loop .inv) (c .before .before .before .pre .0) (c .before .before .before .pre .1) (c .before .before .before .pre .2) (omega arith)
+loop-again c = marking-turn _ _ _ _ _ _ (c .before .before .before .loop .inv) (c .before .before .before .before .pre .0) (c .before .before .before .before .pre .1) (c .before .before .before .before .pre .2) (omega arith) _ (c .mark .ensures)
 
 returns : tie.Need-returns Inv-loop μ-loop
 returns c = marking-end _ _ _ _ _ _ (c .before .loop .inv) (search needs)
@@ -57,14 +57,14 @@ mark-word-spec =
     (tie.spec
     Inv-loop
     μ-loop
-    shl-mark
     mul-start
     loop-holds
     cast-at
     add-at
+    mul-mark
+    element-copy-out-mark
+    mark-requires
     mul-next
-    element-copy-out-next
-    mul-next-2
     element-write-next
     sub-rest
     loop-less
