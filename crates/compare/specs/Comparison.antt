@@ -9,11 +9,13 @@ use Rattle.packet.specs.Sizes.{product, LegalSizes}
 use Rattle.policy.specs.Legality.{Legal}
 use Rattle.policy.specs.NodeLists.{NodeLists}
 use Rattle.packet_set.specs.Members.{member, lowestIn, exclusiveOrOf}
-use Rattle.system.specs.System.{Row}
+use Rattle.system.specs.System as system
 use Rattle.system.specs.RowOrder.{lowestTelling}
 use Rattle.pair.specs.Sides.{Side, left, right, policies}
 use Rattle.pair.specs.Pair.{nextAt, pairSystem}
 use Rattle.pair.specs.Search.{sideOf}
+use Rattle.index.specs.declared.Row.{Row}
+use Rattle.index.specs.Columns.{leftOf, rightOf}
 use Rattle.loaded.specs.Loaded.{Loaded}
 use Rattle.marks.specs.Marks.{Marking, Blank}
 use Rattle.compare.specs.declared.Compared.{Compared}
@@ -33,46 +35,67 @@ comparedOf side (some γ) = differsAt (side γ) γ
 unfoldable pub comparedSets : ℕ → List ℕ → List ℕ → Compared
 comparedSets k a b = comparedOf (λ γ. cond (member a γ) left right) (lowestIn k 0 (exclusiveOrOf k a b))
 
--- both policies are loaded: causes 1 to 9 don't hold
-pub record BothLoaded (sizes : List ℕ) (L R : NodeLists) (nodesL testsL nodesR testsR : List ℕ) : Type 0 where
+-- what loading both policies asks: causes 1 to 9 don't hold, and each policy has its lists
+pub record LoadReady (sizes : List ℕ) (L R : NodeLists) (count : ℕ) (nodes tests : List (List ℕ)) : Type 0 where
   pub legal-sizes : LegalSizes sizes
   pub left-legal : Legal sizes L
   pub right-legal : Legal sizes R
-  pub left-loaded : Loaded sizes L nodesL testsL
-  pub right-loaded : Loaded sizes R nodesR testsR
+  pub packets : count ≡ product sizes
+  pub nodes-two : length nodes ≡ 2
+  pub tests-two : length tests ≡ 2
+  pub left-nodes : length (leftOf nodes) ≡ 544
+  pub left-tests : length (leftOf tests) ≡ 8224
+  pub right-nodes : length (rightOf nodes) ≡ 544
+  pub right-tests : length (rightOf tests) ≡ 8224
+
+-- both policies are loaded: causes 1 to 9 don't hold
+pub record BothLoaded (sizes : List ℕ) (L R : NodeLists) (nodes tests : List (List ℕ)) : Type 0 where
+  pub legal-sizes : LegalSizes sizes
+  pub left-legal : Legal sizes L
+  pub right-legal : Legal sizes R
+  pub left-loaded : Loaded sizes L (leftOf nodes) (leftOf tests)
+  pub right-loaded : Loaded sizes R (rightOf nodes) (rightOf tests)
+
+-- two next lists with marks at packets below N alone
+pub record BothMarking (N : ℕ) (next : List (List ℕ)) : Type 0 where
+  pub two : length next ≡ 2
+  pub left-marking : Marking N (leftOf next)
+  pub right-marking : Marking N (rightOf next)
+
+-- two next lists without marks
+pub record BothBlank (next : List (List ℕ)) : Type 0 where
+  pub two : length next ≡ 2
+  pub left-blank : Blank (leftOf next)
+  pub right-blank : Blank (rightOf next)
 
 module _ (sizes : List ℕ) (L R : NodeLists) where
-  -- the row of packet β and the two states
-  abbrev pub rowOf : ℕ → ℕ → ℕ → Row (pairSystem sizes (policies L R))
-  rowOf β l r = record { packet = β; state = record { left = l; right = r } }
+  -- the row that the masks stand for
+  abbrev pub rowOf : Row → system.Row (pairSystem sizes (policies L R))
+  rowOf r = record { packet = r .packet; state = record { left = getD (r .states) 0 0; right = getD (r .states) 1 0 } }
 
   -- what the comparison answers at a row
-  unfoldable pub answerAt : Row (pairSystem sizes (policies L R)) → Compared
+  unfoldable pub answerAt : system.Row (pairSystem sizes (policies L R)) → Compared
   answerAt row = comparedOf (sideOf sizes (policies L R) row) (lowestTelling (pairSystem sizes (policies L R)) row)
 
   -- the answer at the row, and next at each packet
-  pub record ComparedRow (row : Row (pairSystem sizes (policies L R))) (answer : Compared) (nextL′ nextR′ : List ℕ) : Type 0 where
+  pub record ComparedRow (row : system.Row (pairSystem sizes (policies L R))) (answer : Compared) (next′ : List (List ℕ)) : Type 0 where
     pub answers : answer ≡ answerAt row
-    pub left-next : (γ : ℕ) → γ < product sizes → getD nextL′ γ 0 ≡ nextAt sizes (policies L R) left (row .packet) (row .state) γ
-    pub right-next : (γ : ℕ) → γ < product sizes → getD nextR′ γ 0 ≡ nextAt sizes (policies L R) right (row .packet) (row .state) γ
+    pub left-next : (γ : ℕ) → γ < product sizes → getD (leftOf next′) γ 0 ≡ nextAt sizes (policies L R) left (row .packet) (row .state) γ
+    pub right-next : (γ : ℕ) → γ < product sizes → getD (rightOf next′) γ 0 ≡ nextAt sizes (policies L R) right (row .packet) (row .state) γ
 
-module _ (sizes nodesL testsL nodesR testsR : List ℕ) where
+module _ (sizes : List ℕ) (nodes tests : List (List ℕ)) where
   -- what the comparison asks: two policies that are loaded, a packet, next lists that are empty, and the first words of the work list 0
-  pub record CompareReady (β : ℕ) (nextL nextR work : List ℕ) : Type 0 where
+  pub record CompareReady (β : ℕ) (next : List (List ℕ)) (work : List ℕ) : Type 0 where
     pub lists : NodeLists
     pub others : NodeLists
-    pub loaded : BothLoaded sizes lists others nodesL testsL nodesR testsR
+    pub loaded : BothLoaded sizes lists others nodes tests
     pub packet : β < product sizes
-    pub left-blank : Blank nextL
-    pub right-blank : Blank nextR
+    pub blank : BothBlank next
     pub long : 16384 ≤ length work
     pub zero : (i : ℕ) → i < 16384 → getD work i 0 ≡ 0
 
   -- the row has been compared, whatever policies are loaded
-  pub record ComparedStates (β l r : ℕ) (work : List ℕ) (answer : Compared) (nextL′ nextR′ work′ : List ℕ) : Type 0 where
-    pub compared : (L R : NodeLists) → BothLoaded sizes L R nodesL testsL nodesR testsR → ComparedRow sizes L R (rowOf sizes L R β l r) answer nextL′ nextR′
-    pub left-long : length nextL′ ≡ 1056
-    pub right-long : length nextR′ ≡ 1056
-    pub left-marking : Marking (product sizes) nextL′
-    pub right-marking : Marking (product sizes) nextR′
+  pub record ComparedStates (row : Row) (work : List ℕ) (answer : Compared) (next′ : List (List ℕ)) (work′ : List ℕ) : Type 0 where
+    pub compared : (L R : NodeLists) → BothLoaded sizes L R nodes tests → ComparedRow sizes L R (rowOf sizes L R row) answer next′
+    pub marking : BothMarking (product sizes) next′
     pub kept : work′ ≡ work

@@ -1,12 +1,14 @@
 // One row of two policies evaluated and compared. All functions here are inner.
 ghost use mathlib.Core.Path.{_≡_};
 ghost use Prim.Native.Nat.{_≤_};
-ghost use Rattle.compare.specs.Comparison.{comparedSets, CompareReady, ComparedStates};
+ghost use Rattle.policy.specs.AsLists.{asLists};
+ghost use Rattle.compare.specs.Comparison.{comparedSets, LoadReady, BothLoaded, BothMarking, BothBlank, CompareReady, ComparedStates};
+use index::POLICIES;
+use index::Row;
 use loaded::Nodes;
 use loaded::Tests;
 use marks::Next;
 use packet_set::Lowest;
-use packet_set::Mask;
 use packet_set::PacketSet;
 use spans::Span;
 
@@ -33,47 +35,89 @@ fn told(left: &PacketSet, right: &PacketSet, words: usize) -> Compared
     Compared::Right(packet)
 }
 
+// Inner. Loads both policies, which are legal; count is the packet count.
+pub fn load(
+    sizes: &[u16],
+    count: u16,
+    left_kind: &[u8],
+    left_first: &[u16],
+    left_second: &[u16],
+    right_kind: &[u8],
+    right_first: &[u16],
+    right_second: &[u16],
+    nodes: &mut [Nodes; POLICIES],
+    tests: &mut [Tests; POLICIES],
+)
+    requires { ⌜ LoadReady (now sizes) (asLists (now «left_kind») (now «left_first») (now «left_second»)) (asLists (now «right_kind») (now «right_first») (now «right_second»)) count (now nodes) (now tests) ⌝ }
+    ensures { λ _. ⌜ BothLoaded (now (sizes .entry)) (asLists (now («left_kind» .entry)) (now («left_first» .entry)) (now («left_second» .entry))) (asLists (now («right_kind» .entry)) (now («right_first» .entry)) (now («right_second» .entry))) (now (nodes .exit)) (now (tests .exit)) ⌝ }
+{
+    loaded::load(
+        sizes,
+        count,
+        left_kind,
+        left_first,
+        left_second,
+        &mut nodes[0],
+        &mut tests[0],
+    );
+    loaded::load(
+        sizes,
+        count,
+        right_kind,
+        right_first,
+        right_second,
+        &mut nodes[1],
+        &mut tests[1],
+    );
+}
+
 // Inner. The outputs of one row's two states compared; next at each packet goes to the two next lists, which are empty before.
 pub fn compare(
     sizes: &[u16],
-    left_nodes: &Nodes,
-    left_tests: &Tests,
-    right_nodes: &Nodes,
-    right_tests: &Tests,
-    packet: u16,
-    left_state: Mask,
-    right_state: Mask,
-    next_left: &mut Next,
-    next_right: &mut Next,
+    nodes: &[Nodes; POLICIES],
+    tests: &[Tests; POLICIES],
+    row: Row,
+    next: &mut [Next; POLICIES],
     work: &mut [u32],
 ) -> Compared
-    requires { ⌜ CompareReady (now sizes) (now «left_nodes») (now «left_tests») (now «right_nodes») (now «right_tests») packet (now «next_left») (now «next_right») (now work) ⌝ }
-    ensures { λ r. ⌜ ComparedStates (now (sizes .entry)) (now («left_nodes» .entry)) (now («left_tests» .entry)) (now («right_nodes» .entry)) (now («right_tests» .entry)) packet «left_state» «right_state» (now (work .entry)) r (now («next_left» .exit)) (now («next_right» .exit)) (now (work .exit)) ⌝ }
+    requires { ⌜ CompareReady (now sizes) (now nodes) (now tests) (row .packet) (now next) (now work) ⌝ }
+    ensures { λ r. ⌜ ComparedStates (now (sizes .entry)) (now (nodes .entry)) (now (tests .entry)) row (now (work .entry)) r (now (next .exit)) (now (work .exit)) ⌝ }
 {
+    let states = row.states;
     let mut left = [0u32; 32];
     let a = engine::step(
-        left_nodes,
-        left_tests,
+        &nodes[0],
+        &tests[0],
         sizes,
-        left_state,
-        packet,
+        states[0],
+        row.packet,
         Span { from: 0, to: 0 },
         &mut left,
-        next_left,
+        &mut next[0],
         work,
     );
     let mut right = [0u32; 32];
     let b = engine::step(
-        right_nodes,
-        right_tests,
+        &nodes[1],
+        &tests[1],
         sizes,
-        right_state,
-        packet,
+        states[1],
+        row.packet,
         Span { from: 0, to: 0 },
         &mut right,
-        next_right,
+        &mut next[1],
         work,
     );
     let both = spans::hull(a, b);
     told(&left, &right, both.to)
+}
+
+// Inner. Empties both next lists: only what is touched is written.
+pub fn forget(next: &mut [Next; POLICIES], count: u16)
+    requires { ⌜ (count ≤ 1024) × BothMarking count (now next) ⌝ }
+    ensures { λ _. ⌜ BothBlank (now (next .exit)) ⌝ }
+{
+    let words = packet_set::words_for(count as usize);
+    marks::forget(&mut next[0], words);
+    marks::forget(&mut next[1], words);
 }

@@ -1,7 +1,7 @@
 -- The checker's steps over loaded policies: one row, then row by row.
 -- Assumes nothing.
-use Prim.Native.Nat.{ℕ, zero, suc, _+_, _*_, _≤_, _<_}
-use native.Mathlib.Nat.{le-antisymm, lt-of-lt-of-le, not-suc-le-zero}
+use Prim.Native.Nat.{ℕ, zero, suc, _+_, _≤_, _<_}
+use native.Mathlib.Nat.{le-antisymm, not-suc-le-zero}
 use native.Mathlib.Numerals.{add-one}
 use native.Mathlib.Omega.{arith}
 use mathlib.Core.Bool.{true, _&&_}
@@ -16,10 +16,8 @@ use Rattle.packet.specs.Lowest.{lowest}
 use Rattle.packet.specs.Sizes.{product}
 use Rattle.packet.proofs.Tests.{and-true, last-or-before}
 use Rattle.policy.specs.NodeLists.{NodeLists}
-use Rattle.packet_set.specs.Members.{wordsFor}
-use Rattle.packet_set.proofs.Words.{words-hold, words-within}
-use Rattle.marks.proofs.Touched.{marking-wider, forget-asks, blank-new}
-use Rattle.marks.specs.Marks.{Marking, Unmarked, Blank}
+use Rattle.marks.proofs.Touched.{blank-new}
+use Rattle.marks.specs.Marks.{Marking}
 use Rattle.system.specs.System.{System}
 use Rattle.system.specs.RowOrder.{lowestTelling}
 use Rattle.pair.specs.Sides.{Side, left, right, policies}
@@ -27,11 +25,11 @@ use Rattle.pair.specs.Pair.{pairSystem}
 use Rattle.pair.specs.Rules.{Table, Checked, accepted, ruleC, ruleD, andThen, brokenAt, breaksD, checkRow, checkRows}
 use Rattle.pair.specs.Evidence.{tableOf}
 use Rattle.index.specs.declared.Row.{Row as MaskRow}
-use Rattle.index.specs.Columns.{rowAt, sameStates, sameRow}
+use Rattle.index.specs.Columns.{leftOf, rightOf, rowAt, sameStates, sameRow}
 use Rattle.index.specs.Index.{Indexed}
 use Rattle.compare.specs.declared.Compared.{Compared}
 use Rattle.compare.specs.declared.Compared.the-variants.{Same, Left, Right}
-use Rattle.compare.specs.Comparison.{differsAt, rowOf, BothLoaded, CompareReady, ComparedRow, ComparedStates}
+use Rattle.compare.specs.Comparison.{differsAt, rowOf, BothLoaded, BothMarking, BothBlank, CompareReady, ComparedRow, ComparedStates}
 use Rattle.compare.proofs.Telling.{same-lowest, differs-lowest}
 use Rattle.evidence.specs.declared.Evidence.the-variants.{Accepted, RuleC, RuleD}
 use Rattle.evidence.specs.declared.RowAnswer.{RowAnswer}
@@ -46,46 +44,44 @@ use Rattle.evidence.proofs.Repeats.{repeat-keeps}
 
 -- ---- one row
 
-module _ {sizes nodesL testsL nodesR testsR packets lefts rights : List ℕ} {count : ℕ} {trees work : List ℕ} (ready : Ready sizes nodesL testsL nodesR testsR packets lefts rights count trees work) where
+module _ {sizes : List ℕ} {nodes tests : List (List ℕ)} {packets lefts rights : List ℕ} {count : ℕ} {trees work : List ℕ} (ready : Ready sizes nodes tests packets lefts rights count trees work) where
   count-is : count ≡ product sizes
   count-is = ready .cleared .lent .allowed .packet-count
 
-  pub count-small : count ≤ 1024
+  count-small : count ≤ 1024
   count-small = omega (arith, count-is, ready .cleared .lent .allowed .legal .small)
 
-  -- what emptying a next list asks, with the words that N packets need
-  pub forget-ready : {words : ℕ} → words ≡ wordsFor count → {next : List ℕ} → Marking (product sizes) next → (words ≤ 32) × Marking (32 * words) next
-  forget-ready e {next} M = forget-asks next count-small e (marking-wider next (omega (arith, count-is)) M)
-
   module _ {i : ℕ} (inside : i < length packets) {x : MaskRow} (isRow : x ≡ rowAt packets lefts rights i) where
-    pub compare-ready : {nextL nextR : List ℕ} → Blank nextL → Blank nextR → CompareReady sizes nodesL testsL nodesR testsR (x .packet) nextL nextR work
-    compare-ready blankL blankR =
+    pub compare-ready : {next : List (List ℕ)} → BothBlank next → CompareReady sizes nodes tests (x .packet) next work
+    compare-ready blank =
         record {
           lists = ready .lists;
           others = ready .others;
           loaded = ready .loaded;
           packet = subst (λ (n : ℕ). x .packet < n) count-is (subst (λ (y : MaskRow). y .packet < count) (sym isRow) (ready .cleared .small .small i inside));
-          left-blank = blankL;
-          right-blank = blankR;
+          blank = blank;
           long = ready .cleared .lent .long;
           zero = ready .cleared .zero;
         }
 
-    module _ {nextL nextR work′ : List ℕ} {answer : Compared}
-        (compared : ComparedStates sizes nodesL testsL nodesR testsR (x .packet) (getD (x .states) 0 0) (getD (x .states) 1 0) work answer nextL nextR work′) where
-      -- what rule (d) asks
-      pub next-ready : Indexed packets lefts rights count (length packets) trees × (Marking count nextL × Marking count nextR × (count ≤ 1024))
-      next-ready = (ready .indexed, (marking-wider _ (omega (arith, count-is)) (compared .left-marking), marking-wider _ (omega (arith, count-is)) (compared .right-marking), count-small))
+    module _ {next : List (List ℕ)} {work′ : List ℕ} {answer : Compared} (compared : ComparedStates sizes nodes tests x work answer next work′) where
+      -- what emptying the next lists asks
+      pub forget-ready : (count ≤ 1024) × BothMarking count next
+      forget-ready = (count-small, subst (λ k. BothMarking k next) (sym count-is) (compared .marking))
 
-      module _ (L R : NodeLists) (both : BothLoaded sizes L R nodesL testsL nodesR testsR) where
+      -- what rule (d) asks
+      pub next-ready : Indexed packets lefts rights count (length packets) trees × (Marking count (leftOf next) × Marking count (rightOf next) × (count ≤ 1024))
+      next-ready = (ready .indexed, (forget-ready .1 .left-marking, forget-ready .1 .right-marking, count-small))
+
+      module _ (L R : NodeLists) (both : BothLoaded sizes L R nodes tests) where
         abbrev S : System
         S = pairSystem sizes (policies L R)
 
         abbrev T : Table (pairSystem sizes (policies L R))
         T = tableOf sizes (policies L R) packets lefts rights
 
-        at-row : ComparedRow sizes L R (T .row i) answer nextL nextR
-        at-row = subst (λ (y : MaskRow). ComparedRow sizes L R (rowOf sizes L R (y .packet) (getD (y .states) 0 0) (getD (y .states) 1 0)) answer nextL nextR) isRow (compared .compared L R both)
+        at-row : ComparedRow sizes L R (T .row i) answer next
+        at-row = subst (λ (y : MaskRow). ComparedRow sizes L R (rowOf sizes L R y) answer next) isRow (compared .compared L R both)
 
         told-outputs : (s : Side) (γ : ℕ) → answer ≡ differsAt s γ → ruleC i ≡ checkRow S T i
         unfolding checkRow lowestTelling andThen brokenAt
@@ -93,42 +89,42 @@ module _ {sizes nodesL testsL nodesR testsR packets lefts rights : List ℕ} {co
             ap (λ (o : Option ℕ). andThen (brokenAt (λ γ. ruleC i) o) (brokenAt (ruleD i) (lowest (breaksD S T i) (product sizes))))
             (sym (differs-lowest sizes L R (T .row i) s γ (sym (at-row .answers) ∙ e) .0))
 
-        next-is : (γ : ℕ) → γ < product sizes → nextMissing packets lefts rights γ (getD nextL γ 0) (getD nextR γ 0) ≡ breaksD S T i γ
+        next-is : (γ : ℕ) → γ < product sizes → nextMissing packets lefts rights γ (getD (leftOf next) γ 0) (getD (rightOf next) γ 0) ≡ breaksD S T i γ
         unfolding breaksD
         next-is γ h = ap₂ (nextMissing packets lefts rights γ) (at-row .left-next γ h) (at-row .right-next γ h) ∙ missing-is sizes L R packets lefts rights γ _ _
 
-        told-next : answer ≡ Same → (s : Spot) → spotOf s ≡ lowest (λ γ. nextMissing packets lefts rights γ (getD nextL γ 0) (getD nextR γ 0)) count → brokenAt (ruleD i) (spotOf s) ≡ checkRow S T i
+        told-next : answer ≡ Same → (s : Spot) → spotOf s ≡ lowest (λ γ. nextMissing packets lefts rights γ (getD (leftOf next) γ 0) (getD (rightOf next) γ 0)) count → brokenAt (ruleD i) (spotOf s) ≡ checkRow S T i
         unfolding checkRow lowestTelling andThen brokenAt
         told-next same s missing =
             ap₂ (λ (o p : Option ℕ). andThen (brokenAt (λ γ. ruleC i) o) (brokenAt (ruleD i) p))
             (sym (same-lowest sizes L R (T .row i) (sym (at-row .answers) ∙ same)))
             (missing ∙ lowest-agree _ _ count (product sizes) count-is next-is)
 
-      outputs-differ : (s : Side) (γ : ℕ) → answer ≡ differsAt s γ → RowChecked sizes nodesL testsL nodesR testsR packets lefts rights i work Outputs nextL nextR work′
+      outputs-differ : (s : Side) (γ : ℕ) → answer ≡ differsAt s γ → RowChecked sizes nodes tests packets lefts rights i work Outputs next work′
       unfolding rowTold
       outputs-differ s γ e =
-          record { told = λ L R b. told-outputs L R b s γ e; left-blank = λ k. absurd (not-keeps k); right-blank = λ k. absurd (not-keeps k); kept = compared .kept }
+          record { told = λ L R b. told-outputs L R b s γ e; blank = λ k. absurd (not-keeps k); kept = compared .kept }
         where
           not-keeps : Outputs ≡ Keeps → ⊥
           not-keeps k = let y : _≡_ {A = ℕ} 0 1 = cc in omega arith
 
-      pub left-differs : (γ : ℕ) → answer ≡ Left γ → RowChecked sizes nodesL testsL nodesR testsR packets lefts rights i work Outputs nextL nextR work′
+      pub left-differs : (γ : ℕ) → answer ≡ Left γ → RowChecked sizes nodes tests packets lefts rights i work Outputs next work′
       left-differs = outputs-differ left
 
-      pub right-differs : (γ : ℕ) → answer ≡ Right γ → RowChecked sizes nodesL testsL nodesR testsR packets lefts rights i work Outputs nextL nextR work′
+      pub right-differs : (γ : ℕ) → answer ≡ Right γ → RowChecked sizes nodes tests packets lefts rights i work Outputs next work′
       right-differs = outputs-differ right
 
-      module _ (same : answer ≡ Same) {spot : Spot} (missing : spotOf spot ≡ lowest (λ γ. nextMissing packets lefts rights γ (getD nextL γ 0) (getD nextR γ 0)) count) where
-        pub row-next : (γ : ℕ) → spot ≡ At γ → RowChecked sizes nodesL testsL nodesR testsR packets lefts rights i work (Next γ) nextL nextR work′
+      module _ (same : answer ≡ Same) {spot : Spot} (missing : spotOf spot ≡ lowest (λ γ. nextMissing packets lefts rights γ (getD (leftOf next) γ 0) (getD (rightOf next) γ 0)) count) where
+        pub row-next : (γ : ℕ) → spot ≡ At γ → RowChecked sizes nodes tests packets lefts rights i work (Next γ) next work′
         unfolding rowTold spotOf brokenAt
-        row-next γ e = record { told = λ L R b. told-next L R b same (At γ) (ap spotOf (sym e) ∙ missing); left-blank = λ k. absurd (not-keeps k); right-blank = λ k. absurd (not-keeps k); kept = compared .kept }
+        row-next γ e = record { told = λ L R b. told-next L R b same (At γ) (ap spotOf (sym e) ∙ missing); blank = λ k. absurd (not-keeps k); kept = compared .kept }
           where
             not-keeps : Next γ ≡ Keeps → ⊥
             not-keeps k = let y : _≡_ {A = ℕ} 0 1 = cc in omega arith
 
-        pub row-keeps : spot ≡ Nowhere → {nextL′ nextR′ : List ℕ} → Blank nextL′ → Blank nextR′ → RowChecked sizes nodesL testsL nodesR testsR packets lefts rights i work Keeps nextL′ nextR′ work′
+        pub row-keeps : spot ≡ Nowhere → {next′ : List (List ℕ)} → BothBlank next′ → RowChecked sizes nodes tests packets lefts rights i work Keeps next′ work′
         unfolding rowTold spotOf brokenAt
-        row-keeps e blankL blankR = record { told = λ L R b. told-next L R b same Nowhere (ap spotOf (sym e) ∙ missing); left-blank = λ k. blankL; right-blank = λ k. blankR; kept = compared .kept }
+        row-keeps e blank = record { told = λ L R b. told-next L R b same Nowhere (ap spotOf (sym e) ∙ missing); blank = λ k. blank; kept = compared .kept }
 
 -- ---- row by row
 
@@ -155,49 +151,47 @@ module _ (sizes : List ℕ) (L R : NodeLists) (packets lefts rights : List ℕ) 
       λ k. record { packet = p k; state = record { left = l k; right = r k } }
 
 -- the first i rows keep (c) and (d), whatever policies are loaded, and the next lists are empty
-pub record RowsTo (sizes nodesL testsL nodesR testsR packets lefts rights work₀ work nextL nextR : List ℕ) (i : ℕ) : Type 0 where
+pub record RowsTo (sizes : List ℕ) (nodes tests : List (List ℕ)) (packets lefts rights work₀ work : List ℕ) (next : List (List ℕ)) (i : ℕ) : Type 0 where
   pub within : i ≤ length packets
-  pub keep : (L R : NodeLists) → BothLoaded sizes L R nodesL testsL nodesR testsR → checkRows (pairSystem sizes (policies L R)) (tableOf sizes (policies L R) packets lefts rights) i ≡ accepted
-  pub left-blank : Blank nextL
-  pub right-blank : Blank nextR
+  pub keep : (L R : NodeLists) → BothLoaded sizes L R nodes tests → checkRows (pairSystem sizes (policies L R)) (tableOf sizes (policies L R) packets lefts rights) i ≡ accepted
+  pub blank : BothBlank next
   pub kept : work ≡ work₀
 
-module _ {sizes nodesL testsL nodesR testsR packets lefts rights : List ℕ} where
-  pub rows-none : {work : List ℕ} → RowsTo sizes nodesL testsL nodesR testsR packets lefts rights work work (replicate 1056 0) (replicate 1056 0) 0
+module _ {sizes : List ℕ} {nodes tests : List (List ℕ)} {packets lefts rights : List ℕ} where
+  pub rows-none : {work : List ℕ} → RowsTo sizes nodes tests packets lefts rights work work (replicate 2 (replicate 1056 0)) 0
   unfolding checkRows
-  rows-none = record { within = omega arith; keep = λ L R b. refl; left-blank = blank-new; right-blank = blank-new; kept = refl }
+  rows-none = record { within = omega arith; keep = λ L R b. refl; blank = record { two = refl; left-blank = blank-new; right-blank = blank-new }; kept = refl }
 
-  module _ {work₀ work nextL nextR : List ℕ} {i : ℕ} (to : RowsTo sizes nodesL testsL nodesR testsR packets lefts rights work₀ work nextL nextR i) where
-    pub rows-ready : {count : ℕ} {trees : List ℕ} → Ready sizes nodesL testsL nodesR testsR packets lefts rights count trees work₀ → Ready sizes nodesL testsL nodesR testsR packets lefts rights count trees work
-    rows-ready {count} {trees} = subst (Ready sizes nodesL testsL nodesR testsR packets lefts rights count trees) (sym (to .kept))
+  module _ {work₀ work : List ℕ} {next : List (List ℕ)} {i : ℕ} (to : RowsTo sizes nodes tests packets lefts rights work₀ work next i) where
+    pub rows-ready : {count : ℕ} {trees : List ℕ} → Ready sizes nodes tests packets lefts rights count trees work₀ → Ready sizes nodes tests packets lefts rights count trees work
+    rows-ready {count} {trees} = subst (Ready sizes nodes tests packets lefts rights count trees) (sym (to .kept))
 
-    module _ (inside : i < length packets) {nextL′ nextR′ work′ : List ℕ} {answer : RowAnswer} (row : RowChecked sizes nodesL testsL nodesR testsR packets lefts rights i work answer nextL′ nextR′ work′) where
-      pub rows-more : answer ≡ Keeps → RowsTo sizes nodesL testsL nodesR testsR packets lefts rights work₀ work′ nextL′ nextR′ (i + 1)
+    module _ (inside : i < length packets) {next′ : List (List ℕ)} {work′ : List ℕ} {answer : RowAnswer} (row : RowChecked sizes nodes tests packets lefts rights i work answer next′ work′) where
+      pub rows-more : answer ≡ Keeps → RowsTo sizes nodes tests packets lefts rights work₀ work′ next′ (i + 1)
       unfolding rowTold checkRows andThen
       rows-more e =
           record {
             within = omega arith;
             keep = λ L R b. ap (checkRows _ _) (add-one i) ∙ ap₂ andThen (to .keep L R b) (sym (ap (rowTold i) (sym e) ∙ row .told L R b));
-            left-blank = row .left-blank e;
-            right-blank = row .right-blank e;
+            blank = row .blank e;
             kept = row .kept ∙ to .kept;
           }
 
       -- a row that breaks a rule ends the check
-      rows-broken : (x : Checked) → ((y : Checked) → andThen x y ≡ x) → rowTold i answer ≡ x → RowsChecked sizes nodesL testsL nodesR testsR packets lefts rights work₀ (reported x) work′
+      rows-broken : (x : Checked) → ((y : Checked) → andThen x y ≡ x) → rowTold i answer ≡ x → RowsChecked sizes nodes tests packets lefts rights work₀ (reported x) work′
       rows-broken x ends e =
           record { answers = λ L R b. sym (ap reported (rows-end _ _ x ends i (length packets) inside (to .keep L R b) (sym e ∙ row .told L R b))); kept = row .kept ∙ to .kept }
 
-      pub rows-outputs : answer ≡ Outputs → RowsChecked sizes nodesL testsL nodesR testsR packets lefts rights work₀ (RuleC i) work′
+      pub rows-outputs : answer ≡ Outputs → RowsChecked sizes nodes tests packets lefts rights work₀ (RuleC i) work′
       unfolding rowTold reported andThen
       rows-outputs e = rows-broken (ruleC i) (λ y. refl) (ap (rowTold i) e)
 
-      pub rows-next : (γ : ℕ) → answer ≡ Next γ → RowsChecked sizes nodesL testsL nodesR testsR packets lefts rights work₀ (RuleD i γ) work′
+      pub rows-next : (γ : ℕ) → answer ≡ Next γ → RowsChecked sizes nodes tests packets lefts rights work₀ (RuleD i γ) work′
       unfolding rowTold reported andThen
       rows-next γ e = rows-broken (ruleD i γ) (λ y. refl) (ap (rowTold i) e)
 
     -- a repeat of a row that keeps (c) and (d)
-    pub rows-repeat : i < length packets → Repeated packets lefts rights i → RowsTo sizes nodesL testsL nodesR testsR packets lefts rights work₀ work nextL nextR (i + 1)
+    pub rows-repeat : i < length packets → Repeated packets lefts rights i → RowsTo sizes nodes tests packets lefts rights work₀ work next (i + 1)
     unfolding checkRows andThen
     rows-repeat inside q =
         record {
@@ -205,11 +199,10 @@ module _ {sizes nodesL testsL nodesR testsR packets lefts rights : List ℕ} whe
           keep = λ L R b.
               ap (checkRows _ _) (add-one i)
               ∙ ap₂ andThen (to .keep L R b) (repeat-keeps _ _ i (q .first) (q .before) (row-same sizes L R packets lefts rights (q .first) i (q .same)) (to .keep L R b));
-          left-blank = to .left-blank;
-          right-blank = to .right-blank;
+          blank = to .blank;
           kept = to .kept;
         }
 
-    pub rows-all : length packets ≤ i → RowsChecked sizes nodesL testsL nodesR testsR packets lefts rights work₀ Accepted work
+    pub rows-all : length packets ≤ i → RowsChecked sizes nodes tests packets lefts rights work₀ Accepted work
     unfolding reported
     rows-all h = record { answers = λ L R b. ap reported (sym (to .keep L R b) ∙ ap (checkRows _ _) (le-antisymm (to .within) h)); kept = to .kept }

@@ -1,6 +1,7 @@
 -- The checker's steps over the node lists: the starting rows, the table.
 -- Assumes nothing.
 use Prim.Native.Nat.{ℕ, _/_, _≤_, _<_}
+use native.Mathlib.Nat.{le-refl}
 use native.Mathlib.Omega.{arith}
 use mathlib.Core.List.{List}
 use mathlib.Core.Option.{Option}
@@ -10,7 +11,6 @@ use Rattle.packet.specs.Lowest.{lowest}
 use Rattle.packet.specs.Sizes.{product}
 use Rattle.policy.specs.Legality.{maxDups}
 use Rattle.policy.specs.NodeLists.{NodeLists, nodeCount, dupsBelow}
-use Rattle.loaded.specs.Loaded.{Loaded}
 use Rattle.system.specs.System.{System}
 use Rattle.pair.specs.Sides.{policies}
 use Rattle.pair.specs.Pair.{pairSystem}
@@ -18,14 +18,15 @@ use Rattle.pair.specs.Rules.{Table, ruleA, ruleB, andThen, brokenAt, breaksA, b
 use Rattle.pair.specs.Evidence.{tableOf, evidenceAnswer}
 use Rattle.index.specs.Index.{Indexed}
 use Rattle.index.proofs.Growth.{indexed-none}
-use Rattle.compare.specs.Comparison.{BothLoaded}
+use Rattle.compare.specs.Comparison.{LoadReady, BothLoaded}
+use Rattle.compare.proofs.Comparing.{load-asks}
 use Rattle.evidence.specs.declared.Evidence.{Evidence}
 use Rattle.evidence.specs.declared.Evidence.the-variants.{RuleA, RuleB}
 use Rattle.row_rules.specs.declared.Spot.{Spot}
 use Rattle.row_rules.specs.declared.Spot.the-variants.{At, Nowhere}
 use Rattle.row_rules.specs.Presence.{spotOf, strays, startMissing}
 use Rattle.evidence.specs.Calls.{reported}
-use Rattle.evidence.specs.Steps.{Lent, Cleared, Ready, RowsChecked, StartsChecked, TableChecked}
+use Rattle.evidence.specs.Steps.{Lent, Cleared, Vacant, Ready, RowsChecked, StartsChecked, TableChecked}
 use Rattle.evidence.proofs.Joining.{lowest-stray, packets-small, lowest-start}
 
 -- the spot found, as the lowest of a test
@@ -42,21 +43,23 @@ module _ (sizes : List ℕ) (L R : NodeLists) (packets lefts rights : List ℕ) 
   -- ---- the starting rows
 
   module _ {count : ℕ} {work : List ℕ} (C : Cleared sizes L R packets lefts rights count work) where
-    pub index-none : (k : ℕ) → 65535 ≤ k / 3 → Indexed packets lefts rights count 0 (replicate k 0)
-    index-none k room =
+    -- a list of 0 of this length can index the rows
+    pub vacant : (k : ℕ) → 4096 ≤ k / 3 → length packets ≤ k / 3 → Vacant sizes L R packets lefts rights count (replicate k 0)
+    vacant k wide room =
         let n = C .lent .numbered in
         let e = C .lent .allowed .packet-count in
         let f = C .lent .allowed .legal .small in
-        indexed-none packets lefts rights count k (C .lent .table) (omega arith) (omega arith) (omega arith)
+        record {
+          none = indexed-none packets lefts rights count k (C .lent .table) (omega arith) (omega arith);
+          all = record { within = le-refl (length packets); room = subst (λ m. length packets ≤ m / 3) (sym (length-replicate {A = ℕ} k 0)) room; small = C .small .small };
+        }
 
-    -- the two policies, loaded
-    module _ {nodesL testsL nodesR testsR : List ℕ} (l : Loaded sizes L nodesL testsL) (r : Loaded sizes R nodesR testsR) where
-      both-loaded : BothLoaded sizes L R nodesL testsL nodesR testsR
-      both-loaded =
-          record { legal-sizes = C .lent .allowed .legal; left-legal = C .lent .allowed .left-legal; right-legal = C .lent .allowed .right-legal; left-loaded = l; right-loaded = r }
+    pub load-ready : LoadReady sizes L R count (replicate 2 (replicate 544 0)) (replicate 2 (replicate 8224 0))
+    load-ready = load-asks (C .lent .allowed .legal) (C .lent .allowed .left-legal) (C .lent .allowed .right-legal) (C .lent .allowed .packet-count)
 
-      pub loaded-ready : {trees : List ℕ} → Indexed packets lefts rights count (length packets) trees → Ready sizes nodesL testsL nodesR testsR packets lefts rights count trees work
-      loaded-ready I = record { lists = L; others = R; loaded = both-loaded; cleared = C; indexed = I }
+    pub loaded-ready : {nodes tests : List (List ℕ)} {trees : List ℕ} → BothLoaded sizes L R nodes tests → Indexed packets lefts rights count (length packets) trees
+        → Ready sizes nodes tests packets lefts rights count trees work
+    loaded-ready l I = record { lists = L; others = R; loaded = l; cleared = C; indexed = I }
 
     module _ {spot : Spot} (missing : spotOf spot ≡ lowest (startMissing packets lefts rights) count) where
       start-is : {s : Spot} → spot ≡ s → lowest (breaksB S T) (product sizes) ≡ spotOf s
@@ -66,12 +69,12 @@ module _ (sizes : List ℕ) (L R : NodeLists) (packets lefts rights : List ℕ) 
       unfolding spotOf reported andThen brokenAt
       starts-broken α e = record { answers = sym (ap (λ (o : Option ℕ). reported (andThen (brokenAt ruleB o) (checkRows S T (length packets)))) (start-is e)); kept = refl }
 
-      pub starts-kept : spot ≡ Nowhere → {nodesL testsL nodesR testsR : List ℕ} → Loaded sizes L nodesL testsL → Loaded sizes R nodesR testsR
-          → {answer : Evidence} {work′ : List ℕ} → RowsChecked sizes nodesL testsL nodesR testsR packets lefts rights work answer work′ → StartsChecked sizes L R packets lefts rights work answer work′
+      pub starts-kept : spot ≡ Nowhere → {nodes tests : List (List ℕ)} → BothLoaded sizes L R nodes tests
+          → {answer : Evidence} {work′ : List ℕ} → RowsChecked sizes nodes tests packets lefts rights work answer work′ → StartsChecked sizes L R packets lefts rights work answer work′
       unfolding spotOf andThen brokenAt
-      starts-kept e l r rows =
+      starts-kept e l rows =
           record {
-            answers = rows .answers L R (both-loaded l r) ∙ sym (ap (λ (o : Option ℕ). reported (andThen (brokenAt ruleB o) (checkRows S T (length packets)))) (start-is e));
+            answers = rows .answers L R l ∙ sym (ap (λ (o : Option ℕ). reported (andThen (brokenAt ruleB o) (checkRows S T (length packets)))) (start-is e));
             kept = rows .kept;
           }
 

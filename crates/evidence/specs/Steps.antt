@@ -12,9 +12,8 @@ use Rattle.pair.specs.Rules.{Checked, accepted, ruleB, ruleC, ruleD, andThen, b
 use Rattle.pair.specs.Evidence.{tableOf, evidenceAnswer}
 use Rattle.packet.specs.Lowest.{lowest}
 use Rattle.index.specs.Columns.{Table, Small}
-use Rattle.index.specs.Index.{Indexed}
-use Rattle.marks.specs.Marks.{Blank}
-use Rattle.compare.specs.Comparison.{BothLoaded}
+use Rattle.index.specs.Index.{Indexed, Indexable}
+use Rattle.compare.specs.Comparison.{BothLoaded, BothBlank}
 use Rattle.evidence.specs.declared.Evidence.{Evidence}
 use Rattle.evidence.specs.declared.RowAnswer.{RowAnswer}
 use Rattle.evidence.specs.declared.RowAnswer.the-variants.{Keeps, Outputs, Next}
@@ -47,6 +46,11 @@ module _ (sizes : List ℕ) (L R : NodeLists) (packets lefts rights : List ℕ) 
     pub small : Small packets count
     pub zero : (i : ℕ) → i < 16384 → getD work i 0 ≡ 0
 
+  -- the list for the index is all 0, and long enough
+  pub record Vacant (count : ℕ) (trees : List ℕ) : Type 0 where
+    pub none : Indexed packets lefts rights count 0 trees
+    pub all : Indexable packets count (length packets) trees
+
   -- (b), then row by row
   pub record StartsChecked (work : List ℕ) (answer : Evidence) (work′ : List ℕ) : Type 0 where
     pub answers : answer
@@ -60,25 +64,24 @@ module _ (sizes : List ℕ) (L R : NodeLists) (packets lefts rights : List ℕ) 
     pub answers : answer ≡ reported (evidenceAnswer sizes (policies L R) packets lefts rights)
     pub cleared : work′ ≡ replicate (length work) 0
 
-module _ (sizes nodesL testsL nodesR testsR packets lefts rights : List ℕ) where
+module _ (sizes : List ℕ) (nodes tests : List (List ℕ)) (packets lefts rights : List ℕ) where
   -- two policies are loaded, and the rows are indexed
   pub record Ready (count : ℕ) (trees work : List ℕ) : Type 0 where
     pub lists : NodeLists
     pub others : NodeLists
-    pub loaded : BothLoaded sizes lists others nodesL testsL nodesR testsR
+    pub loaded : BothLoaded sizes lists others nodes tests
     pub cleared : Cleared sizes lists others packets lefts rights count work
     pub indexed : Indexed packets lefts rights count (length packets) trees
 
   -- (c), then (d), at row i, whatever policies are loaded; where the row keeps both, the next lists are empty
-  pub record RowChecked (i : ℕ) (work : List ℕ) (answer : RowAnswer) (nextL′ nextR′ work′ : List ℕ) : Type 0 where
-    pub told : (L R : NodeLists) → BothLoaded sizes L R nodesL testsL nodesR testsR
+  pub record RowChecked (i : ℕ) (work : List ℕ) (answer : RowAnswer) (next′ : List (List ℕ)) (work′ : List ℕ) : Type 0 where
+    pub told : (L R : NodeLists) → BothLoaded sizes L R nodes tests
         → rowTold i answer ≡ checkRow (pairSystem sizes (policies L R)) (tableOf sizes (policies L R) packets lefts rights) i
-    pub left-blank : answer ≡ Keeps → Blank nextL′
-    pub right-blank : answer ≡ Keeps → Blank nextR′
+    pub blank : answer ≡ Keeps → BothBlank next′
     pub kept : work′ ≡ work
 
   -- row by row
   pub record RowsChecked (work : List ℕ) (answer : Evidence) (work′ : List ℕ) : Type 0 where
-    pub answers : (L R : NodeLists) → BothLoaded sizes L R nodesL testsL nodesR testsR
+    pub answers : (L R : NodeLists) → BothLoaded sizes L R nodes tests
         → answer ≡ reported (checkRows (pairSystem sizes (policies L R)) (tableOf sizes (policies L R) packets lefts rights) (length packets))
     pub kept : work′ ≡ work

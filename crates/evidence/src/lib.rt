@@ -4,11 +4,12 @@ ghost use Prim.Native.Nat.{_<_};
 ghost use lib.ListN.{length};
 ghost use Rattle.policy.specs.AsLists.{asLists};
 ghost use Rattle.policy.specs.NodeLists.{dupsBelow, nodeCount};
-ghost use Rattle.marks.specs.Marks.{Blank};
+ghost use Rattle.compare.specs.Comparison.{BothBlank};
 ghost use Rattle.evidence.specs.Calls.{CheckedRows};
-ghost use Rattle.evidence.specs.Steps.{Lent, Cleared, Ready, RowChecked, RowsChecked, StartsChecked, TableChecked};
+ghost use Rattle.evidence.specs.Steps.{Lent, Cleared, Vacant, Ready, RowChecked, RowsChecked, StartsChecked, TableChecked};
 use compare::Compared;
 use index::Mask;
+use index::POLICIES;
 use legality::PairAnswer;
 use loaded::Nodes;
 use loaded::Tests;
@@ -39,58 +40,33 @@ pub enum RowAnswer {
 fn row_checked(
     sizes: &[u16],
     count: u16,
-    left_nodes: &Nodes,
-    left_tests: &Tests,
-    right_nodes: &Nodes,
-    right_tests: &Tests,
+    nodes: &[Nodes; POLICIES],
+    tests: &[Tests; POLICIES],
     packets: &[u16],
     lefts: &[Mask],
     rights: &[Mask],
     i: usize,
     trees: &[u16],
-    next_left: &mut Next,
-    next_right: &mut Next,
+    next: &mut [Next; POLICIES],
     work: &mut [u32],
 ) -> RowAnswer
-    requires { ⌜ Ready (now sizes) (now «left_nodes») (now «left_tests») (now «right_nodes») (now «right_tests») (now packets) (now lefts) (now rights) count (now trees) (now work) ⌝ }
-    requires { ⌜ (i < length (now packets)) × Blank (now «next_left») × Blank (now «next_right») ⌝ }
-    ensures { λ r. ⌜ RowChecked (now (sizes .entry)) (now («left_nodes» .entry)) (now («left_tests» .entry)) (now («right_nodes» .entry)) (now («right_tests» .entry)) (now (packets .entry)) (now (lefts .entry)) (now (rights .entry)) i (now (work .entry)) r (now («next_left» .exit)) (now («next_right» .exit)) (now (work .exit)) ⌝ }
+    requires { ⌜ Ready (now sizes) (now nodes) (now tests) (now packets) (now lefts) (now rights) count (now trees) (now work) ⌝ }
+    requires { ⌜ (i < length (now packets)) × BothBlank (now next) ⌝ }
+    ensures { λ r. ⌜ RowChecked (now (sizes .entry)) (now (nodes .entry)) (now (tests .entry)) (now (packets .entry)) (now (lefts .entry)) (now (rights .entry)) i (now (work .entry)) r (now (next .exit)) (now (work .exit)) ⌝ }
 {
     let row = index::row_at(packets, lefts, rights, i);
-    let states = row.states;
-    let compared = compare::compare(
-        sizes,
-        left_nodes,
-        left_tests,
-        right_nodes,
-        right_tests,
-        row.packet,
-        states[0],
-        states[1],
-        next_left,
-        next_right,
-        work,
-    );
-    match compared {
+    match compare::compare(sizes, nodes, tests, row, next, work) {
         Compared::Left(_) => RowAnswer::Outputs,
         Compared::Right(_) => RowAnswer::Outputs,
-        Compared::Same => match row_rules::first_next_missing(
-            packets,
-            lefts,
-            rights,
-            count,
-            trees,
-            next_left,
-            next_right,
-        ) {
-            Spot::At(gamma) => RowAnswer::Next(gamma),
-            Spot::Nowhere => {
-                let words = packet_set::words_for(count as usize);
-                marks::forget(next_left, words);
-                marks::forget(next_right, words);
-                RowAnswer::Keeps
+        Compared::Same => {
+            match row_rules::first_next_missing(packets, lefts, rights, count, trees, next) {
+                Spot::At(gamma) => RowAnswer::Next(gamma),
+                Spot::Nowhere => {
+                    compare::forget(next, count);
+                    RowAnswer::Keeps
+                }
             }
-        },
+        }
     }
 }
 
@@ -98,21 +74,18 @@ fn row_checked(
 fn rows_checked(
     sizes: &[u16],
     count: u16,
-    left_nodes: &Nodes,
-    left_tests: &Tests,
-    right_nodes: &Nodes,
-    right_tests: &Tests,
+    nodes: &[Nodes; POLICIES],
+    tests: &[Tests; POLICIES],
     packets: &[u16],
     lefts: &[Mask],
     rights: &[Mask],
     trees: &[u16],
     work: &mut [u32],
 ) -> Evidence
-    requires { ⌜ Ready (now sizes) (now «left_nodes») (now «left_tests») (now «right_nodes») (now «right_tests») (now packets) (now lefts) (now rights) count (now trees) (now work) ⌝ }
-    ensures { λ r. ⌜ RowsChecked (now (sizes .entry)) (now («left_nodes» .entry)) (now («left_tests» .entry)) (now («right_nodes» .entry)) (now («right_tests» .entry)) (now (packets .entry)) (now (lefts .entry)) (now (rights .entry)) (now (work .entry)) r (now (work .exit)) ⌝ }
+    requires { ⌜ Ready (now sizes) (now nodes) (now tests) (now packets) (now lefts) (now rights) count (now trees) (now work) ⌝ }
+    ensures { λ r. ⌜ RowsChecked (now (sizes .entry)) (now (nodes .entry)) (now (tests .entry)) (now (packets .entry)) (now (lefts .entry)) (now (rights .entry)) (now (work .entry)) r (now (work .exit)) ⌝ }
 {
-    let mut next_left = [0u32; 1056];
-    let mut next_right = [0u32; 1056];
+    let mut next = [[0u32; 1056]; POLICIES];
     let mut i = 0;
     while i < packets.len() {
         if row_rules::repeated(packets, lefts, rights, i, count, trees) {
@@ -121,17 +94,14 @@ fn rows_checked(
             match row_checked(
                 sizes,
                 count,
-                left_nodes,
-                left_tests,
-                right_nodes,
-                right_tests,
+                nodes,
+                tests,
                 packets,
                 lefts,
                 rights,
                 i,
                 trees,
-                &mut next_left,
-                &mut next_right,
+                &mut next,
                 work,
             ) {
                 RowAnswer::Outputs => return Evidence::RuleC(i as u16),
@@ -156,53 +126,99 @@ fn starts_checked(
     lefts: &[Mask],
     rights: &[Mask],
     count: u16,
+    trees: &mut [u16],
     work: &mut [u32],
 ) -> Evidence
     requires { ⌜ Cleared (now sizes) (asLists (now «left_kind») (now «left_first») (now «left_second»)) (asLists (now «right_kind») (now «right_first») (now «right_second»)) (now packets) (now lefts) (now rights) count (now work) ⌝ }
+    requires { ⌜ Vacant (now sizes) (asLists (now «left_kind») (now «left_first») (now «left_second»)) (asLists (now «right_kind») (now «right_first») (now «right_second»)) (now packets) (now lefts) (now rights) count (now trees) ⌝ }
     ensures { λ r. ⌜ StartsChecked (now (sizes .entry)) (asLists (now («left_kind» .entry)) (now («left_first» .entry)) (now («left_second» .entry))) (asLists (now («right_kind» .entry)) (now («right_first» .entry)) (now («right_second» .entry))) (now (packets .entry)) (now (lefts .entry)) (now (rights .entry)) (now (work .entry)) r (now (work .exit)) ⌝ }
 {
-    let mut trees = [0u16; 196608];
-    index::index_all(packets, lefts, rights, count, &mut trees);
-    match row_rules::first_start_missing(packets, lefts, rights, count, &trees) {
+    index::index_rows(packets, lefts, rights, packets.len(), count, trees);
+    match row_rules::first_start_missing(packets, lefts, rights, count, trees) {
         Spot::At(alpha) => Evidence::RuleB(alpha),
         Spot::Nowhere => {
-            let mut left_nodes = [0u64; 544];
-            let mut left_tests = [0u32; 8224];
-            loaded::load(
+            let mut nodes = [[0u64; 544]; POLICIES];
+            let mut tests = [[0u32; 8224]; POLICIES];
+            compare::load(
                 sizes,
                 count,
                 left_kind,
                 left_first,
                 left_second,
-                &mut left_nodes,
-                &mut left_tests,
-            );
-            let mut right_nodes = [0u64; 544];
-            let mut right_tests = [0u32; 8224];
-            loaded::load(
-                sizes,
-                count,
                 right_kind,
                 right_first,
                 right_second,
-                &mut right_nodes,
-                &mut right_tests,
+                &mut nodes,
+                &mut tests,
             );
             rows_checked(
                 sizes,
                 count,
-                &left_nodes,
-                &left_tests,
-                &right_nodes,
-                &right_tests,
+                &nodes,
+                &tests,
                 packets,
                 lefts,
                 rights,
-                &trees,
+                trees,
                 work,
             )
         }
     }
+}
+
+// Rule (b), then row by row, on an index that is not much larger than the table: a large one takes longer to set to 0 than a short table
+// to check.
+fn index_chosen(
+    sizes: &[u16],
+    left_kind: &[u8],
+    left_first: &[u16],
+    left_second: &[u16],
+    right_kind: &[u8],
+    right_first: &[u16],
+    right_second: &[u16],
+    packets: &[u16],
+    lefts: &[Mask],
+    rights: &[Mask],
+    count: u16,
+    work: &mut [u32],
+) -> Evidence
+    requires { ⌜ Cleared (now sizes) (asLists (now «left_kind») (now «left_first») (now «left_second»)) (asLists (now «right_kind») (now «right_first») (now «right_second»)) (now packets) (now lefts) (now rights) count (now work) ⌝ }
+    ensures { λ r. ⌜ StartsChecked (now (sizes .entry)) (asLists (now («left_kind» .entry)) (now («left_first» .entry)) (now («left_second» .entry))) (asLists (now («right_kind» .entry)) (now («right_first» .entry)) (now («right_second» .entry))) (now (packets .entry)) (now (lefts .entry)) (now (rights .entry)) (now (work .entry)) r (now (work .exit)) ⌝ }
+{
+    if packets.len() <= 4096 {
+        let mut trees = [0u16; 12288];
+        return starts_checked(
+            sizes,
+            left_kind,
+            left_first,
+            left_second,
+            right_kind,
+            right_first,
+            right_second,
+            packets,
+            lefts,
+            rights,
+            count,
+            &mut trees,
+            work,
+        );
+    }
+    let mut trees = [0u16; 196608];
+    starts_checked(
+        sizes,
+        left_kind,
+        left_first,
+        left_second,
+        right_kind,
+        right_first,
+        right_second,
+        packets,
+        lefts,
+        rights,
+        count,
+        &mut trees,
+        work,
+    )
 }
 
 // The four row rules, (a) over all rows first.
@@ -236,7 +252,7 @@ fn table_checked(
         right_dups as u32,
     ) {
         Spot::At(i) => Evidence::RuleA(i),
-        Spot::Nowhere => starts_checked(
+        Spot::Nowhere => index_chosen(
             sizes,
             left_kind,
             left_first,

@@ -16,7 +16,7 @@ use Rattle.index.specs.declared.Vacancy.the-variants.{At, Nowhere}
 use Rattle.index.specs.declared.Appended.{Appended}
 use Rattle.index.specs.declared.Appended.the-variants.{Rows, Full}
 use Rattle.index.specs.Columns.{policies, Table, rowAt, sameStates, sameRow, allZero, listedBelow}
-use Rattle.index.specs.Index.{VacantAt, Placed, Indexed, treesWith}
+use Rattle.index.specs.Index.{VacantAt, Placed, Indexed, RoomFor, treesWith}
 use Rattle.index.specs.Appending.{isNew, NewPlaced, Lists, answerOf, rowsAfter, changed, isAdded, Appending}
 use Rattle.index.proofs.Growth.{indexed-more}
 
@@ -103,12 +103,12 @@ module _ (x : Lists) (count n : ℕ) (r : Row) (parent : ℕ) (I : Indexed (x .p
   unfolding answerOf isAdded
   append-full e l = kept Full (ap₂ (λ s t. answerOf s t n) (sym e) (sym (le-ltb n (length (x .packets)) l))) (ap₂ _&&_ e (le-ltb n (length (x .packets)) l))
 
-  pub append-more : new ≡ true → n < length (x .packets) → r .packet < count → (slot : ℕ) → VacantAt (rowAt (x .packets) (x .left) (x .right)) count n (x .trees) r slot → (y : Lists)
+  pub append-more : new ≡ true → n < length (x .packets) → RoomFor (x .packets) n 1 (x .trees) → r .packet < count → (slot : ℕ) → VacantAt (rowAt (x .packets) (x .left) (x .right)) count n (x .trees) r slot → (y : Lists)
       → y .packets ≡ set (x .packets) n (r .packet) → y .left ≡ set (x .left) n (getD (r .states) 0 0) → y .right ≡ set (x .right) n (getD (r .states) 1 0)
       → y .parents ≡ set (x .parents) n parent → y .trees ≡ set (x .trees) slot (n + 1)
       → Appending x y count n r parent (Rows (n + 1))
   unfolding answerOf isAdded rowsAfter treesWith
-  append-more e l small slot W y isP isL isR isQ at =
+  append-more e l free small slot W y isP isL isR isQ at =
       let isT : y .trees ≡ set (x .trees) slot (suc n) = at ∙ ap (set (x .trees) slot) (add-one n) in
       let room = lt-ltb n (length (x .packets)) l in
       let added : isAdded x n r ≡ true = ap₂ _&&_ e room in
@@ -122,5 +122,5 @@ module _ (x : Lists) (count n : ℕ) (r : Row) (parent : ℕ) (I : Indexed (x .p
         indexed =
             rw (added, isP, isL, isR, isT)
             (indexed-more I _ _ _ r (put-table (x .packets) (x .left) (x .right) n r (I .table)) (length-set (x .packets) n _)
-            (put-below (x .packets) (x .left) (x .right) n r) (put-here (x .packets) (x .left) (x .right) n r (I .table) l) small l slot W);
+            (put-below (x .packets) (x .left) (x .right) n r) (put-here (x .packets) (x .left) (x .right) n r (I .table) l) small l (free .room n l (omega arith)) slot W);
       }

@@ -13,8 +13,8 @@ use borrow.Author.Tests.{lt-ltb}
 use Rattle.index.specs.declared.Row.{Row}
 use Rattle.index.specs.declared.Lookup.{Lookup}
 use Rattle.index.specs.declared.Lookup.the-variants.{Listed, Vacant}
-use Rattle.index.specs.Columns.{Table, Small, rowAt, sameRow, listedBelow}
-use Rattle.index.specs.Index.{bucketOf, sizeOf, lookFrom, slotOf, Rising, Indexed, treesWith, VacantAt, Placed}
+use Rattle.index.specs.Columns.{Table, rowAt, sameRow, listedBelow}
+use Rattle.index.specs.Index.{bucketOf, sizeOf, lookFrom, slotOf, Rising, Indexed, Indexable, treesWith, VacantAt, Placed}
 use Rattle.index.proofs.States.{same-refl, same-left}
 use Rattle.index.proofs.Hashing.{same-bucket, bucket-below}
 use Rattle.index.proofs.Trees.{scan-miss, scan-hit, scan-agree, scan-repeat, look-same, Reached, reached-root, rising-more, found-other, found-here}
@@ -25,14 +25,14 @@ zero-entry (suc k) zero = refl
 zero-entry (suc k) (suc slot) = zero-entry k slot
 
 -- a list of 0 indexes no row
-pub indexed-none : (P L R : List ℕ) (count k : ℕ) → Table P L R → length P < 65536 → length P ≤ k / 3 → count ≤ k / 3 → Indexed P L R count 0 (replicate k 0)
+pub indexed-none : (P L R : List ℕ) (count k : ℕ) → Table P L R → length P < 65536 → count ≤ k / 3 → Indexed P L R count 0 (replicate k 0)
 unfolding listedBelow
-indexed-none P L R count k t small room buckets =
+indexed-none P L R count k t small buckets =
     record {
       table = t;
       within = zero-le;
       numbered = small;
-      room = subst (λ m. length P ≤ m / 3) (sym (length-replicate k 0)) room;
+      room = zero-le;
       buckets = subst (λ m. count ≤ m / 3) (sym (length-replicate k 0)) buckets;
       rising =
           record {
@@ -49,7 +49,7 @@ attach-ready I l W = (omega (arith, W .inside, I .room), omega (arith, I .number
 -- row n is attached: the columns are as they were below n and hold the row r at n
 module _ {P L R trees : List ℕ} {count n : ℕ} (I : Indexed P L R count n trees) (P′ L′ R′ : List ℕ) (r : Row)
     (table : Table P′ L′ R′) (long : length P′ ≡ length P) (below : (i : ℕ) → i < n → rowAt P L R i ≡ rowAt P′ L′ R′ i) (here : sameRow (rowAt P′ L′ R′ n) r ≡ true)
-    (small : r .packet < count) (room : n < length P) (slot : ℕ) (W : VacantAt (rowAt P L R) count n trees r slot) where
+    (small : r .packet < count) (room : n < length P) (place : n < sizeOf trees) (slot : ℕ) (W : VacantAt (rowAt P L R) count n trees r slot) where
   same-size : sizeOf (set trees slot (suc n)) ≡ sizeOf trees
   same-size = ap (λ m. m / 3) (length-set trees slot (suc n))
 
@@ -81,7 +81,7 @@ module _ {P L R trees : List ℕ} {count n : ℕ} (I : Indexed P L R count n tre
           scan-miss (rowAt P′ L′ R′) q n s
           ∙ sym (scan-agree (rowAt P L R) (rowAt P′ L′ R′) q n below)
           ∙ I .finds q l
-          ∙ sym (found-other (I .rising) (rowAt P L R) (rowAt P′ L′ R′) slot (W .inside) attach-room (W .vacant) below q s (sizeOf trees) 0 _ root (omega (arith, I .room)))
+          ∙ sym (found-other (I .rising) (rowAt P L R) (rowAt P′ L′ R′) slot (W .inside) attach-room (W .vacant) below q s (sizeOf trees) 0 _ root (omega (arith, place)))
 
   pub indexed-more : Indexed P′ L′ R′ count (suc n) (set trees slot (suc n))
   unfolding slotOf
@@ -90,7 +90,7 @@ module _ {P L R trees : List ℕ} {count n : ℕ} (I : Indexed P L R count n tre
         table = table;
         within = omega arith;
         numbered = omega (arith, I .numbered);
-        room = subst (λ m. length P′ ≤ m) (sym same-size) (omega (arith, I .room));
+        room = subst (λ m. suc n ≤ m) (sym same-size) place;
         buckets = subst (λ m. count ≤ m) (sym same-size) (I .buckets);
         rising = subst (λ m. Rising m (suc n) (set trees slot (suc n))) (sym same-size) (rising-more (I .rising) (rowAt P L R) (rowAt P′ L′ R′) slot (W .inside) attach-room (W .vacant) below);
         finds = λ q l.
@@ -102,28 +102,36 @@ pub length-trees : (f : ℕ → Row) (count : ℕ) (r : Row) (n : ℕ) (trees : 
 unfolding treesWith
 length-trees f count r n trees = length-set trees _ _
 
--- The loop that indexes a whole table: i rows are indexed.
-pub record IndexedTo (P L R : List ℕ) (count i : ℕ) (trees₀ trees : List ℕ) : Type 0 where
+-- The loop that indexes rows: i of n are indexed.
+pub record IndexedTo (P L R : List ℕ) (count n i : ℕ) (trees₀ trees : List ℕ) : Type 0 where
+  pub upTo : i ≤ n
   pub indexed : Indexed P L R count i trees
   pub long : length trees ≡ length trees₀
 
 -- a row of the columns has a packet below N
-pub to-place : {P L R trees : List ℕ} {count i : ℕ} → Indexed P L R count i trees → Small P count → i < length P → (r : Row) → r ≡ rowAt P L R i → r .packet < count
-to-place {count = count} {i = i} I small l r isRow = subst (λ x. x .packet < count) (sym isRow) (small .small i l)
+pub to-place : {P L R trees₀ trees : List ℕ} {count n i : ℕ} → Indexable P count n trees₀ → Indexed P L R count i trees → i < n → (r : Row) → r ≡ rowAt P L R i → r .packet < count
+to-place {count = count} {i = i} A I l r isRow = subst (λ x. x .packet < count) (sym isRow) (A .small i l)
 
-module _ {P L R trees₀ trees : List ℕ} {count i : ℕ} (T : IndexedTo P L R count i trees₀ trees) (l : i < length P) (r : Row) (isRow : r ≡ rowAt P L R i)
+module _ {P L R trees₀ trees : List ℕ} {count n i : ℕ} (A : Indexable P count n trees₀) (T : IndexedTo P L R count n i trees₀ trees) (l : i < n) (r : Row) (isRow : r ≡ rowAt P L R i)
     {answer : Lookup} (p : Placed (rowAt P L R) count i trees r answer) where
+  within : i < length P
+  within = omega (arith, A .within)
+
+  place : i < sizeOf trees
+  place = subst (λ m. i < m / 3) (sym (T .long)) (omega (arith, A .room))
+
   -- the row is listed already
-  pub to-repeat : (j : ℕ) → answer ≡ Listed j → IndexedTo P L R count (i + 1) trees₀ trees
+  pub to-repeat : (j : ℕ) → answer ≡ Listed j → IndexedTo P L R count n (i + 1) trees₀ trees
   to-repeat j e =
       let again : listedBelow (rowAt P L R) i (rowAt P L R i) ≡ true = subst (λ x. listedBelow (rowAt P L R) i x ≡ true) isRow (p .listed j e .listed) in
       record {
+        upTo = omega arith;
         indexed =
             record {
               table = T .indexed .table;
-              within = omega arith;
+              within = omega (arith, within);
               numbered = T .indexed .numbered;
-              room = T .indexed .room;
+              room = omega (arith, place);
               buckets = T .indexed .buckets;
               rising = record { below = λ slot. omega (arith, T .indexed .rising .below slot); rises = T .indexed .rising .rises };
               finds = λ q s. ap (λ m. listedBelow (rowAt P L R) m q) (add-one i) ∙ scan-repeat (rowAt P L R) i again q ∙ T .indexed .finds q s;
@@ -133,16 +141,17 @@ module _ {P L R trees₀ trees : List ℕ} {count i : ℕ} (T : IndexedTo P L R 
 
   module _ (slot : ℕ) (e : answer ≡ Vacant slot) where
     pub to-attach : (slot < length trees) × (i < 65535)
-    to-attach = attach-ready (T .indexed) l (p .vacant slot e)
+    to-attach = attach-ready (T .indexed) within (p .vacant slot e)
 
-    pub to-more : Small P count → (trees′ : List ℕ) → trees′ ≡ set trees slot (i + 1) → IndexedTo P L R count (i + 1) trees₀ trees′
-    to-more small trees′ isTrees =
+    pub to-more : (trees′ : List ℕ) → trees′ ≡ set trees slot (i + 1) → IndexedTo P L R count n (i + 1) trees₀ trees′
+    to-more trees′ isTrees =
         record {
+          upTo = omega arith;
           indexed =
               rw (isTrees, add-one)
-              (indexed-more (T .indexed) P L R r (T .indexed .table) refl (λ j k. refl) (subst (λ x. sameRow x r ≡ true) isRow (same-refl r)) (to-place (T .indexed) small l r isRow) l slot (p .vacant slot e));
+              (indexed-more (T .indexed) P L R r (T .indexed .table) refl (λ j k. refl) (subst (λ x. sameRow x r ≡ true) isRow (same-refl r)) (to-place A (T .indexed) l r isRow) within place slot (p .vacant slot e));
           long = ap length isTrees ∙ length-set trees slot (i + 1) ∙ T .long;
         }
 
-pub to-all : {P L R trees₀ trees : List ℕ} {count i : ℕ} → IndexedTo P L R count i trees₀ trees → length P ≤ i → Indexed P L R count (length P) trees
-to-all {P} {L} {R} {trees₀} {trees} {count} T g = subst (λ n. Indexed P L R count n trees) (le-antisymm (T .indexed .within) g) (T .indexed)
+pub to-all : {P L R trees₀ trees : List ℕ} {count n i : ℕ} → IndexedTo P L R count n i trees₀ trees → n ≤ i → Indexed P L R count n trees
+to-all {P} {L} {R} {trees₀} {trees} {count} T g = subst (λ m. Indexed P L R count m trees) (le-antisymm (T .upTo) g) (T .indexed)

@@ -45,7 +45,7 @@ module _ {P L R trees : List ℕ} {count n : ℕ} (I : Indexed P L R count n tre
 
   module _ {slot depth : ℕ} (w : Looking P L R count n trees r slot depth) where
     pub looking-slot : slot < length trees
-    looking-slot = omega (arith, w .reached .inside, I .within, I .room)
+    looking-slot = omega (arith, w .reached .inside, I .room)
 
     module _ (entry : ℕ) (isEntry : entry ≡ getD trees slot 0) where
       pub looking-vacant : entry ≡ 0 → VacantAt (rowAt P L R) count n trees r slot
@@ -105,7 +105,7 @@ module _ {P L R trees : List ℕ} {count n : ℕ} (I : Indexed P L R count n tre
                 reached =
                     subst (λ d. Reached (sizeOf trees) n trees d (childSlot (sizeOf trees) (entry - 1) side)) (sym (add-one depth))
                     (reached-child (I .rising) (w .reached) entry side isEntry positive (subst (λ m. m < 2) (sym isSide) (side-below depth (r .states))));
-                goes = w .goes ∙ further (sizeOf trees - depth) (omega (arith, deeper, within, I .within, I .room));
+                goes = w .goes ∙ further (sizeOf trees - depth) (omega (arith, deeper, within, I .room));
               }
             where
               further : (k : ℕ) → suc (sizeOf trees - (depth + 1)) ≡ k

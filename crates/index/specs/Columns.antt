@@ -11,6 +11,13 @@ use Rattle.index.specs.declared.Row.{Row}
 abbrev pub policies : ℕ
 policies = 2
 
+-- of two lists, one for each policy: the left one's, the right one's
+abbrev pub leftOf : List (List ℕ) → List ℕ
+leftOf xs = getD xs 0 []
+
+abbrev pub rightOf : List (List ℕ) → List ℕ
+rightOf xs = getD xs 1 []
+
 -- the columns are of one length
 pub record Table (P L R : List ℕ) : Type 0 where
   pub left : length L ≡ length P

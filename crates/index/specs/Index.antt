@@ -63,10 +63,20 @@ pub record Indexed (P L R : List ℕ) (count n : ℕ) (trees : List ℕ) : Type 
   pub table : Table P L R
   pub within : n ≤ length P
   pub numbered : length P < 65536
-  pub room : length P ≤ sizeOf trees
+  pub room : n ≤ sizeOf trees
   pub buckets : count ≤ sizeOf trees
   pub rising : Rising (sizeOf trees) n trees
   pub finds : (r : Row) → r .packet < count → listedBelow (rowAt P L R) n r ≡ ltb 0 (getD trees (slotOf (rowAt P L R) count trees r) 0)
+
+-- the first n rows can be indexed: there is room for them, and each packet is below N
+pub record Indexable (P : List ℕ) (count n : ℕ) (trees : List ℕ) : Type 0 where
+  pub within : n ≤ length P
+  pub room : n ≤ sizeOf trees
+  pub small : (i : ℕ) → i < n → getD P i 0 < count
+
+-- the index has room for k rows after the first n, or for all that were lent
+pub record RoomFor (P : List ℕ) (n k : ℕ) (trees : List ℕ) : Type 0 where
+  pub room : (i : ℕ) → i < length P → i < n + k → i < sizeOf trees
 
 -- the list once row n is attached where a look for it ended
 unfoldable pub treesWith : (ℕ → Row) → ℕ → Row → ℕ → List ℕ → List ℕ

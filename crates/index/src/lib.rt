@@ -2,8 +2,8 @@
 ghost use mathlib.Core.Path.{_≡_};
 ghost use Prim.Native.Nat.{_+_, _<_, _≤_};
 ghost use lib.ListN.{length, getD, set};
-ghost use Rattle.index.specs.Columns.{policies, Table, Small, rowAt, sameStates, sameRow, listedBelow};
-ghost use Rattle.index.specs.Index.{hashOf, bucketOf, sideAt, Indexed, Placed};
+ghost use Rattle.index.specs.Columns.{policies, Table, rowAt, sameStates, sameRow, listedBelow};
+ghost use Rattle.index.specs.Index.{hashOf, bucketOf, sideAt, Indexed, Indexable, RoomFor, Placed};
 ghost use Rattle.index.specs.Appending.{NewPlaced, lists, Appending};
 
 // How many policies a row follows.
@@ -183,14 +183,21 @@ fn attach(trees: &mut [u16], slot: usize, n: usize)
     trees[slot] = (n + 1) as u16;
 }
 
-// Inner: indexes all rows of the columns; each packet is below count. A row that is listed already is not attached again.
-pub fn index_all(packets: &[u16], left: &[Mask], right: &[Mask], count: u16, trees: &mut [u16])
+// Inner: indexes the first n rows of the columns. A row that is listed already is not attached again.
+pub fn index_rows(
+    packets: &[u16],
+    left: &[Mask],
+    right: &[Mask],
+    n: usize,
+    count: u16,
+    trees: &mut [u16],
+)
     requires { ⌜ Indexed (now packets) (now left) (now right) count 0 (now trees) ⌝ }
-    requires { ⌜ Small (now packets) count ⌝ }
-    ensures { λ _. ⌜ Indexed (now (packets .entry)) (now (left .entry)) (now (right .entry)) count (length (now (packets .entry))) (now (trees .exit)) ⌝ }
+    requires { ⌜ Indexable (now packets) count n (now trees) ⌝ }
+    ensures { λ _. ⌜ Indexed (now (packets .entry)) (now (left .entry)) (now (right .entry)) count n (now (trees .exit)) ⌝ }
 {
     let mut i = 0;
-    while i < packets.len() {
+    while i < n {
         match place(
             packets,
             left,
@@ -258,6 +265,7 @@ pub fn append(
 ) -> Appended
     requires { ⌜ Indexed (now packets) (now left) (now right) count n (now trees) ⌝ }
     requires { ⌜ length (now parents) ≡ length (now packets) ⌝ }
+    requires { ⌜ RoomFor (now packets) n 1 (now trees) ⌝ }
     requires { ⌜ row .packet < count ⌝ }
     ensures { λ r. ⌜ Appending (lists (now (packets .entry)) (now (left .entry)) (now (right .entry)) (now (parents .entry)) (now (trees .entry))) (lists (now (packets .exit)) (now (left .exit)) (now (right .exit)) (now (parents .exit)) (now (trees .exit))) count n row parent r ⌝ }
 {

@@ -1,17 +1,15 @@
 -- One row is handled: what its comparison and its successors give. Assumes nothing.
-use Prim.Native.Nat.{ℕ, _+_, _*_, _<_, _≤_}
+use Prim.Native.Nat.{ℕ, _+_, _<_, _≤_}
 use mathlib.Core.Bool.{Bool, true, false, cond}
 use mathlib.Core.List.{List}
 use mathlib.Core.Path.{_≡_, refl, sym, ap, _∙_, subst}
 use native.Mathlib.Omega.{arith}
 use lib.Dec.{ltb}
 use borrow.Author.Tests.{lt-ltb, le-ltb}
-use lib.ListN.{length, getD}
+use lib.ListN.{length}
 use Rattle.packet.specs.Sizes.{product}
 use Rattle.policy.specs.NodeLists.{NodeLists}
-use Rattle.packet_set.specs.Members.{wordsFor}
-use Rattle.marks.specs.Marks.{Marking, Blank}
-use Rattle.marks.proofs.Touched.{forget-asks}
+use Rattle.marks.specs.Marks.{Marking}
 use Rattle.system.specs.System.{System}
 use Rattle.system.specs.RowOrder.{Run, turn, telling, handling, current}
 use Rattle.system.specs.RowOrder as order
@@ -22,16 +20,17 @@ use Rattle.pair.proofs.Lawful.{legal-pair, lawful}
 use Rattle.index.specs.declared.Appended.{Appended}
 use Rattle.index.specs.declared.Appended.the-variants.{Rows, Full as FullUp}
 use Rattle.index.specs.declared.Row.{Row}
-use Rattle.index.specs.Columns.{rowAt}
+use Rattle.index.specs.Columns.{leftOf, rightOf, rowAt}
 use Rattle.index.specs.Appending.{Lists}
-use Rattle.index.specs.Index.{Indexed}
+use Rattle.index.specs.Index.{Indexed, RoomFor}
 use Rattle.index.specs.Entries.{Masks}
 use Rattle.index.proofs.Entries.{entries-at}
+use Rattle.rows.specs.declared.Progress.{Progress}
 use Rattle.rows.specs.Standing.{answerFor, Standing, Continues, pairMasks, Nexts, NextAppended}
 use Rattle.rows.proofs.Standing.{stands-none, stands-length}
 use Rattle.compare.specs.declared.Compared.{Compared}
 use Rattle.compare.specs.declared.Compared.the-variants.{Same}
-use Rattle.compare.specs.Comparison.{BothLoaded, differsAt, rowOf, answerAt, CompareReady, ComparedStates}
+use Rattle.compare.specs.Comparison.{BothLoaded, BothMarking, BothBlank, differsAt, rowOf, answerAt, CompareReady, ComparedStates}
 use Rattle.compare.proofs.Telling.{differs-lowest, same-turn, differs-turn}
 use Rattle.round.specs.declared.Handled.{Handled}
 use Rattle.round.specs.declared.Handled.the-variants.{Open, Stopped}
@@ -65,16 +64,24 @@ module _ (sizes : List ℕ) (ps : Pair Labelled) (lent : ℕ) (x : Run (pairSyst
       go true e = absurd (let z : _≡_ {A = ℕ} 0 1 = cc in omega arith)
       go false e = let same : m ≡ length (x .rows) = cc in ap (goesOn (x .handled)) same
 
-module _ {sizes nodesL testsL nodesR testsR : List ℕ} {y : Lists} {count n h : ℕ} {nextL nextR work : List ℕ} (P : HandleReady sizes nodesL testsL nodesR testsR y count n h nextL nextR work) where
-  pub compare-ready : (r : Row) → r ≡ rowAt (y .packets) (y .left) (y .right) h → CompareReady sizes nodesL testsL nodesR testsR (r .packet) nextL nextR work
+module _ {sizes : List ℕ} {nodes tests : List (List ℕ)} {y : Lists} {p : Progress} {next : List (List ℕ)} {work : List ℕ} (P : HandleReady sizes nodes tests y p next work) where
+  abbrev count : ℕ
+  count = p .count
+
+  abbrev n : ℕ
+  n = p .listed
+
+  abbrev h : ℕ
+  h = p .handled
+
+  pub compare-ready : (r : Row) → r ≡ rowAt (y .packets) (y .left) (y .right) h → CompareReady sizes nodes tests (r .packet) next work
   compare-ready r is =
       record {
         lists = P .lists;
         others = P .others;
         loaded = P .loaded;
         packet = omega (arith, P .small, P .packets, ap (λ q. q .packet) is);
-        left-blank = P .left-blank;
-        right-blank = P .right-blank;
+        blank = P .blank;
         long = P .long;
         zero = P .zero;
       }
@@ -82,22 +89,23 @@ module _ {sizes nodesL testsL nodesR testsR : List ℕ} {y : Lists} {count n h :
   pub count-small : count ≤ 1024
   count-small = omega (arith, P .packets, P .loaded .legal-sizes .small)
 
-  -- what appending the successors asks
-  pub next-ready : {β l r : ℕ} {answer : Compared} {nextL′ nextR′ work′ : List ℕ} → ComparedStates sizes nodesL testsL nodesR testsR β l r work answer nextL′ nextR′ work′
-      → Indexed (y .packets) (y .left) (y .right) count n (y .trees) × ((length (y .parents) ≡ length (y .packets)) × (Marking count nextL′ × Marking count nextR′ × (count ≤ 1024)))
-  next-ready {nextL′ = nextL′} {nextR′} C = (P .indexed, (P .parents, (subst (λ k. Marking k nextL′) (sym (P .packets)) (C .left-marking), subst (λ k. Marking k nextR′) (sym (P .packets)) (C .right-marking), count-small)))
-
-  -- what emptying a next list asks
-  pub forget-ready : {words : ℕ} {next : List ℕ} → words ≡ wordsFor count → Marking (product sizes) next → (words ≤ 32) × Marking (32 * words) next
-  forget-ready {next = next} e m = forget-asks next count-small e (subst (λ k. Marking k next) (sym (P .packets)) m)
-
   -- rows have 16-bit numbers
-  pub row-fits : h < 65535
+  pub row-fits : h < 65536
   row-fits = omega (arith, P .row, P .indexed .within, P .indexed .numbered)
 
-  module _ {r : Row} (is : r ≡ rowAt (y .packets) (y .left) (y .right) h) {answer : Compared} {nextL′ nextR′ work′ : List ℕ}
-      (C : ComparedStates sizes nodesL testsL nodesR testsR (r .packet) (getD (r .states) 0 0) (getD (r .states) 1 0) work answer nextL′ nextR′ work′) where
-    module _ {L R : NodeLists} (b : BothLoaded sizes L R nodesL testsL nodesR testsR) where
+  module _ {w : Row} {answer : Compared} {next′ : List (List ℕ)} {work′ : List ℕ} (C : ComparedStates sizes nodes tests w work answer next′ work′) where
+    -- what emptying the next lists asks
+    pub forget-ready : (count ≤ 1024) × BothMarking count next′
+    forget-ready = (count-small, subst (λ k. BothMarking k next′) (sym (P .packets)) (C .marking))
+
+    -- what appending the successors asks
+    pub next-ready : Indexed (y .packets) (y .left) (y .right) count n (y .trees)
+        × ((length (y .parents) ≡ length (y .packets)) × (RoomFor (y .packets) n count (y .trees) × (Marking count (leftOf next′) × Marking count (rightOf next′) × (count ≤ 1024) × (h < 65536))))
+    next-ready = (P .indexed, (P .parents, (P .room, (forget-ready .1 .left-marking, forget-ready .1 .right-marking, count-small, row-fits))))
+
+  module _ {r : Row} (is : r ≡ rowAt (y .packets) (y .left) (y .right) h) {answer : Compared} {next′ : List (List ℕ)} {work′ : List ℕ}
+      (C : ComparedStates sizes nodes tests r work answer next′ work′) where
+    module _ {L R : NodeLists} (b : BothLoaded sizes L R nodes tests) where
       abbrev S : System
       S = pairSystem sizes (policies L R)
 
@@ -113,8 +121,8 @@ module _ {sizes nodesL testsL nodesR testsR : List ℕ} {y : Lists} {count n h :
       left-over : x .handled < length (x .rows)
       left-over = omega (arith, P .row, stands-length S M stands)
 
-      row-is : current S x ≡ rowOf sizes L R (r .packet) (getD (r .states) 0 0) (getD (r .states) 1 0)
-      row-is = ap (λ e. e .row) (entries-at S M _ _ n h (P .row)) ∙ ap (λ (q : Row). rowOf sizes L R (q .packet) (getD (q .states) 0 0) (getD (q .states) 1 0)) (sym is)
+      row-is : current S x ≡ rowOf sizes L R r
+      row-is = ap (λ e. e .row) (entries-at S M _ _ n h (P .row)) ∙ ap (rowOf sizes L R) (sym is)
 
       answer-is : answer ≡ answerAt sizes L R (current S x)
       answer-is = C .compared L R b .answers ∙ ap (answerAt sizes L R) (sym row-is)
@@ -129,11 +137,11 @@ module _ {sizes nodesL testsL nodesR testsR : List ℕ} {y : Lists} {count n h :
             standing = subst (λ es. Standing S M y y count (length es) es) (sym (rw (told, stepRows))) (subst (λ k. Standing S M y y count k (x .rows)) (sym (stands-length S M stands)) stands);
           }
 
-      nexts : Nexts sizes (policies L R) (current S x) nextL′ nextR′
-      nexts = subst (λ r. Nexts sizes (policies L R) r nextL′ nextR′) (sym row-is) (record { left-next = C .compared L R b .left-next; right-next = C .compared L R b .right-next })
+      nexts : Nexts sizes (policies L R) (current S x) (leftOf next′) (rightOf next′)
+      nexts = subst (λ r. Nexts sizes (policies L R) r (leftOf next′) (rightOf next′)) (sym row-is) (record { left-next = C .compared L R b .left-next; right-next = C .compared L R b .right-next })
 
       -- the outputs are the same, and the successors are appended
-      module _ (e : answer ≡ Same) {z : Lists} {a : Appended} (A : NextAppended y z count n h nextL′ nextR′ a) where
+      module _ (e : answer ≡ Same) {z : Lists} {a : Appended} (A : NextAppended y z count n h (leftOf next′) (rightOf next′) a) where
         goes : turn S x ≡ handling
         goes = same-turn sizes L R x left-over (sym answer-is ∙ e)
 
@@ -160,13 +168,13 @@ module _ {sizes nodesL testsL nodesR testsR : List ℕ} {y : Lists} {count n h :
     stopped-open e m q = absurd (let z : _≡_ {A = ℕ} 0 1 = cc in omega arith)
 
     -- the row tells
-    pub row-tells : (s : Side) (γ : ℕ) → answer ≡ differsAt s γ → StepDone sizes nodesL testsL nodesR testsR y y count n h work (Stopped (tellingAt s γ)) nextL′ nextR′ work′
+    pub row-tells : (s : Side) (γ : ℕ) → answer ≡ differsAt s γ → StepDone sizes nodes tests y y p work (Stopped (tellingAt s γ)) next′ work′
     row-tells s γ e = record { handled = λ L R b. tells-at b s γ e; blank = λ m q. stopped-open _ m q; kept = C .kept }
 
-    module _ (e : answer ≡ Same) {z : Lists} {a : Appended} (A : NextAppended y z count n h nextL′ nextR′ a) where
-      pub row-fills : a ≡ FullUp → StepDone sizes nodesL testsL nodesR testsR y z count n h work (Stopped Full) nextL′ nextR′ work′
+    module _ (e : answer ≡ Same) {z : Lists} {a : Appended} (A : NextAppended y z count n h (leftOf next′) (rightOf next′) a) where
+      pub row-fills : a ≡ FullUp → StepDone sizes nodes tests y z p work (Stopped Full) next′ work′
       row-fills f = record { handled = λ L R b. fills-at b e A f; blank = λ m q. stopped-open _ m q; kept = C .kept }
 
-      pub row-goes : (m : ℕ) → a ≡ Rows m → (r : Handled) → r ≡ goesOn (h + 1) m → {nextL″ nextR″ : List ℕ} → Blank nextL″ → Blank nextR″
-          → StepDone sizes nodesL testsL nodesR testsR y z count n h work r nextL″ nextR″ work′
-      row-goes m f r g bl br = record { handled = λ L R b. goes-at b e A m f r g; blank = λ k q. (bl, br); kept = C .kept }
+      pub row-goes : (m : ℕ) → a ≡ Rows m → (r : Handled) → r ≡ goesOn (h + 1) m → {next″ : List (List ℕ)} → BothBlank next″
+          → StepDone sizes nodes tests y z p work r next″ work′
+      row-goes m f r g blank = record { handled = λ L R b. goes-at b e A m f r g; blank = λ k q. blank; kept = C .kept }

@@ -13,10 +13,10 @@ use Rattle.pair.specs.Sides.{Pair, Labelled, policies}
 use Rattle.pair.specs.Pair.{pairSystem}
 use Rattle.pair.specs.Search.{sideOf}
 use Rattle.index.specs.Appending.{Lists}
-use Rattle.index.specs.Index.{Indexed}
+use Rattle.index.specs.Index.{Indexed, RoomFor}
+use Rattle.rows.specs.declared.Progress.{Progress}
 use Rattle.rows.specs.Standing.{rowsIn, Standing, pairMasks}
-use Rattle.marks.specs.Marks.{Blank}
-use Rattle.compare.specs.Comparison.{BothLoaded}
+use Rattle.compare.specs.Comparison.{BothLoaded, BothBlank}
 use Rattle.verdict.specs.declared.Ended.the-variants.{Done, Full}
 use Rattle.verdict.specs.Ending.{tellingAt}
 use Rattle.round.specs.declared.Handled.{Handled}
@@ -58,24 +58,25 @@ module _ (sizes : List ℕ) (ps : Pair Labelled) where
     pub answers : answer ≡ stepAnswer (length (y .packets)) (runAt y n h)
     pub standing : Standing (pairSystem sizes ps) (pairMasks sizes ps) y z count (length (stepRows (length (y .packets)) (runAt y n h))) (stepRows (length (y .packets)) (runAt y n h))
 
-module _ (sizes nodesL testsL nodesR testsR : List ℕ) where
-  -- what a step asks: two policies that are loaded, the first n rows indexed and row h one of them, empty next lists, and a work list of 0
-  pub record HandleReady (y : Lists) (count n h : ℕ) (nextL nextR work : List ℕ) : Type 0 where
+module _ (sizes : List ℕ) (nodes tests : List (List ℕ)) where
+  -- what a step asks: two policies that are loaded, the listed rows indexed, row p .handled one of them, room in the index for what
+  -- follows it, empty next lists, and a work list of 0
+  pub record HandleReady (y : Lists) (p : Progress) (next : List (List ℕ)) (work : List ℕ) : Type 0 where
     pub lists : NodeLists
     pub others : NodeLists
-    pub loaded : BothLoaded sizes lists others nodesL testsL nodesR testsR
-    pub packets : count ≡ product sizes
-    pub indexed : Indexed (y .packets) (y .left) (y .right) count n (y .trees)
+    pub loaded : BothLoaded sizes lists others nodes tests
+    pub packets : p .count ≡ product sizes
+    pub indexed : Indexed (y .packets) (y .left) (y .right) (p .count) (p .listed) (y .trees)
+    pub room : RoomFor (y .packets) (p .listed) (p .count) (y .trees)
     pub parents : length (y .parents) ≡ length (y .packets)
-    pub row : h < n
-    pub small : getD (y .packets) h 0 < count
-    pub left-blank : Blank nextL
-    pub right-blank : Blank nextR
+    pub row : p .handled < p .listed
+    pub small : getD (y .packets) (p .handled) 0 < p .count
+    pub blank : BothBlank next
     pub long : 16384 ≤ length work
     pub zero : (i : ℕ) → i < 16384 → getD work i 0 ≡ 0
 
   -- the step of the search, whatever policies are loaded; where it goes on, the next lists are empty again
-  pub record StepDone (y z : Lists) (count n h : ℕ) (work : List ℕ) (answer : Handled) (nextL′ nextR′ work′ : List ℕ) : Type 0 where
-    pub handled : (L R : NodeLists) → BothLoaded sizes L R nodesL testsL nodesR testsR → RowHandled sizes (policies L R) y z count n h answer
-    pub blank : (m : ℕ) → answer ≡ Open m → Blank nextL′ × Blank nextR′
+  pub record StepDone (y z : Lists) (p : Progress) (work : List ℕ) (answer : Handled) (next′ : List (List ℕ)) (work′ : List ℕ) : Type 0 where
+    pub handled : (L R : NodeLists) → BothLoaded sizes L R nodes tests → RowHandled sizes (policies L R) y z (p .count) (p .listed) (p .handled) answer
+    pub blank : (m : ℕ) → answer ≡ Open m → BothBlank next′
     pub kept : work′ ≡ work

@@ -5,9 +5,11 @@ ghost use Rattle.round.specs.Step.{goesOn, HandleReady, StepDone};
 use compare::Compared;
 use index::Appended;
 use index::Mask;
+use index::POLICIES;
 use loaded::Nodes;
 use loaded::Tests;
 use marks::Next;
+use rows::Progress;
 use verdict::Ended;
 
 // What a step of the search answers. Inner.
@@ -31,40 +33,22 @@ fn goes_on(handled: usize, listed: usize) -> Handled
 // index. The next lists are empty before, and after where the search goes on.
 pub fn handle(
     sizes: &[u16],
-    count: u16,
-    left_nodes: &Nodes,
-    left_tests: &Tests,
-    right_nodes: &Nodes,
-    right_tests: &Tests,
+    nodes: &[Nodes; POLICIES],
+    tests: &[Tests; POLICIES],
     packets: &mut [u16],
     lefts: &mut [Mask],
     rights: &mut [Mask],
     parents: &mut [u16],
     trees: &mut [u16],
-    handled: usize,
-    listed: usize,
-    next_left: &mut Next,
-    next_right: &mut Next,
+    progress: Progress,
+    next: &mut [Next; POLICIES],
     work: &mut [u32],
 ) -> Handled
-    requires { ⌜ HandleReady (now sizes) (now «left_nodes») (now «left_tests») (now «right_nodes») (now «right_tests») (lists (now packets) (now lefts) (now rights) (now parents) (now trees)) count listed handled (now «next_left») (now «next_right») (now work) ⌝ }
-    ensures { λ r. ⌜ StepDone (now (sizes .entry)) (now («left_nodes» .entry)) (now («left_tests» .entry)) (now («right_nodes» .entry)) (now («right_tests» .entry)) (lists (now (packets .entry)) (now (lefts .entry)) (now (rights .entry)) (now (parents .entry)) (now (trees .entry))) (lists (now (packets .exit)) (now (lefts .exit)) (now (rights .exit)) (now (parents .exit)) (now (trees .exit))) count listed handled (now (work .entry)) r (now («next_left» .exit)) (now («next_right» .exit)) (now (work .exit)) ⌝ }
+    requires { ⌜ HandleReady (now sizes) (now nodes) (now tests) (lists (now packets) (now lefts) (now rights) (now parents) (now trees)) progress (now next) (now work) ⌝ }
+    ensures { λ r. ⌜ StepDone (now (sizes .entry)) (now (nodes .entry)) (now (tests .entry)) (lists (now (packets .entry)) (now (lefts .entry)) (now (rights .entry)) (now (parents .entry)) (now (trees .entry))) (lists (now (packets .exit)) (now (lefts .exit)) (now (rights .exit)) (now (parents .exit)) (now (trees .exit))) progress (now (work .entry)) r (now (next .exit)) (now (work .exit)) ⌝ }
 {
-    let row = index::row_at(packets, lefts, rights, handled);
-    let states = row.states;
-    match compare::compare(
-        sizes,
-        left_nodes,
-        left_tests,
-        right_nodes,
-        right_tests,
-        row.packet,
-        states[0],
-        states[1],
-        next_left,
-        next_right,
-        work,
-    ) {
+    let row = index::row_at(packets, lefts, rights, progress.handled);
+    match compare::compare(sizes, nodes, tests, row, next, work) {
         Compared::Left(gamma) => Handled::Stopped(Ended::Left(gamma)),
         Compared::Right(gamma) => Handled::Stopped(Ended::Right(gamma)),
         Compared::Same => {
@@ -73,19 +57,14 @@ pub fn handle(
                 lefts,
                 rights,
                 parents,
-                listed,
-                count,
                 trees,
-                handled as u16,
-                next_left,
-                next_right,
+                progress,
+                next,
             ) else {
                 return Handled::Stopped(Ended::Full);
             };
-            let words = packet_set::words_for(count as usize);
-            marks::forget(next_left, words);
-            marks::forget(next_right, words);
-            goes_on(handled + 1, n)
+            compare::forget(next, progress.count);
+            goes_on(progress.handled + 1, n)
         }
     }
 }

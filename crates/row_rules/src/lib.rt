@@ -6,12 +6,13 @@ ghost use mathlib.Core.Bool.{true};
 ghost use Prim.Native.Nat.{_<_, _≤_};
 ghost use lib.ListN.{length, getD};
 ghost use Rattle.packet.specs.Lowest.{lowest};
-ghost use Rattle.index.specs.Columns.{Table, Small};
+ghost use Rattle.index.specs.Columns.{leftOf, rightOf, Table, Small};
 ghost use Rattle.index.specs.Index.{Indexed};
 ghost use Rattle.marks.specs.Marks.{Marking};
 ghost use Rattle.row_rules.specs.Presence.{spotOf, fits, zeroStates, strays, startMissing, nextMissing, Repeated};
 use index::Lookup;
 use index::Mask;
+use index::POLICIES;
 use index::Row;
 use marks::Next;
 
@@ -138,14 +139,13 @@ pub fn first_next_missing(
     rights: &[Mask],
     count: u16,
     trees: &[u16],
-    next_left: &Next,
-    next_right: &Next,
+    next: &[Next; POLICIES],
 ) -> Spot
     requires { ⌜ Indexed (now packets) (now lefts) (now rights) count (length (now packets)) (now trees) ⌝ }
-    requires { ⌜ (Marking count (now «next_left»)) × (Marking count (now «next_right»)) × (count ≤ 1024) ⌝ }
-    ensures { λ r. ⌜ spotOf r ≡ lowest (λ γ. nextMissing (now (packets .entry)) (now (lefts .entry)) (now (rights .entry)) γ (getD (now («next_left» .entry)) γ 0) (getD (now («next_right» .entry)) γ 0)) count ⌝ }
+    requires { ⌜ (Marking count (leftOf (now next))) × (Marking count (rightOf (now next))) × (count ≤ 1024) ⌝ }
+    ensures { λ r. ⌜ spotOf r ≡ lowest (λ γ. nextMissing (now (packets .entry)) (now (lefts .entry)) (now (rights .entry)) γ (getD (leftOf (now (next .entry))) γ 0) (getD (rightOf (now (next .entry))) γ 0)) count ⌝ }
 {
-    let set = marks::either(next_left, next_right);
+    let set = marks::either(&next[0], &next[1]);
     let words = packet_set::words_for(wide(count));
     let mut gamma = marks::next_marked(&set, 0, words, count);
     while gamma < count {
@@ -157,8 +157,8 @@ pub fn first_next_missing(
             count,
             trees,
             gamma,
-            next_left[i],
-            next_right[i],
+            next[0][i],
+            next[1][i],
         ) {
             return Spot::At(gamma);
         }

@@ -3,7 +3,7 @@ use mathlib.Core.Path.{_≡_, refl, sym, _∙_, ap, ap₂, subst}
 use mathlib.Core.Bool.{Bool, true, false, _||_}
 use mathlib.Core.List.{List, [], _∷_}
 use mathlib.Core.Logic.{⊎-elim}
-use Prim.Native.Nat.{ℕ, zero, suc, _+_, _≤_, _<_}
+use Prim.Native.Nat.{ℕ, zero, suc, _+_, _/_, _≤_, _<_}
 use native.Mathlib.Nat.{le-antisymm, le-of-suc-le-suc, eq-or-lt-of-le}
 use native.Mathlib.Numerals.{add-one}
 use native.Mathlib.Omega.{arith}
@@ -22,7 +22,7 @@ use Rattle.index.specs.declared.Row.{Row}
 use Rattle.index.specs.declared.Appended.{Appended}
 use Rattle.index.specs.declared.Appended.the-variants.{Rows, Full}
 use Rattle.index.specs.Columns.{sameStates, allZero}
-use Rattle.index.specs.Index.{Indexed}
+use Rattle.index.specs.Index.{Indexed, RoomFor}
 use Rattle.index.specs.Appending.{Lists, isAdded, rowsAfter, Appending}
 use Rattle.index.specs.Entries.{rowOf, entriesOf}
 use Rattle.index.proofs.Growth.{length-trees}
@@ -93,9 +93,19 @@ going-more {x} {y} {z} {count} {n} {m} {r} {p} {answer} G A e = record { indexed
     indexed (known new notIn a) = to false notIn (let q : n ≡ m = cc in q)
     indexed (full new l notIn a) = let q : _≡_ {A = ℕ} 0 1 = cc in absurd (omega arith)
 
+-- an append lists one row more at most
+few-more : {y z : Lists} {count n m : ℕ} {r : Row} {p : ℕ} {answer : Appended} → Appending y z count n r p answer → answer ≡ Rows m → m ≤ n + 1
+few-more {y} {z} {count} {n} {m} {r} {p} {answer} A e = go (outcome A)
+  where
+    go : Outcome y n r answer → m ≤ n + 1
+    go (added new l isIn a) = let q : suc n ≡ m = cc in omega arith
+    go (known new notIn a) = let q : n ≡ m = cc in omega arith
+    go (full new l notIn a) = let q : _≡_ {A = ℕ} 0 1 = cc in absurd (omega arith)
+
 -- The starting rows: γ of them are listed.
 pub record StartedTo (x y : Lists) (count n γ : ℕ) : Type 0 where
   pub going : Going x y count n
+  pub few : n ≤ γ
   pub stands : (sizes : List ℕ) (ps : Pair Labelled) → Lawful (pairSystem sizes ps) → product sizes ≡ count
       → Standing (pairSystem sizes ps) (pairMasks sizes ps) x y count n (starts (pairSystem sizes ps) γ)
 
@@ -122,13 +132,18 @@ module _ (sizes : List ℕ) (ps : Pair Labelled) where
 
 pub started-none : {x : Lists} {count : ℕ} → Indexed (x .packets) (x .left) (x .right) count 0 (x .trees) → length (x .parents) ≡ length (x .packets) → StartedTo x x count 0 0
 unfolding starts entriesOf
-started-none {x} {count} I l = record { going = going-none I l; stands = λ sizes ps lawful q. stands-none (pairSystem sizes ps) (pairMasks sizes ps) x count 0 I }
+started-none {x} {count} I l = record { going = going-none I l; few = omega arith; stands = λ sizes ps lawful q. stands-none (pairSystem sizes ps) (pairMasks sizes ps) x count 0 I }
+
+-- each packet has a bucket, so there is room for its starting row
+pub starting-room : {x y : Lists} {count n α : ℕ} → StartedTo x y count n α → α < count → RoomFor (y .packets) n 1 (y .trees)
+starting-room T small = record { room = λ i l k. omega (arith, T .few, T .going .indexed .buckets) }
 
 module _ {x y : Lists} {count n α : ℕ} (T : StartedTo x y count n α) (small : α < count) {z : Lists} {answer : Appended} (A : Appending y z count n (startingRow α) α answer) where
   pub started-more : (m : ℕ) → answer ≡ Rows m → StartedTo x z count m (α + 1)
   started-more m e =
       record {
         going = going-more (T .going) A e;
+        few = omega (arith, few-more A e, T .few);
         stands = λ sizes ps lawful q.
             subst (Standing (pairSystem sizes ps) (pairMasks sizes ps) x z count m)
             (starting-append sizes ps α ∙ ap (starts (pairSystem sizes ps)) (sym (add-one α)))
@@ -157,6 +172,7 @@ started-all {x} {y} {count} {n} {α} T l g =
 -- The rows next of row p: those at the packets below γ are appended.
 pub record NextTo (x y : Lists) (count before n γ p : ℕ) (lefts rights : List ℕ) : Type 0 where
   pub going : Going x y count n
+  pub few : n ≤ before + γ
   pub stands : (sizes : List ℕ) (ps : Pair Labelled) → Lawful (pairSystem sizes ps) → product sizes ≡ count
       → (r : system.Row (pairSystem sizes ps)) → Nexts sizes ps r lefts rights
       → Standing (pairSystem sizes ps) (pairMasks sizes ps) x y count n (appendNext (pairSystem sizes ps) γ p r (rowsIn (pairSystem sizes ps) (pairMasks sizes ps) x before))
@@ -164,7 +180,7 @@ pub record NextTo (x y : Lists) (count before n γ p : ℕ) (lefts rights : List
 pub next-none : {x : Lists} {count n p : ℕ} {lefts rights : List ℕ} → Indexed (x .packets) (x .left) (x .right) count n (x .trees) → length (x .parents) ≡ length (x .packets)
     → NextTo x x count n n 0 p lefts rights
 unfolding appendNext
-next-none {x} {count} {n} I l = record { going = going-none I l; stands = λ sizes ps lawful q r N. stands-none (pairSystem sizes ps) (pairMasks sizes ps) x count n I }
+next-none {x} {count} {n} I l = record { going = going-none I l; few = omega arith; stands = λ sizes ps lawful q r N. stands-none (pairSystem sizes ps) (pairMasks sizes ps) x count n I }
 
 append-dead : (S : System) (p : ℕ) (es : List (Entry S)) (r : system.Row S) → S .dead (r .state) ≡ true → append S p es r ≡ es
 append-dead S p es r e = append-kept S p es r (ap (λ b. b || listed S es r) e)
@@ -176,6 +192,7 @@ unfolding appendNext sameStates allZero
 next-dead {x} {y} {count} {before} {n} {γ} {p} {lefts} {rights} T small l r =
     record {
       going = T .going;
+      few = omega (arith, T .few);
       stands = λ sizes ps lawful q row N.
           subst (Standing (pairSystem sizes ps) (pairMasks sizes ps) x y count n)
           (sym (append-dead (pairSystem sizes ps) p _ _ (dead sizes ps row N (omega arith))))
@@ -188,6 +205,12 @@ next-dead {x} {y} {count} {before} {n} {γ} {p} {lefts} {rights} T small l r =
     dead : (sizes : List ℕ) (ps : Pair Labelled) (row : system.Row (pairSystem sizes ps)) → Nexts sizes ps row lefts rights → γ < product sizes
         → pairSystem sizes ps .dead (nextRow (pairSystem sizes ps) row γ .state) ≡ true
     dead sizes ps row N h = ap (λ w. pairSystem sizes ps .dead (w .state)) (sym (next-row sizes ps row lefts rights N γ h)) ∙ zero-masks sizes ps (getD lefts γ 0 ∷ getD rights γ 0 ∷ []) ∙ both-zero
+
+-- there is room for the row next at γ
+pub next-room : {x y : Lists} {count before n γ p : ℕ} {lefts rights : List ℕ} → RoomFor (x .packets) before count (x .trees) → NextTo x y count before n γ p lefts rights → γ < count
+    → RoomFor (y .packets) n 1 (y .trees)
+next-room F T small =
+    record { room = λ i l k. subst (λ m. i < m / 3) (sym (T .going .same .trees)) (F .room i (omega (arith, T .going .same .packets)) (omega (arith, T .few))) }
 
 -- packets without marks may be skipped
 pub next-skip : {x y : Lists} {count before n γ p : ℕ} {lefts rights : List ℕ} → NextTo x y count before n γ p lefts rights → {δ : ℕ} → γ ≤ δ → δ ≤ count
@@ -216,6 +239,7 @@ module _ {x y : Lists} {count before n γ p : ℕ} {lefts rights : List ℕ} (T 
   next-more m e =
       record {
         going = going-more (T .going) A e;
+        few = omega (arith, few-more A e, T .few);
         stands = λ sizes ps lawful q r N.
             subst (Standing (pairSystem sizes ps) (pairMasks sizes ps) x z count m)
             (appending sizes ps q r N ∙ ap (λ k. appendNext (pairSystem sizes ps) k p r (rowsIn (pairSystem sizes ps) (pairMasks sizes ps) x before)) (sym (add-one γ)))

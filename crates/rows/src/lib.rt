@@ -2,7 +2,8 @@
 ghost use mathlib.Core.Path.{_≡_};
 ghost use Prim.Native.Nat.{_+_, _<_, _≤_};
 ghost use lib.ListN.{length};
-ghost use Rattle.index.specs.Index.{Indexed};
+ghost use Rattle.index.specs.Columns.{leftOf, rightOf};
+ghost use Rattle.index.specs.Index.{Indexed, RoomFor};
 ghost use Rattle.index.specs.Appending.{lists};
 ghost use Rattle.marks.specs.Marks.{Marking};
 ghost use Rattle.rows.specs.Standing.{Started, NextAppended};
@@ -43,6 +44,13 @@ pub fn start(
     Appended::Rows(n)
 }
 
+// How far the row order has come: of `listed` rows `handled` are handled; there are `count` packets. Inner.
+pub struct Progress {
+    pub count: u16,
+    pub listed: usize,
+    pub handled: usize,
+}
+
 // Inner: row `handled` has been handled; the rows next of it, whose masks the two next lists hold, are appended to the first `listed`.
 // A packet without marks has no row: only marked packets are visited.
 pub fn append_next(
@@ -50,27 +58,27 @@ pub fn append_next(
     left: &mut [Mask],
     right: &mut [Mask],
     parents: &mut [u16],
-    listed: usize,
-    count: u16,
     trees: &mut [u16],
-    handled: u16,
-    next_left: &Next,
-    next_right: &Next,
+    progress: Progress,
+    next: &[Next; POLICIES],
 ) -> Appended
-    requires { ⌜ Indexed (now packets) (now left) (now right) count listed (now trees) ⌝ }
+    requires { ⌜ Indexed (now packets) (now left) (now right) (progress .count) (progress .listed) (now trees) ⌝ }
     requires { ⌜ length (now parents) ≡ length (now packets) ⌝ }
-    requires { ⌜ (Marking count (now «next_left»)) × (Marking count (now «next_right»)) × (count ≤ 1024) ⌝ }
-    ensures { λ r. ⌜ NextAppended (lists (now (packets .entry)) (now (left .entry)) (now (right .entry)) (now (parents .entry)) (now (trees .entry))) (lists (now (packets .exit)) (now (left .exit)) (now (right .exit)) (now (parents .exit)) (now (trees .exit))) count listed handled (now («next_left» .entry)) (now («next_right» .entry)) r ⌝ }
+    requires { ⌜ RoomFor (now packets) (progress .listed) (progress .count) (now trees) ⌝ }
+    requires { ⌜ (Marking (progress .count) (leftOf (now next))) × (Marking (progress .count) (rightOf (now next))) × (progress .count ≤ 1024) × (progress .handled < 65536) ⌝ }
+    ensures { λ r. ⌜ NextAppended (lists (now (packets .entry)) (now (left .entry)) (now (right .entry)) (now (parents .entry)) (now (trees .entry))) (lists (now (packets .exit)) (now (left .exit)) (now (right .exit)) (now (parents .exit)) (now (trees .exit))) (progress .count) (progress .listed) (progress .handled) (leftOf (now (next .entry))) (rightOf (now (next .entry))) r ⌝ }
 {
-    let set = marks::either(next_left, next_right);
+    let count = progress.count;
+    let handled = progress.handled as u16;
+    let set = marks::either(&next[0], &next[1]);
     let words = packet_set::words_for(lines::wide(count));
-    let mut n = listed;
+    let mut n = progress.listed;
     let mut packet = marks::next_marked(&set, 0, words, count);
     while packet < count {
         let i = lines::wide(packet);
         let row = Row {
             packet,
-            states: [next_left[i], next_right[i]],
+            states: [next[0][i], next[1][i]],
         };
         let Appended::Rows(m) = append(packets, left, right, parents, n, count, trees, row, handled)
         else {

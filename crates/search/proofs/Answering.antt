@@ -21,7 +21,6 @@ use Rattle.pair.specs.Search.{SearchAnswer, equal, different, rowsFull, traceSh
 use Rattle.pair.proofs.Lawful.{EvaluablePair, legal-pair}
 use Rattle.pair.proofs.Verdicts as verdicts
 use Rattle.index.specs.Appending.{Lists, lists}
-use Rattle.index.proofs.Growth.{indexed-none}
 use Rattle.lent.specs.Lent.{listsStage, rowsMisfit, lentTests}
 use Rattle.packet.specs.Written.{written}
 use Rattle.rows.proofs.Searching.{holds}
@@ -29,11 +28,11 @@ use Rattle.lent.proofs.Testing.{tests-passed, lists-passed, row-list-fits, rows
 use Rattle.verdict.specs.declared.Stop.{Stop}
 use Rattle.verdict.specs.declared.Verdict.{Verdict}
 use Rattle.verdict.specs.declared.Verdict.the-variants.{Equal, Full, Refused}
-use Rattle.loaded.specs.Loaded.{Loaded}
-use Rattle.compare.specs.Comparison.{BothLoaded}
+use Rattle.compare.specs.Comparison.{LoadReady, BothLoaded}
+use Rattle.compare.proofs.Comparing.{load-asks}
 use Rattle.verdict.specs.Ending.{endedAnswer}
 use Rattle.verdict.specs.Verdicts.{tellingVerdict, verdictOf, traceAfter, Told}
-use Rattle.search.specs.Rows.{RowsReady, RowsRun}
+use Rattle.search.specs.Rows.{RowsRun, RunReady}
 use Rattle.search.specs.Call.{Lent, lent, filled, verdictAfter, lentAfter, searchTests, answerHere, rowsHere, searchVerdict, searchLeaves, Telling, Searched, Accepted, SearchDone}
 
 zero≢one : _≡_ {A = ℕ} 0 1 → ⊥
@@ -102,22 +101,25 @@ module _ {sizes : List ℕ} {L R : NodeLists} {x : Lent} where
   -- ---- where no cause of 1 to 10 holds
 
   module _ {count : ℕ} (A : Accepted sizes L R count x) where
-    pub both-loaded : {nodesL testsL nodesR testsR : List ℕ} → Loaded sizes L nodesL testsL → Loaded sizes R nodesR testsR → BothLoaded sizes L R nodesL testsL nodesR testsR
-    both-loaded l r = record { legal-sizes = A .legal; left-legal = A .left-legal; right-legal = A .right-legal; left-loaded = l; right-loaded = r }
+    pub load-ready : LoadReady sizes L R count (replicate 2 (replicate 544 0)) (replicate 2 (replicate 8224 0))
+    load-ready = load-asks (A .legal) (A .left-legal) (A .right-legal) (A .packets)
 
-    pub rows-ready : {nodesL testsL nodesR testsR : List ℕ} → BothLoaded sizes L R nodesL testsL nodesR testsR → (work′ : List ℕ) → work′ ≡ replicate (length (x .work)) 0
-        → RowsReady sizes nodesL testsL nodesR testsR (lists (x .packets) (x .lefts) (x .rights) (x .parents) (replicate 196608 0)) count work′
-    rows-ready B work′ w =
-        let few : product sizes ≤ 1024 = A .legal .small in
+    pub run-asks : {nodes tests : List (List ℕ)} → BothLoaded sizes L R nodes tests → (work′ : List ℕ) → work′ ≡ replicate (length (x .work)) 0
+        → RunReady sizes nodes tests (lists (x .packets) (x .lefts) (x .rights) (x .parents) []) count work′
+    run-asks B work′ w =
         record {
-          lists = L;
-          others = R;
-          loaded = B;
-          packets = A .packets;
-          indexed = indexed-none (x .packets) (x .lefts) (x .rights) count 196608 (record { left = A .lefts; right = A .rights }) (omega (arith, A .few)) (omega (arith, A .few)) (omega (arith, A .packets, few));
+          prepared =
+              record {
+                lists = L;
+                others = R;
+                loaded = B;
+                packets = A .packets;
+                long = subst (λ n. 16384 ≤ n) (sym (ap length w ∙ length-replicate {A = ℕ} (length (x .work)) 0)) (A .long);
+                zero = λ i h. ap (λ v. getD v i 0) w ∙ getD-replicate (length (x .work)) i 0 0 (omega (arith, A .long));
+              };
+          table = record { left = A .lefts; right = A .rights };
           parents = A .parents;
-          long = subst (λ n. 16384 ≤ n) (sym (ap length w ∙ length-replicate {A = ℕ} (length (x .work)) 0)) (A .long);
-          zero = λ i h. ap (λ v. getD v i 0) w ∙ getD-replicate (length (x .work)) i 0 0 (omega (arith, A .long));
+          few = A .few;
         }
 
     module _ {trees : List ℕ} {z : Lists} {stop : Stop} (D : RowsRun sizes L R (lists (x .packets) (x .lefts) (x .rights) (x .parents) trees) z count stop) (long : length (z .parents) ≡ length (z .packets)) (same : length (z .packets) ≡ length (x .packets)) where

@@ -1,2 +1,3 @@
-pub mod Rounds
+pub mod Underway
+pub mod Levels
 pub mod Answering

@@ -1,79 +1,195 @@
 // The search for a telling trace through the row order (document 01, "States and rows").
+ghost use Prim.Native.Nat.{ℕ, _+_, _/_, _<_, _≤_};
+ghost use mathlib.Core.Bool.{true, false};
+ghost use mathlib.Core.List.{[]};
 ghost use mathlib.Core.Path.{_≡_};
 ghost use Rattle.policy.specs.AsLists.{asLists};
 ghost use Rattle.index.specs.Appending.{lists};
-ghost use Rattle.search.specs.Rows.{RowsReady, RunDone};
+ghost use Rattle.search.specs.Rows.{RoundsReady, RoundsDone, RestReady, RestDone, RunReady, RunDone};
 ghost use Rattle.search.specs.Call.{lent, Accepted, SearchDone, Searched};
 use index::Appended;
 use index::Mask;
+use index::POLICIES;
 use loaded::Nodes;
 use loaded::Tests;
 use packet::Counted;
 use round::Handled;
+use rows::Progress;
 use verdict::Ended;
 use verdict::Stop;
 use verdict::Verdict;
 
-// Inner: starts the row order and handles row after row until it ends. The index is empty.
-fn run(
+// Where an index leads to. Inner.
+pub enum Level {
+    Ended(Stop),
+    // the row order has come so far, and the index may have no room for the successors of the next row
+    Outgrown(Progress),
+}
+
+// Inner: whether an index of so many slots has room for all rows lent, or for a successor at each packet.
+fn has_room(lent: usize, slots: usize, progress: Progress) -> bool
+    requires { ⌜ progress .listed ≤ 65535 ⌝ }
+    ensures { λ r. ⌜ (r ≡ true → (i : ℕ) → i < lent → i < progress .listed + progress .count → i < slots / 3) × (r ≡ false → slots / 3 < lent) ⌝ }
+{
+    let size = slots / 3;
+    if lent <= size {
+        return true;
+    }
+    progress.listed + progress.count as usize <= size
+}
+
+// Inner: handles row after row while the index has room.
+fn rounds(
     sizes: &[u16],
-    count: u16,
-    left_nodes: &Nodes,
-    left_tests: &Tests,
-    right_nodes: &Nodes,
-    right_tests: &Tests,
+    nodes: &[Nodes; POLICIES],
+    tests: &[Tests; POLICIES],
     packets: &mut [u16],
     lefts: &mut [Mask],
     rights: &mut [Mask],
     parents: &mut [u16],
     trees: &mut [u16],
+    start: Progress,
+    work: &mut [u32],
+) -> Level
+    requires { ⌜ RoundsReady (now sizes) (now nodes) (now tests) (lists (now packets) (now lefts) (now rights) (now parents) (now trees)) start (now work) ⌝ }
+    ensures { λ r. ⌜ RoundsDone (now (sizes .entry)) (now (nodes .entry)) (now (tests .entry)) (lists (now (packets .entry)) (now (lefts .entry)) (now (rights .entry)) (now (parents .entry)) (now (trees .entry))) (lists (now (packets .exit)) (now (lefts .exit)) (now (rights .exit)) (now (parents .exit)) (now (trees .exit))) start (now (work .entry)) r (now (work .exit)) ⌝ }
+{
+    let mut next = [[0u32; 1056]; POLICIES];
+    let mut progress = start;
+    while has_room(packets.len(), trees.len(), progress) {
+        match round::handle(
+            sizes,
+            nodes,
+            tests,
+            packets,
+            lefts,
+            rights,
+            parents,
+            trees,
+            progress,
+            &mut next,
+            work,
+        ) {
+            Handled::Stopped(ended) => {
+                return Level::Ended(Stop {
+                    row: progress.handled,
+                    listed: progress.listed,
+                    ended,
+                });
+            }
+            Handled::Open(listed) => {
+                let count = progress.count;
+                let handled = progress.handled + 1;
+                progress = Progress {
+                    count,
+                    listed,
+                    handled,
+                };
+            }
+        }
+    }
+    Level::Outgrown(progress)
+}
+
+// Inner: the rest of a row order, on an index for as many rows as can be lent.
+fn run_on(
+    sizes: &[u16],
+    nodes: &[Nodes; POLICIES],
+    tests: &[Tests; POLICIES],
+    packets: &mut [u16],
+    lefts: &mut [Mask],
+    rights: &mut [Mask],
+    parents: &mut [u16],
+    progress: Progress,
     work: &mut [u32],
 ) -> Stop
-    requires { ⌜ RowsReady (now sizes) (now «left_nodes») (now «left_tests») (now «right_nodes») (now «right_tests») (lists (now packets) (now lefts) (now rights) (now parents) (now trees)) count (now work) ⌝ }
-    ensures { λ r. ⌜ RunDone (now (sizes .entry)) (now («left_nodes» .entry)) (now («left_tests» .entry)) (now («right_nodes» .entry)) (now («right_tests» .entry)) (lists (now (packets .entry)) (now (lefts .entry)) (now (rights .entry)) (now (parents .entry)) (now (trees .entry))) (lists (now (packets .exit)) (now (lefts .exit)) (now (rights .exit)) (now (parents .exit)) (now (trees .exit))) count (now (work .entry)) r (now (work .exit)) ⌝ }
+    requires { ⌜ RestReady (now sizes) (now nodes) (now tests) (lists (now packets) (now lefts) (now rights) (now parents) []) progress (now work) ⌝ }
+    ensures { λ r. ⌜ RestDone (now (sizes .entry)) (now (nodes .entry)) (now (tests .entry)) (lists (now (packets .entry)) (now (lefts .entry)) (now (rights .entry)) (now (parents .entry)) []) (lists (now (packets .exit)) (now (lefts .exit)) (now (rights .exit)) (now (parents .exit)) []) progress (now (work .entry)) r (now (work .exit)) ⌝ }
 {
-    let Appended::Rows(started) = rows::start(packets, lefts, rights, parents, count, trees) else {
+    let mut trees = [0u16; 196608];
+    index::index_rows(
+        packets,
+        lefts,
+        rights,
+        progress.listed,
+        progress.count,
+        &mut trees,
+    );
+    match rounds(
+        sizes,
+        nodes,
+        tests,
+        packets,
+        lefts,
+        rights,
+        parents,
+        &mut trees,
+        progress,
+        work,
+    ) {
+        Level::Ended(stop) => stop,
+        // never: this index is for 65,536 rows
+        Level::Outgrown(_) => Stop {
+            row: 0,
+            listed: 0,
+            ended: Ended::Full,
+        },
+    }
+}
+
+// Inner: the row order from its start to its end. It starts on a small index, so that a search of few rows need not set a large one to 0.
+fn run(
+    sizes: &[u16],
+    count: u16,
+    nodes: &[Nodes; POLICIES],
+    tests: &[Tests; POLICIES],
+    packets: &mut [u16],
+    lefts: &mut [Mask],
+    rights: &mut [Mask],
+    parents: &mut [u16],
+    work: &mut [u32],
+) -> Stop
+    requires { ⌜ RunReady (now sizes) (now nodes) (now tests) (lists (now packets) (now lefts) (now rights) (now parents) []) count (now work) ⌝ }
+    ensures { λ r. ⌜ RunDone (now (sizes .entry)) (now (nodes .entry)) (now (tests .entry)) (lists (now (packets .entry)) (now (lefts .entry)) (now (rights .entry)) (now (parents .entry)) []) (lists (now (packets .exit)) (now (lefts .exit)) (now (rights .exit)) (now (parents .exit)) []) count (now (work .entry)) r (now (work .exit)) ⌝ }
+{
+    let mut trees = [0u16; 12288];
+    let Appended::Rows(listed) = rows::start(packets, lefts, rights, parents, count, &mut trees)
+    else {
         return Stop {
             row: 0,
             listed: 0,
             ended: Ended::Full,
         };
     };
-    let mut next_left = [0u32; 1056];
-    let mut next_right = [0u32; 1056];
-    let mut listed = started;
-    let mut handled = 0;
-    loop {
-        match round::handle(
+    let progress = Progress {
+        count,
+        listed,
+        handled: 0,
+    };
+    match rounds(
+        sizes,
+        nodes,
+        tests,
+        packets,
+        lefts,
+        rights,
+        parents,
+        &mut trees,
+        progress,
+        work,
+    ) {
+        Level::Ended(stop) => stop,
+        Level::Outgrown(reached) => run_on(
             sizes,
-            count,
-            left_nodes,
-            left_tests,
-            right_nodes,
-            right_tests,
+            nodes,
+            tests,
             packets,
             lefts,
             rights,
             parents,
-            trees,
-            handled,
-            listed,
-            &mut next_left,
-            &mut next_right,
+            reached,
             work,
-        ) {
-            Handled::Stopped(ended) => {
-                return Stop {
-                    row: handled,
-                    listed,
-                    ended,
-                };
-            }
-            Handled::Open(n) => {
-                listed = n;
-                handled += 1;
-            }
-        }
+        ),
     }
 }
 
@@ -98,41 +214,29 @@ fn search_accepted(
     ensures { λ r. ⌜ SearchDone (now (sizes .entry)) (asLists (now («left_kind» .entry)) (now («left_first» .entry)) (now («left_second» .entry))) (asLists (now («right_kind» .entry)) (now («right_first» .entry)) (now («right_second» .entry))) (lent (now (packets .entry)) (now (lefts .entry)) (now (rights .entry)) (now (parents .entry)) (now (trace .entry)) (now (work .entry))) r (lent (now (packets .exit)) (now (lefts .exit)) (now (rights .exit)) (now (parents .exit)) (now (trace .exit)) (now (work .exit))) ⌝ }
 {
     lent::clear(work);
-    let mut left_nodes = [0u64; 544];
-    let mut left_tests = [0u32; 8224];
-    loaded::load(
+    let mut nodes = [[0u64; 544]; POLICIES];
+    let mut tests = [[0u32; 8224]; POLICIES];
+    compare::load(
         sizes,
         count,
         left_kind,
         left_first,
         left_second,
-        &mut left_nodes,
-        &mut left_tests,
-    );
-    let mut right_nodes = [0u64; 544];
-    let mut right_tests = [0u32; 8224];
-    loaded::load(
-        sizes,
-        count,
         right_kind,
         right_first,
         right_second,
-        &mut right_nodes,
-        &mut right_tests,
+        &mut nodes,
+        &mut tests,
     );
-    let mut trees = [0u16; 196608];
     let stop = run(
         sizes,
         count,
-        &left_nodes,
-        &left_tests,
-        &right_nodes,
-        &right_tests,
+        &nodes,
+        &tests,
         packets,
         lefts,
         rights,
         parents,
-        &mut trees,
         work,
     );
     verdict::conclude(packets, parents, stop, trace)

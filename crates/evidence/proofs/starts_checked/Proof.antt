@@ -1,23 +1,15 @@
--- `evidence::starts_checked` meets its contract: the rows are indexed, then (b), then the policies are loaded, then row by row. Assumes nothing.
-use Prim.Native.Nat.{ℕ}
-use lib.Dec.{lit≤}
-use lib.ListN.{length-replicate}
-use Rattle.evidence.proofs.Stepping.{index-none, loaded-ready, starts-broken, starts-kept}
+-- `starts_checked` meets its contract. Assumes nothing.
 use borrow.Author.Needs.{needs}
+use mathlib.Core.Path.{_∙_}
+use Rattle.evidence.proofs.Stepping.{load-ready, loaded-ready, starts-broken, starts-kept}
 use Rattle.evidence.proofs.starts_checked.Statement.{statement}
 use Rattle.evidence.proofs.starts_checked.Tie as tie
 
-slice-aggregate-index-all : tie.Need-slice-aggregate-index-all
-slice-aggregate-index-all c = search needs
-
-index-all-requires : tie.Need-index-all-requires
-index-all-requires c κs = (index-none _ _ _ _ _ _ (c .before .before .before .before .before .before .before .before .before .before .before .before .pre) 196608 (lit≤ tt), c .before .before .before .before .before .before .before .before .before .before .before .before .pre .small)
-
-slice-aggregate-first-start-missing : tie.Need-slice-aggregate-first-start-missing
-slice-aggregate-first-start-missing c = search needs
+index-rows-requires : tie.Need-index-rows-requires
+index-rows-requires c κs = (c .before .before .before .before .before .before .before .before .before .before .before .before .before .pre .1 .none, c .before .before .before .before .before .before .before .before .before .before .before .before .before .pre .1 .all)
 
 first-start-missing-requires : tie.Need-first-start-missing-requires
-first-start-missing-requires c κs = c .before .before .index-all .ensures
+first-start-missing-requires c κs = c .before .before .before .index-rows .ensures
 
 enum-known-alpha : tie.Need-enum-known-alpha
 enum-known-alpha c = search needs
@@ -26,40 +18,38 @@ enum-told : tie.Need-enum-told
 enum-told c = search needs
 
 load-requires : tie.Need-load-requires
-load-requires c κs = (c .before .before .before .before .before .before .before .before .before .before .before .before .before .before .before .before .before .before .before .before .pre .lent .allowed .legal, c .before .before .before .before .before .before .before .before .before .before .before .before .before .before .before .before .before .before .before .before .pre .lent .allowed .left-legal, c .before .before .before .before .before .before .before .before .before .before .before .before .before .before .before .before .before .before .before .before .pre .lent .allowed .packet-count, length-replicate {A = ℕ} 544 0, length-replicate {A = ℕ} 8224 0)
-
-load-requires-2 : tie.Need-load-requires-2
-load-requires-2 c κs = (c .before .before .before .before .before .before .before .before .before .before .before .before .before .before .before .before .before .before .before .before .before .before .before .pre .lent .allowed .legal, c .before .before .before .before .before .before .before .before .before .before .before .before .before .before .before .before .before .before .before .before .before .before .before .pre .lent .allowed .right-legal, c .before .before .before .before .before .before .before .before .before .before .before .before .before .before .before .before .before .before .before .before .before .before .before .pre .lent .allowed .packet-count, length-replicate {A = ℕ} 544 0, length-replicate {A = ℕ} 8224 0)
-
-slice-aggregate-rows-checked : tie.Need-slice-aggregate-rows-checked
-slice-aggregate-rows-checked c = search needs
+load-requires c κs = load-ready _ _ _ _ _ _ (c .before .before .before .before .before .before .before .before .before .before .before .before .before .before .before .before .before .before .before .before .before .before .pre .0)
 
 rows-checked-requires : tie.Need-rows-checked-requires
-rows-checked-requires c κs = loaded-ready _ _ _ _ _ _ (c .before .before .before .before .before .before .before .before .before .before .before .before .before .before .before .before .before .before .before .before .before .before .before .before .before .before .before .before .before .before .pre) (c .before .before .before .before .before .before .before .before .before .load .ensures) (c .before .before .before .before .before .before .load2 .ensures) (c .before .before .before .before .before .before .before .before .before .before .before .before .before .before .before .before .before .index-all .ensures)
-
-returns : tie.Need-returns
-returns c = starts-broken _ _ _ _ _ _ (c .before .before .before .before .before .before .before .before .before .before .before .before .before .before .before .before .before .before .before .pre) (c .before .before .before .first-start-missing .ensures) _ (c .before .alpha .given .1)
+rows-checked-requires c κs = loaded-ready _ _ _ _ _ _ (c .before .before .before .before .before .before .before .before .before .before .before .before .before .before .before .before .before .before .before .before .before .before .before .before .before .before .before .pre .0) (c .before .before .before .before .load .ensures) (c .before .before .before .before .before .before .before .before .before .before .before .before .before .index-rows .ensures)
 
 same-length : tie.Need-same-length
-same-length c = c .before .before .rows-checked .kept .1 .1 .1 .1 .1 .1 .1 .1 .1 .1 .0
+same-length c = c .before .before .before .before .before .before .before .index-rows .kept .1 .1 .1 .1 .1 .0
+
+returns : tie.Need-returns
+returns c = starts-broken _ _ _ _ _ _ (c .before .before .before .before .before .before .before .before .before .before .before .before .before .before .before .before .before .before .before .before .before .pre .0) (c .before .before .before .first-start-missing .ensures) _ (c .before .alpha .given .1)
+
+same-length-2 : tie.Need-same-length-2
+same-length-2 c = c .before .before .before .before .before .before .before .before .before .before .before .before .before .before .before .before .index-rows .kept .1 .1 .1 .1 .1 .0
+
+same-length-3 : tie.Need-same-length-3
+same-length-3 c = c .before .before .rows-checked .kept .1 .1 .1 .1 .1 .1 .1 .1 .0
 
 returns-2 : tie.Need-returns-2
-returns-2 c = starts-kept _ _ _ _ _ _ (c .before .before .before .before .before .before .before .before .before .before .before .before .before .before .before .before .before .before .before .before .before .before .before .before .before .before .before .before .before .before .before .before .before .pre) (c .before .before .before .before .before .before .before .before .before .before .before .before .before .before .before .before .before .first-start-missing .ensures) (c .before .before .before .before .before .before .before .before .before .before .before .before .before .before .before .enum-told .given .1) (c .before .before .before .before .before .before .before .before .before .before .before .before .load .ensures) (c .before .before .before .before .before .before .before .before .before .load2 .ensures) (c .before .before .rows-checked .ensures)
+returns-2 c = starts-kept _ _ _ _ _ _ (c .before .before .before .before .before .before .before .before .before .before .before .before .before .before .before .before .before .before .before .before .before .before .before .before .before .before .before .before .before .before .pre .0) (c .before .before .before .before .before .before .before .before .before .before .before .before .first-start-missing .ensures) (c .before .before .before .before .before .before .before .before .before .before .enum-told .given .1) (c .before .before .before .before .before .before .before .load .ensures) (c .before .before .rows-checked .ensures)
 
 pub starts-checked-spec : {M : Type 1} → statement M
 starts-checked-spec =
     tie.close
     (tie.spec
-    slice-aggregate-index-all
-    index-all-requires
-    slice-aggregate-first-start-missing
+    index-rows-requires
     first-start-missing-requires
     enum-known-alpha
     enum-told
     load-requires
-    load-requires-2
-    slice-aggregate-rows-checked
     rows-checked-requires
-    returns
     same-length
+    returns
+    same-length-2
+    same-length-3
     returns-2)

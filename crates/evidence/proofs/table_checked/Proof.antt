@@ -1,4 +1,4 @@
--- `evidence::table_checked` meets its contract: (a) over all rows first. Assumes nothing.
+-- `table_checked` meets its contract. Assumes nothing.
 use borrow.Author.Needs.{needs}
 use mathlib.Core.Path.{_∙_}
 use Rattle.evidence.proofs.Stepping.{dups-few, table-broken, table-cleared, table-kept}
@@ -17,8 +17,8 @@ enum-known-i c = search needs
 enum-told : tie.Need-enum-told
 enum-told c = search needs
 
-starts-checked-requires : tie.Need-starts-checked-requires
-starts-checked-requires c κs = table-cleared _ _ _ _ _ _ (c .before .before .before .before .before .before .before .before .before .before .before .before .before .before .before .before .before .before .before .pre .0) (c .before .before .before .before .before .before .clear .ensures) (c .before .before .before .before .before .before .before .before .before .before .before .before .before .before .before .before .before .before .before .pre .1 .0) (c .before .before .before .before .before .before .before .before .before .before .before .before .before .before .before .before .before .before .before .pre .1 .1) (c .before .before .before .first-stray .ensures) (c .before .enum-told .given .1)
+index-chosen-requires : tie.Need-index-chosen-requires
+index-chosen-requires c κs = table-cleared _ _ _ _ _ _ (c .before .before .before .before .before .before .before .before .before .before .before .before .before .before .before .before .before .before .before .pre .0) (c .before .before .before .before .before .before .clear .ensures) (c .before .before .before .before .before .before .before .before .before .before .before .before .before .before .before .before .before .before .before .pre .1 .0) (c .before .before .before .before .before .before .before .before .before .before .before .before .before .before .before .before .before .before .before .pre .1 .1) (c .before .before .before .first-stray .ensures) (c .before .enum-told .given .1)
 
 same-length : tie.Need-same-length
 same-length c = c .before .before .before .before .before .before .clear .kept .0
@@ -27,10 +27,10 @@ returns : tie.Need-returns
 returns c = table-broken _ _ _ _ _ _ (c .before .before .before .before .before .before .before .before .before .before .before .before .before .before .before .before .before .before .before .pre .0) (c .before .before .before .before .before .before .clear .ensures) (c .before .before .before .before .before .before .before .before .before .before .before .before .before .before .before .before .before .before .before .pre .1 .0) (c .before .before .before .before .before .before .before .before .before .before .before .before .before .before .before .before .before .before .before .pre .1 .1) (c .before .before .before .first-stray .ensures) _ (c .before .i .given .1)
 
 same-length-2 : tie.Need-same-length-2
-same-length-2 c = c .before .before .starts-checked .kept .1 .1 .1 .1 .1 .1 .1 .1 .1 .1 .1 .0 ∙ c .before .before .before .before .before .before .before .before .before .clear .kept .0
+same-length-2 c = c .before .before .index-chosen .kept .1 .1 .1 .1 .1 .1 .1 .1 .1 .1 .1 .0 ∙ c .before .before .before .before .before .before .before .before .before .clear .kept .0
 
 returns-2 : tie.Need-returns-2
-returns-2 c = table-kept _ _ _ _ _ _ (c .before .before .before .before .before .before .before .before .before .before .before .before .before .before .before .before .before .before .before .before .before .before .pre .0) (c .before .before .before .before .before .before .before .before .before .clear .ensures) (c .before .before .before .before .before .before .before .before .before .before .before .before .before .before .before .before .before .before .before .before .before .before .pre .1 .0) (c .before .before .before .before .before .before .before .before .before .before .before .before .before .before .before .before .before .before .before .before .before .before .pre .1 .1) (c .before .before .before .before .before .before .first-stray .ensures) (c .before .before .before .before .enum-told .given .1) (c .before .before .starts-checked .ensures)
+returns-2 c = table-kept _ _ _ _ _ _ (c .before .before .before .before .before .before .before .before .before .before .before .before .before .before .before .before .before .before .before .before .before .before .pre .0) (c .before .before .before .before .before .before .before .before .before .clear .ensures) (c .before .before .before .before .before .before .before .before .before .before .before .before .before .before .before .before .before .before .before .before .before .before .pre .1 .0) (c .before .before .before .before .before .before .before .before .before .before .before .before .before .before .before .before .before .before .before .before .before .before .pre .1 .1) (c .before .before .before .before .before .before .first-stray .ensures) (c .before .before .before .before .enum-told .given .1) (c .before .before .index-chosen .ensures)
 
 pub table-checked-spec : {M : Type 1} → statement M
 table-checked-spec =
@@ -40,7 +40,7 @@ table-checked-spec =
     first-stray-requires
     enum-known-i
     enum-told
-    starts-checked-requires
+    index-chosen-requires
     same-length
     returns
     same-length-2

@@ -8,7 +8,7 @@ use Rattle.index.proofs.append.Statement.{statement}
 use Rattle.index.proofs.append.Tie as tie
 
 place-new-requires : tie.Need-place-new-requires
-place-new-requires c κs = (c .before .before .before .before .before .before .before .before .before .pre .0, c .before .before .before .before .before .before .before .before .before .pre .1 .1)
+place-new-requires c κs = (c .before .before .before .before .before .before .before .before .before .pre .0, c .before .before .before .before .before .before .before .before .before .pre .1 .1 .1)
 
 enum-known-slot : tie.Need-enum-known-slot
 enum-known-slot c = search needs
@@ -77,7 +77,7 @@ same-length-13 : tie.Need-same-length-13
 same-length-13 c = c .before .before .attach .kept .0
 
 returns-3 : tie.Need-returns-3
-returns-3 c = append-more _ _ _ (c .before .before .before .before .before .before .before .before .before .before .before .before .before .before .before .before .before .before .before .before .before .before .before .before .before .before .before .before .args .row) _ (c .before .before .before .before .before .before .before .before .before .before .before .before .before .before .before .before .before .before .before .before .before .before .before .before .before .before .before .before .pre .0) (c .before .before .before .before .before .before .before .before .before .before .before .before .before .before .before .before .before .before .place-new .ensures .at _ (c .before .before .before .before .before .before .before .before .before .before .before .before .before .before .before .before .slot .given .1) .0) (c .before .before .before .before .before .before .before .before .before .before .before .before .before .before .if1 .left) (c .before .before .before .before .before .before .before .before .before .before .before .before .before .before .before .before .before .before .before .before .before .before .before .before .before .before .before .before .pre .1 .1) _ (c .before .before .before .before .before .before .before .before .before .before .before .before .before .before .before .before .before .before .place-new .ensures .at _ (c .before .before .before .before .before .before .before .before .before .before .before .before .before .before .before .before .slot .given .1) .1) _ (c .before .before .before .before .before .before .before .before .before .before .put-row .ensures .0) (c .before .before .before .before .before .before .before .before .before .before .put-row .ensures .1 .0) (c .before .before .before .before .before .before .before .before .before .before .put-row .ensures .1 .1) refl (c .before .before .attach .ensures)
+returns-3 c = append-more _ _ _ (c .before .before .before .before .before .before .before .before .before .before .before .before .before .before .before .before .before .before .before .before .before .before .before .before .before .before .before .before .args .row) _ (c .before .before .before .before .before .before .before .before .before .before .before .before .before .before .before .before .before .before .before .before .before .before .before .before .before .before .before .before .pre .0) (c .before .before .before .before .before .before .before .before .before .before .before .before .before .before .before .before .before .before .place-new .ensures .at _ (c .before .before .before .before .before .before .before .before .before .before .before .before .before .before .before .before .slot .given .1) .0) (c .before .before .before .before .before .before .before .before .before .before .before .before .before .before .if1 .left) (c .before .before .before .before .before .before .before .before .before .before .before .before .before .before .before .before .before .before .before .before .before .before .before .before .before .before .before .before .pre .1 .1 .0) (c .before .before .before .before .before .before .before .before .before .before .before .before .before .before .before .before .before .before .before .before .before .before .before .before .before .before .before .before .pre .1 .1 .1) _ (c .before .before .before .before .before .before .before .before .before .before .before .before .before .before .before .before .before .before .place-new .ensures .at _ (c .before .before .before .before .before .before .before .before .before .before .before .before .before .before .before .before .slot .given .1) .1) _ (c .before .before .before .before .before .before .before .before .before .before .put-row .ensures .0) (c .before .before .before .before .before .before .before .before .before .before .put-row .ensures .1 .0) (c .before .before .before .before .before .before .before .before .before .before .put-row .ensures .1 .1) refl (c .before .before .attach .ensures)
 
 pub append-spec : {M : Type 1} → statement M
 append-spec =

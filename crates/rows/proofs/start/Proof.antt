@@ -3,7 +3,7 @@ use borrow.Author.Needs.{needs}
 use Prim.Native.Nat.{_≤_, _-_}
 use native.Mathlib.Omega.{arith}
 use Rattle.index.specs.Appending.{lists}
-use Rattle.rows.proofs.Growing.{StartedTo, started-none, started-more, started-full, started-all, going-long, lengths-appended, lengths-then}
+use Rattle.rows.proofs.Growing.{StartedTo, started-none, started-more, started-full, started-all, starting-room, going-long, lengths-appended, lengths-then}
 use Rattle.rows.proofs.start.Statement.{statement}
 use Rattle.rows.proofs.start.Tie as tie
 
@@ -19,7 +19,7 @@ loop-holds : tie.Need-loop-holds Inv-loop μ-loop
 loop-holds c = (started-none (c .before .before .before .before .before .pre .0) (c .before .before .before .before .before .pre .1), omega arith)
 
 append-requires : tie.Need-append-requires Inv-loop μ-loop
-append-requires c κs = ((c .before .before .before .before .before .before .loop .inv .0 .going .indexed), (going-long (c .before .before .before .before .before .before .loop .inv .0 .going), (c .before .before .before .before .before .loop-test .taken)))
+append-requires c κs = (c .before .before .before .before .before .before .loop .inv .0 .going .indexed, (going-long (c .before .before .before .before .before .before .loop .inv .0 .going), (starting-room (c .before .before .before .before .before .before .loop .inv .0) (c .before .before .before .before .before .loop-test .taken), c .before .before .before .before .before .loop-test .taken)))
 
 enum-known-m : tie.Need-enum-known-m Inv-loop μ-loop
 enum-known-m c = search needs
