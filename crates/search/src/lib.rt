@@ -100,19 +100,19 @@ fn run_on(
     lefts: &mut [Mask],
     rights: &mut [Mask],
     parents: &mut [u16],
-    progress: Progress,
+    reached: Progress,
     work: &mut [u32],
 ) -> Stop
-    requires { ⌜ RestReady (now sizes) (now nodes) (now tests) (lists (now packets) (now lefts) (now rights) (now parents) []) progress (now work) ⌝ }
-    ensures { λ r. ⌜ RestDone (now (sizes .entry)) (now (nodes .entry)) (now (tests .entry)) (lists (now (packets .entry)) (now (lefts .entry)) (now (rights .entry)) (now (parents .entry)) []) (lists (now (packets .exit)) (now (lefts .exit)) (now (rights .exit)) (now (parents .exit)) []) progress (now (work .entry)) r (now (work .exit)) ⌝ }
+    requires { ⌜ RestReady (now sizes) (now nodes) (now tests) (lists (now packets) (now lefts) (now rights) (now parents) []) reached (now work) ⌝ }
+    ensures { λ r. ⌜ RestDone (now (sizes .entry)) (now (nodes .entry)) (now (tests .entry)) (lists (now (packets .entry)) (now (lefts .entry)) (now (rights .entry)) (now (parents .entry)) []) (lists (now (packets .exit)) (now (lefts .exit)) (now (rights .exit)) (now (parents .exit)) []) reached (now (work .entry)) r (now (work .exit)) ⌝ }
 {
     let mut trees = [0u16; 196608];
     index::index_rows(
         packets,
         lefts,
         rights,
-        progress.listed,
-        progress.count,
+        reached.listed,
+        reached.count,
         &mut trees,
     );
     match rounds(
@@ -124,7 +124,7 @@ fn run_on(
         rights,
         parents,
         &mut trees,
-        progress,
+        reached,
         work,
     ) {
         Level::Ended(stop) => stop,
