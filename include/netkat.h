@@ -36,8 +36,8 @@
  * the work list is all 0 whenever 10 has passed.
  *
  * Stack. A call needs up to NETKAT_STACK bytes of stack, 4 MiB. Measured on policies as deep as they may be, in KiB:
- *   netkat_values 1, netkat_number 1, netkat_policy 3, netkat_read 66, netkat_search 787,
- *   netkat_search_texts 791, netkat_evidence 787, netkat_trace 362
+ *   netkat_values 1, netkat_number 1, netkat_policy 3, netkat_policies 3, netkat_read 66,
+ *   netkat_search 787, netkat_search_texts 791, netkat_evidence 787, netkat_trace 362
  * A thread with too little meets its guard page, and the process ends.
  *
  * Time. Small calls take microseconds, searches and checks of evidence mostly milliseconds. On the costliest policies a row may take
@@ -88,6 +88,17 @@ void netkat_policy(const uint16_t *sizes, size_t sizes_length,
                    const uint16_t *first, size_t first_length,
                    const uint16_t *second, size_t second_length,
                    uint64_t *answer);
+
+/* Are the lists two policies over fields of these sizes? Answers 0, number of dups of the left, of the right; or refuses by 1 to 9,
+ * each of 4 to 9 with its side. */
+void netkat_policies(const uint16_t *sizes, size_t sizes_length,
+                     const uint8_t *left_kind, size_t left_kind_length,
+                     const uint16_t *left_first, size_t left_first_length,
+                     const uint16_t *left_second, size_t left_second_length,
+                     const uint8_t *right_kind, size_t right_kind_length,
+                     const uint16_t *right_first, size_t right_first_length,
+                     const uint16_t *right_second, size_t right_second_length,
+                     uint64_t *answer);
 
 /* Reads a policy's text, as "f0=0;(dup+f1<-2)*". Answers 0, number of nodes, which stand first in the three lists; or refuses
  * by 14 to 17, side 0. 17 names the nodes needed; over NETKAT_NODES no lists suffice. */

@@ -73,6 +73,7 @@ static void build(struct policy *p, int shape) {
 static void values(void) { uint16_t v[FIELDS]; netkat_values(sizes, FIELDS, 1023, v, FIELDS, answer); }
 static void number(void) { uint16_t v[FIELDS] = {0}; netkat_number(sizes, FIELDS, v, FIELDS, answer); }
 static void policy(void) { netkat_policy(sizes, FIELDS, POLICY(one), answer); }
+static void policies(void) { netkat_policies(sizes, FIELDS, POLICY(one), POLICY(other), answer); }
 static void reads(void) { netkat_read(text, text_length, other.kind, 512, other.first, 512, other.second, 512, answer); }
 static void search(void) { netkat_search(sizes, FIELDS, POLICY(one), POLICY(other), LISTS(ROWS), answer); }
 static void texts(void) { netkat_search_texts(sizes, FIELDS, text, text_length, text, text_length, LISTS(ROWS), answer); }
@@ -111,7 +112,8 @@ struct call {
 };
 
 static struct call calls[] = {
-    {"netkat_values", values, 0}, {"netkat_number", number, 0}, {"netkat_policy", policy, 0}, {"netkat_read", reads, 0},
+    {"netkat_values", values, 0}, {"netkat_number", number, 0}, {"netkat_policy", policy, 0},
+    {"netkat_policies", policies, 0}, {"netkat_read", reads, 0},
     {"netkat_search", search, 0}, {"netkat_search_texts", texts, 0}, {"netkat_evidence", evidence, 0}, {"netkat_trace", traces, 0},
 };
 #define CALLS (sizeof calls / sizeof *calls)

@@ -253,6 +253,13 @@ impl Checker {
         Ok(accepted(lists::policy(&self.sizes, policy.nodes()))?[1] as u8)
     }
 
+    /// The numbers of dups of two policies, left and right. Refused by 1 to 9, each of 4 to 9 with its side.
+    pub fn dups_of_both(&self, left: &Policy, right: &Policy) -> Result<(u8, u8), Refusal> {
+        let answer = lists::policies(&self.sizes, left.nodes(), right.nodes());
+        let answer = accepted(answer)?;
+        Ok((answer[1] as u8, answer[2] as u8))
+    }
+
     /// Have two policies the same traces from every packet? The search lists at most so many rows; if it needs more, it is
     /// refused by 11, and if that is over [`MOST_ROWS`], by 10. Refused by 1 to 11.
     pub fn search(

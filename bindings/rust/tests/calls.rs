@@ -62,6 +62,11 @@ fn policies_read_and_tested() {
         assert_eq!(other.kind.len(), 5);
         assert_eq!(Policy::read(b"f0=0;?"), Err(refusal(14, None, 5)));
         assert_eq!(checker().dups(&one), Ok(1));
+        let both = policy("dup;dup");
+        assert_eq!(checker().dups_of_both(&one, &both), Ok((1, 2)));
+        let field = policy("f2=0");
+        let refused = checker().dups_of_both(&one, &field);
+        assert_eq!(refused, Err(refusal(6, Some(Side::Right), 0)));
         let nodes = "id+".repeat(256) + "id";
         assert_eq!(
             Policy::read(nodes.as_bytes()),
