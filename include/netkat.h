@@ -1,19 +1,24 @@
 /* NetKAT policies: are two of them equal, and what shows it?
  *
- * Every function is proved to answer what its comment says, whatever the contents and lengths of the lists it is lent.
- * Link libexports.a (`rt staticlib exports`), for x86-64.
+ * Every function is proved to answer what its comment says, whatever the contents and lengths of the lists it is lent, and
+ * to return. Not proved: that this header declares the functions as they are compiled (a script compares the two), the compiler, and
+ * how much time and stack a call takes; docs/TRUST.md lists what is assumed.
+ *
+ * Linking. libexports.a (`rt staticlib exports`) is code for x86-64 Linux. It calls `memcpy` and `memset` of the C library
+ * and nothing else: no memory is allocated, nothing is read or written but the lists of a call.
  *
  * Lists. A list is a pointer and the number of its entries. The pointer points to so many entries and is aligned for
  * them; where the number is 0 it is not used and may be null. A list behind a pointer to const is only read. A list
  * that a function may write shares no entry with any other list of the call, and nobody else reads or writes it until the
- * call returns. Entries that a comment does not name keep their contents.
+ * call returns. Entries that a comment does not name keep their contents. `answer` is such a list, of eight entries, and is
+ * never null.
  *
  * Policies. A policy is three lists of equal length, 1 to 512: kind, first, second, children before parents, the last node
  * the policy. Kinds: 0 drop, 1 id, 2 test f = v, 3 test f != v, 4 change f <- v (first is f, second is v), 5 dup, 6 sum,
  * 7 sequence (first and second are nodes), 8 star (first is a node); unused entries are 0. netkat_read makes the lists
  * from a text.
  *
- * Answers. `answer` points to eight numbers, all of which are written; those not named below are 0. answer[0] is
+ * Answers. All eight numbers of `answer` are written; those not named below are 0. answer[0] is
  *   0 done, equal or accepted   1 left   2 right   3 both   4 neither   5 rejected   9 refused
  * and a refusal is 9, number, side (0 none, 1 left, 2 right), place:
  *    1 fields not 1 to 8                     2 a size is 0: field               3 product over 1,024: field
@@ -25,11 +30,19 @@
  *      of a value list with another length than there are fields, their number
  *   14 no token, or bad word: byte          15 over 64 open parentheses: byte  16 no legal text goes on so: byte
  *   17 too many nodes: nodes needed
- * Causes are tested in the order of their numbers, each over the whole input before the next, each of 4 to 9 on the left
- * policy and then on the right. A refusal leaves every list as it was, but for what 11 and 12 leave in the row lists and that the
- * work list is all 0 whenever 10 has passed.
+ * On lists causes are tested in the order of their numbers, each over the whole input before the next, each of 4 to 9 on the left
+ * policy and then on the right. On two texts 1 to 3 come first, then all of 14 to 17 on the left text, then all of them on the right
+ * text, then 4 to 12 on what the texts say. A refusal leaves every list but `answer` as it was, but for what 11 and 12 leave in the row lists and that
+ * the work list is all 0 whenever 10 has passed.
  *
- * Stack. A call needs up to 4 MiB of stack. Calls share no state: any number may run at once. */
+ * Stack. A call needs up to NETKAT_STACK bytes of stack, 4 MiB. Measured on policies as deep as they may be, in KiB:
+ *   netkat_values 1, netkat_number 1, netkat_policy 3, netkat_policies 3, netkat_read 66,
+ *   netkat_search 787, netkat_search_texts 791, netkat_evidence 787, netkat_trace 362
+ * A thread with too little meets its guard page, and the process ends.
+ *
+ * Time. Small calls take microseconds, searches and checks of evidence mostly milliseconds. On the costliest policies a row may take
+ * some milliseconds, and a call with 65,535 rows minutes. A call can't be cancelled: where that matters, lend fewer rows, or
+ * make the call in a process of its own. Calls share no state: any number may run at once. */
 #ifndef NETKAT_H
 #define NETKAT_H
 
@@ -40,10 +53,12 @@
 extern "C" {
 #endif
 
+#define NETKAT_VERSION "0.2.0"
 #define NETKAT_NUMBERS 8   /* numbers of an answer */
 #define NETKAT_NODES 512   /* most nodes of a policy */
 #define NETKAT_ROWS 65535  /* most rows of a table */
 #define NETKAT_WORK 16384  /* least length of a work list */
+#define NETKAT_STACK 4194304 /* stack, in bytes, that a call may need */
 
 enum {
     NETKAT_DONE = 0, /* equal, accepted */
@@ -73,6 +88,17 @@ void netkat_policy(const uint16_t *sizes, size_t sizes_length,
                    const uint16_t *first, size_t first_length,
                    const uint16_t *second, size_t second_length,
                    uint64_t *answer);
+
+/* Are the lists two policies over fields of these sizes? Answers 0, number of dups of the left, of the right; or refuses by 1 to 9,
+ * each of 4 to 9 with its side. */
+void netkat_policies(const uint16_t *sizes, size_t sizes_length,
+                     const uint8_t *left_kind, size_t left_kind_length,
+                     const uint16_t *left_first, size_t left_first_length,
+                     const uint16_t *left_second, size_t left_second_length,
+                     const uint8_t *right_kind, size_t right_kind_length,
+                     const uint16_t *right_first, size_t right_first_length,
+                     const uint16_t *right_second, size_t right_second_length,
+                     uint64_t *answer);
 
 /* Reads a policy's text, as "f0=0;(dup+f1<-2)*". Answers 0, number of nodes, which stand first in the three lists; or refuses
  * by 14 to 17, side 0. 17 names the nodes needed; over NETKAT_NODES no lists suffice. */
@@ -105,8 +131,8 @@ void netkat_search(const uint16_t *sizes, size_t sizes_length,
                    uint32_t *work, size_t work_length,
                    uint64_t *answer);
 
-/* The same for two texts. The texts are read first, the left one before the right: after 1 to 3 refuses by 14 to 17, side 0, then by 4 to
- * 12. */
+/* The same for two texts, which are read before anything is searched: refuses by 1 to 3, by 14 to 17 on the left text, then on
+ * the right, both with side 0, then by 4 to 12. */
 void netkat_search_texts(const uint16_t *sizes, size_t sizes_length,
                          const uint8_t *left_text, size_t left_text_length,
                          const uint8_t *right_text, size_t right_text_length,

@@ -1,6 +1,6 @@
 """Calls of the C interface as the program vectors takes them, and what it must write of each (crates/vectors/src/main.rt)."""
 
-VALUES, NUMBER, POLICY, READ, SEARCH, EVIDENCE, TRACE = range(7)
+VALUES, NUMBER, POLICY, READ, SEARCH, EVIDENCE, TRACE, TEXTS, POLICIES = range(9)
 # each entry of a list that a call may write, before the call
 BEFORE = 7
 PRIME = 4294967291

@@ -1,8 +1,8 @@
 """Tests of one policy and of two, with what they answer worked out from document 01, "Policies" and "Causes, in the order
-tested". Two policies are tested by a search with no room at all: where they pass, it refuses by 10."""
+tested". Two policies are tested by themselves, and by a search with no room at all: where they pass, it refuses by 10."""
 import random
 
-from calls import POLICY, SEARCH, call, lists_of, total
+from calls import POLICIES, POLICY, SEARCH, call, lists_of, total
 
 DROP, ID, EQ, NE, SET, DUP, SUM, SEQ, STAR = range(9)
 
@@ -220,5 +220,6 @@ def calls():
         if len(policies) == 1:
             yield call(POLICY, inputs, said.replace("legal", "done"))
         else:
+            yield call(POLICIES, inputs, said.replace("legal", "done"))
             none = total([], 0)
             yield call(SEARCH, inputs + [0] * 6, said if said.startswith("refused") else "refused 10 0 0", *[none] * 6)

@@ -36,6 +36,7 @@ pub fn run(case: &mut Case) -> Option<Numbers> {
         } => lists::values(sizes, *number, values),
         Case::Number { sizes, values } => lists::number(sizes, values),
         Case::Policy { sizes, policy } => lists::policy(sizes, nodes(policy)),
+        Case::Policies { sizes, left, right } => lists::policies(sizes, nodes(left), nodes(right)),
         Case::Read { text, nodes } => {
             lists::read(text, &mut nodes.kind, &mut nodes.first, &mut nodes.second)
         }

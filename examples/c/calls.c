@@ -74,6 +74,12 @@ int main(void) {
     read_policy("f0=0;?");
     netkat_policy(SIZES, NODES(one), answer);
     show("policy");
+    netkat_policies(SIZES, NODES(one), NODES(other), answer);
+    show("policies");
+    other.kind[1] = 9;
+    netkat_policies(SIZES, NODES(one), NODES(other), answer);
+    show("policies, one with a kind 9");
+    other.kind[1] = 4;
 
     netkat_search(SIZES, NODES(one), NODES(same), LENT, answer);
     show("search");

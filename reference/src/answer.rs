@@ -144,6 +144,13 @@ impl Numbered for usize {
     }
 }
 
+impl Numbered for (usize, usize) {
+    /// (0, count, count)
+    fn numbers(&self) -> Numbers {
+        padded(&[0, self.0 as u64, self.1 as u64])
+    }
+}
+
 impl Numbered for Verdict {
     /// (0, rows); (1 or 2, length, entering)
     fn numbers(&self) -> Numbers {

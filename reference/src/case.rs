@@ -34,6 +34,15 @@ pub enum Case {
         /// The policy.
         policy: OwnedLists,
     },
+    /// Two policies tested.
+    Policies {
+        /// Sizes of the fields.
+        sizes: Vec<u16>,
+        /// Left policy.
+        left: OwnedLists,
+        /// Right policy.
+        right: OwnedLists,
+    },
     /// One text read.
     Read {
         /// The text.
@@ -189,12 +198,27 @@ fn lent_checksums(lists: &Lists) -> Vec<u64> {
 }
 
 impl Case {
+    /// The test of the two policies that the call takes, if it searches two.
+    pub fn tested(&self) -> Option<Case> {
+        match self {
+            Case::Search {
+                sizes, left, right, ..
+            } => Some(Case::Policies {
+                sizes: sizes.clone(),
+                left: left.clone(),
+                right: right.clone(),
+            }),
+            _ => None,
+        }
+    }
+
     /// The call's name.
     pub fn name(&self) -> &'static str {
         match self {
             Case::Values { .. } => "values",
             Case::Number { .. } => "number",
             Case::Policy { .. } => "policy",
+            Case::Policies { .. } => "policies",
             Case::Read { .. } => "read",
             Case::Search { .. } => "search",
             Case::Texts { .. } => "texts",
@@ -214,6 +238,9 @@ impl Case {
             } => packets::values(sizes, *number, values).numbers(),
             Case::Number { sizes, values } => packets::number(sizes, values).numbers(),
             Case::Policy { sizes, policy } => policy::check(sizes, policy.lists()).numbers(),
+            Case::Policies { sizes, left, right } => {
+                policy::check_pair(sizes, left.lists(), right.lists()).numbers()
+            }
             Case::Read { text, nodes } => {
                 text::read(text, &mut nodes.kind, &mut nodes.first, &mut nodes.second).numbers()
             }
@@ -274,6 +301,11 @@ impl Case {
             Case::Policy { sizes, policy } => {
                 fields.push(list(sizes));
                 fields.extend(nodes(policy));
+            }
+            Case::Policies { sizes, left, right } => {
+                fields.push(list(sizes));
+                fields.extend(nodes(left));
+                fields.extend(nodes(right));
             }
             Case::Read { text, nodes: lent } => {
                 fields.push(hex(text));
@@ -337,7 +369,7 @@ impl Case {
     pub fn checksums(&self) -> Vec<u64> {
         match self {
             Case::Values { values, .. } => vec![checksum(values)],
-            Case::Number { .. } | Case::Policy { .. } => Vec::new(),
+            Case::Number { .. } | Case::Policy { .. } | Case::Policies { .. } => Vec::new(),
             Case::Read { nodes, .. } => vec![
                 checksum(&nodes.kind),
                 checksum(&nodes.first),

@@ -254,6 +254,16 @@ pub fn single(packets: &Packets, lists: NodeLists) -> Result<Policy, Refusal> {
     Ok(Policy::from_legal(lists))
 }
 
+/// Tests two policies by 1 to 9 and answers the number of dups of each.
+pub fn check_pair(
+    sizes: &[u16],
+    left: NodeLists,
+    right: NodeLists,
+) -> Result<(usize, usize), Refusal> {
+    let (left, right) = pair(&Packets::new(sizes)?, left, right)?;
+    Ok((left.dups(), right.dups()))
+}
+
 /// Tests one policy by 1 to 9 and answers its number of dups.
 pub fn check(sizes: &[u16], lists: NodeLists) -> Result<usize, Refusal> {
     Ok(single(&Packets::new(sizes)?, lists)?.dups())

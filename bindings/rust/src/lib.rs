@@ -13,8 +13,10 @@
 //! ```
 //!
 //! [`Checker`] and [`Policy`] own their lists and give typed answers; [`lists`] lends slices of any lengths and gives the eight
-//! numbers of the C interface; [`raw`] is that interface itself. A call needs up to 4 MiB of stack: a thread that makes
-//! calls is started with at least [`STACK`].
+//! numbers of the C interface; [`raw`] is that interface itself. The library is proved, this wrapper is not.
+//!
+//! A call needs up to 4 MiB of stack, measured at most 791 KiB: a thread that makes calls is started with at least [`STACK`] (Rust
+//! starts threads with 2 MiB). It runs to its end, on the costliest policies for minutes, and can't be cancelled.
 
 #![warn(missing_docs)]
 
@@ -55,6 +57,35 @@ pub struct Refusal {
     pub place: u64,
 }
 
+impl Refusal {
+    /// The cause in words, and what the place counts, if it has one.
+    fn words(&self) -> (&'static str, Option<&'static str>) {
+        match self.number {
+            1 => ("not 1 to 8 fields", None),
+            2 => ("a size is 0", Some("field")),
+            3 => ("more than 1,024 packets", Some("up to field")),
+            4 => ("policy lists unequal, empty or over 512 nodes", None),
+            5 => ("a kind over 8", Some("node")),
+            6 => ("a wrong field, value or unused entry", Some("node")),
+            7 => ("a child not below its parent", Some("parent node")),
+            8 => ("not a child exactly once", Some("node")),
+            9 => ("more than 31 dups", Some("node")),
+            10 => (
+                "row lists unequal or over 65,535 rows, or a short work list",
+                None,
+            ),
+            11 => ("more rows needed than were lent", Some("rows lent:")),
+            12 => ("a short trace list", Some("length needed:")),
+            13 => ("a packet or a value out of range", Some("place")),
+            14 => ("no token, or an unknown word", Some("byte")),
+            15 => ("more than 64 open parentheses", Some("byte")),
+            16 => ("no legal text goes on so", Some("byte")),
+            17 => ("more nodes than fit", Some("nodes needed:")),
+            _ => ("an unknown cause", Some("place")),
+        }
+    }
+}
+
 impl fmt::Display for Refusal {
     fn fmt(&self, f: &mut fmt::Formatter) -> fmt::Result {
         let side = match self.side {
@@ -62,7 +93,12 @@ impl fmt::Display for Refusal {
             Some(Side::Left) => " on the left",
             Some(Side::Right) => " on the right",
         };
-        write!(f, "refused by {}{side}, place {}", self.number, self.place)
+        let (cause, counted) = self.words();
+        write!(f, "refused by {}{side}: {cause}", self.number)?;
+        match counted {
+            None => Ok(()),
+            Some(what) => write!(f, ", {what} {}", self.place),
+        }
     }
 }
 
@@ -217,8 +253,15 @@ impl Checker {
         Ok(accepted(lists::policy(&self.sizes, policy.nodes()))?[1] as u8)
     }
 
+    /// The numbers of dups of two policies, left and right. Refused by 1 to 9, each of 4 to 9 with its side.
+    pub fn dups_of_both(&self, left: &Policy, right: &Policy) -> Result<(u8, u8), Refusal> {
+        let answer = lists::policies(&self.sizes, left.nodes(), right.nodes());
+        let answer = accepted(answer)?;
+        Ok((answer[1] as u8, answer[2] as u8))
+    }
+
     /// Have two policies the same traces from every packet? The search lists at most so many rows; if it needs more, it is
-    /// refused by 11. Refused by 1 to 11.
+    /// refused by 11, and if that is over [`MOST_ROWS`], by 10. Refused by 1 to 11.
     pub fn search(
         &mut self,
         left: &Policy,
@@ -248,6 +291,8 @@ impl Checker {
         most_rows: usize,
         search: impl FnOnce(&[u16], Lent) -> Numbers,
     ) -> Result<Verdict, Refusal> {
+        // one row too many is refused as any larger number is, and costs no more memory
+        let most_rows = most_rows.min(MOST_ROWS + 1);
         let mut rows = Rows {
             packet: vec![0; most_rows],
             left: vec![0; most_rows],

@@ -100,6 +100,32 @@ pub fn policy(sizes: &[u16], nodes: Nodes) -> Numbers {
     answer
 }
 
+/// Two policies tested.
+pub fn policies(sizes: &[u16], left: Nodes, right: Nodes) -> Numbers {
+    let mut answer = [0; 8];
+    // SAFETY: as in `values`.
+    unsafe {
+        raw::netkat_policies(
+            sizes.as_ptr(),
+            sizes.len(),
+            left.kind.as_ptr(),
+            left.kind.len(),
+            left.first.as_ptr(),
+            left.first.len(),
+            left.second.as_ptr(),
+            left.second.len(),
+            right.kind.as_ptr(),
+            right.kind.len(),
+            right.first.as_ptr(),
+            right.first.len(),
+            right.second.as_ptr(),
+            right.second.len(),
+            answer.as_mut_ptr(),
+        );
+    }
+    answer
+}
+
 /// One text read.
 pub fn read(text: &[u8], kind: &mut [u8], first: &mut [u16], second: &mut [u16]) -> Numbers {
     let mut answer = [0; 8];

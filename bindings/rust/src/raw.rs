@@ -35,6 +35,24 @@ extern "C" {
         answer: *mut u64,
     );
 
+    pub fn netkat_policies(
+        sizes: *const u16,
+        sizes_length: usize,
+        left_kind: *const u8,
+        left_kind_length: usize,
+        left_first: *const u16,
+        left_first_length: usize,
+        left_second: *const u16,
+        left_second_length: usize,
+        right_kind: *const u8,
+        right_kind_length: usize,
+        right_first: *const u16,
+        right_first_length: usize,
+        right_second: *const u16,
+        right_second_length: usize,
+        answer: *mut u64,
+    );
+
     pub fn netkat_read(
         text: *const u8,
         text_length: usize,

@@ -1,9 +1,19 @@
-//! Every call of the safe wrapper, the calls of `examples/c/calls.c`. Fields of sizes 3 and 2, so six packets.
+//! Every call of the safe wrapper, the calls of `examples/c/calls.c`, on threads with the stack that the wrapper states. Fields of
+//! sizes 3 and 2, so six packets.
 
-use netkat::{Checker, Holders, Policy, Refusal, Rows, Ruling, Side, Verdict};
+use std::thread;
+
+use netkat::{Checker, Holders, Policy, Refusal, Rows, Ruling, Side, Verdict, STACK};
 
 /// Rows lent to a search.
 const ROWS: usize = 64;
+
+/// Runs a test on a thread with the stack that a call may need.
+fn within_bound(test: fn()) {
+    let thread = thread::Builder::new().stack_size(STACK);
+    let done = thread.spawn(test).expect("a thread").join();
+    assert!(done.is_ok(), "the test failed");
+}
 
 fn checker() -> Checker {
     Checker::new(&[3, 2])
@@ -32,93 +42,151 @@ fn policies() -> (Policy, Policy, Policy) {
 
 #[test]
 fn packets_turned() {
-    assert_eq!(checker().values(5), Ok(vec![2, 1]));
-    assert_eq!(checker().number(&[2, 1]), Ok(5));
-    assert_eq!(checker().values(6), Err(refusal(13, None, 0)));
-    assert_eq!(checker().number(&[1, 2]), Err(refusal(13, None, 1)));
-    assert_eq!(checker().number(&[1]), Err(refusal(13, None, 2)));
-    assert_eq!(Checker::new(&[]).values(0), Err(refusal(1, None, 0)));
-    assert_eq!(Checker::new(&[3, 0]).values(0), Err(refusal(2, None, 1)));
+    within_bound(|| {
+        assert_eq!(checker().values(5), Ok(vec![2, 1]));
+        assert_eq!(checker().number(&[2, 1]), Ok(5));
+        assert_eq!(checker().values(6), Err(refusal(13, None, 0)));
+        assert_eq!(checker().number(&[1, 2]), Err(refusal(13, None, 1)));
+        assert_eq!(checker().number(&[1]), Err(refusal(13, None, 2)));
+        assert_eq!(Checker::new(&[]).values(0), Err(refusal(1, None, 0)));
+        assert_eq!(Checker::new(&[3, 0]).values(0), Err(refusal(2, None, 1)));
+    });
 }
 
 #[test]
 fn policies_read_and_tested() {
-    let (one, same, other) = policies();
-    assert_eq!(one.kind.len(), 3);
-    assert_eq!(same.kind.len(), 3);
-    assert_eq!(other.kind.len(), 5);
-    assert_eq!(Policy::read(b"f0=0;?"), Err(refusal(14, None, 5)));
-    assert_eq!(checker().dups(&one), Ok(1));
-    let nodes = "id+".repeat(256) + "id";
-    assert_eq!(
-        Policy::read(nodes.as_bytes()),
-        Err(refusal(17, None, 513)),
-        "more nodes needed than any lists have"
-    );
+    within_bound(|| {
+        let (one, same, other) = policies();
+        assert_eq!(one.kind.len(), 3);
+        assert_eq!(same.kind.len(), 3);
+        assert_eq!(other.kind.len(), 5);
+        assert_eq!(Policy::read(b"f0=0;?"), Err(refusal(14, None, 5)));
+        assert_eq!(checker().dups(&one), Ok(1));
+        let both = policy("dup;dup");
+        assert_eq!(checker().dups_of_both(&one, &both), Ok((1, 2)));
+        let field = policy("f2=0");
+        let refused = checker().dups_of_both(&one, &field);
+        assert_eq!(refused, Err(refusal(6, Some(Side::Right), 0)));
+        let nodes = "id+".repeat(256) + "id";
+        assert_eq!(
+            Policy::read(nodes.as_bytes()),
+            Err(refusal(17, None, 513)),
+            "more nodes needed than any lists have"
+        );
+    });
 }
 
 #[test]
 fn equal_with_evidence() {
-    let (one, same, _) = policies();
-    let mut checker = checker();
-    let expected = Rows {
-        packet: vec![0, 1, 2, 3, 4, 5, 0, 1, 2, 3, 4, 5],
-        left: vec![1, 1, 1, 1, 1, 1, 2, 2, 0, 0, 0, 0],
-        right: vec![1, 1, 1, 1, 1, 1, 2, 2, 2, 2, 2, 2],
-    };
-    let verdict = checker.search(&one, &same, ROWS);
-    assert_eq!(verdict, Ok(Verdict::Equal(expected.clone())));
-    let ruling = checker.evidence(&one, &same, &expected);
-    assert_eq!(ruling, Ok(Ruling::Accepted));
+    within_bound(|| {
+        let (one, same, _) = policies();
+        let mut checker = checker();
+        let expected = Rows {
+            packet: vec![0, 1, 2, 3, 4, 5, 0, 1, 2, 3, 4, 5],
+            left: vec![1, 1, 1, 1, 1, 1, 2, 2, 0, 0, 0, 0],
+            right: vec![1, 1, 1, 1, 1, 1, 2, 2, 2, 2, 2, 2],
+        };
+        let verdict = checker.search(&one, &same, ROWS);
+        assert_eq!(verdict, Ok(Verdict::Equal(expected.clone())));
+        let ruling = checker.evidence(&one, &same, &expected);
+        assert_eq!(ruling, Ok(Ruling::Accepted));
 
-    let mut short = expected.clone();
-    short.packet.pop();
-    short.left.pop();
-    short.right.pop();
-    let ruling = checker.evidence(&one, &same, &short);
-    assert_eq!(ruling, Ok(Ruling::NextMissing(5, 5)));
+        let mut short = expected.clone();
+        short.packet.pop();
+        short.left.pop();
+        short.right.pop();
+        let ruling = checker.evidence(&one, &same, &short);
+        assert_eq!(ruling, Ok(Ruling::NextMissing(5, 5)));
 
-    short.packet.pop();
-    let ruling = checker.evidence(&one, &same, &short);
-    assert_eq!(ruling, Err(refusal(10, None, 0)));
+        short.packet.pop();
+        let ruling = checker.evidence(&one, &same, &short);
+        assert_eq!(ruling, Err(refusal(10, None, 0)));
+    });
 }
 
 #[test]
 fn different_with_a_trace() {
-    let (one, same, other) = policies();
-    let mut checker = checker();
-    let different = |side| Verdict::Different {
-        side,
-        entering: 0,
-        trace: vec![0, 0],
-    };
-    let verdict = checker.search(&one, &other, ROWS);
-    assert_eq!(verdict, Ok(different(Side::Left)));
-    let holders = checker.trace(&one, &other, 0, &[0, 0]);
-    assert_eq!(holders, Ok(Holders::Only(Side::Left)));
-    let holders = checker.trace(&one, &same, 0, &[0, 0]);
-    assert_eq!(holders, Ok(Holders::Both));
-    let holders = checker.trace(&one, &same, 0, &[]);
-    assert_eq!(holders, Ok(Holders::Neither));
+    within_bound(|| {
+        let (one, same, other) = policies();
+        let mut checker = checker();
+        let different = |side| Verdict::Different {
+            side,
+            entering: 0,
+            trace: vec![0, 0],
+        };
+        let verdict = checker.search(&one, &other, ROWS);
+        assert_eq!(verdict, Ok(different(Side::Left)));
+        let holders = checker.trace(&one, &other, 0, &[0, 0]);
+        assert_eq!(holders, Ok(Holders::Only(Side::Left)));
+        let holders = checker.trace(&one, &same, 0, &[0, 0]);
+        assert_eq!(holders, Ok(Holders::Both));
+        let holders = checker.trace(&one, &same, 0, &[]);
+        assert_eq!(holders, Ok(Holders::Neither));
 
-    let verdict = checker.search_texts(b"f0=0;f1<-1;dup", b"f0=0;dup", ROWS);
-    assert_eq!(verdict, Ok(different(Side::Right)));
+        let verdict = checker.search_texts(b"f0=0;f1<-1;dup", b"f0=0;dup", ROWS);
+        assert_eq!(verdict, Ok(different(Side::Right)));
+    });
 }
 
 #[test]
 fn refusals_name_a_side() {
-    let (one, _, mut other) = policies();
-    let mut checker = checker();
-    let verdict = checker.search_texts(b"id", b"f2=0", ROWS);
-    assert_eq!(verdict, Err(refusal(6, Some(Side::Right), 0)));
-    other.kind[1] = 9;
-    let verdict = checker.search(&one, &other, ROWS);
-    assert_eq!(verdict, Err(refusal(5, Some(Side::Right), 1)));
-    let verdict = checker.search(&other, &one, ROWS);
-    assert_eq!(verdict, Err(refusal(5, Some(Side::Left), 1)));
-    assert_eq!(checker.dups(&other), Err(refusal(5, None, 1)));
-    let verdict = checker.search(&one, &one, 3);
-    assert_eq!(verdict, Err(refusal(11, None, 3)));
-    let trace = checker.trace(&one, &one, 0, &[0, 6]);
-    assert_eq!(trace, Err(refusal(13, None, 2)));
+    within_bound(|| {
+        let (one, _, mut other) = policies();
+        let mut checker = checker();
+        let verdict = checker.search_texts(b"id", b"f2=0", ROWS);
+        assert_eq!(verdict, Err(refusal(6, Some(Side::Right), 0)));
+        other.kind[1] = 9;
+        let verdict = checker.search(&one, &other, ROWS);
+        assert_eq!(verdict, Err(refusal(5, Some(Side::Right), 1)));
+        let verdict = checker.search(&other, &one, ROWS);
+        assert_eq!(verdict, Err(refusal(5, Some(Side::Left), 1)));
+        assert_eq!(checker.dups(&other), Err(refusal(5, None, 1)));
+        let verdict = checker.search(&one, &one, 3);
+        assert_eq!(verdict, Err(refusal(11, None, 3)));
+        let trace = checker.trace(&one, &one, 0, &[0, 6]);
+        assert_eq!(trace, Err(refusal(13, None, 2)));
+    });
+}
+
+#[test]
+fn refusals_in_words() {
+    let said = |number, side, place| refusal(number, side, place).to_string();
+    assert_eq!(
+        said(6, Some(Side::Right), 3),
+        "refused by 6 on the right: a wrong field, value or unused entry, node 3"
+    );
+    assert_eq!(said(1, None, 0), "refused by 1: not 1 to 8 fields");
+    assert_eq!(
+        said(17, None, 513),
+        "refused by 17: more nodes than fit, nodes needed: 513"
+    );
+}
+
+#[test]
+fn deep_policies_within_bound() {
+    within_bound(|| {
+        let deep = policy(&("(".repeat(64) + "dup" + &")*".repeat(64) + &"*".repeat(447)));
+        assert_eq!(deep.kind.len(), 512);
+        let mut checker = Checker::new(&[2, 2, 2, 2, 2, 2, 4, 4]);
+        let rows = match checker.search(&deep, &policy("dup*"), 4096) {
+            Ok(Verdict::Equal(rows)) => rows,
+            other => panic!("equal policies, and {other:?}"),
+        };
+        let ruling = checker.evidence(&deep, &policy("dup*"), &rows);
+        assert_eq!(ruling, Ok(Ruling::Accepted));
+        let holders = checker.trace(&deep, &policy("dup"), 3, &[3, 3]);
+        assert_eq!(holders, Ok(Holders::Both));
+    });
+}
+
+#[test]
+fn any_number_of_rows_asked() {
+    within_bound(|| {
+        let mut checker = checker();
+        let (one, same, _) = policies();
+        let verdict = checker.search(&one, &same, usize::MAX);
+        assert_eq!(verdict, Err(refusal(10, None, 0)));
+        let verdict = checker.search(&one, &same, netkat::MOST_ROWS);
+        assert!(matches!(verdict, Ok(Verdict::Equal(_))));
+    });
 }

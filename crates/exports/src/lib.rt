@@ -3,10 +3,10 @@ ghost use mathlib.Core.Path.{_≡_};
 ghost use lib.ListN.{length};
 ghost use Rattle.packet.specs.Packets.{numberOf};
 ghost use Rattle.policy.specs.AsLists.{asLists};
-ghost use Rattle.legality.specs.Answers.{policyLegality};
+ghost use Rattle.legality.specs.Answers.{policyLegality, pairLegality};
 ghost use Rattle.turning.specs.Turning.{valuesTests, valuesAnswer, valuesLeft, numberTests, numberAnswer};
 ghost use Rattle.search.specs.Call.{lent};
-ghost use Rattle.numbers.specs.Numbers.{valuesNumbers, numberNumbers, policyNumbers};
+ghost use Rattle.numbers.specs.Numbers.{valuesNumbers, numberNumbers, policyNumbers, pairNumbers};
 ghost use Rattle.exports.specs.Promises.{ReadOut, SearchedOut, TextsOut, EvidenceOut, TraceOut};
 
 // A packet's number turned into its values.
@@ -43,6 +43,31 @@ pub extern "C" fn netkat_policy(
     ensures { λ _. ⌜ now (answer .exit) ≡ policyNumbers (policyLegality (now (sizes .entry)) (asLists (now (kind .entry)) (now (first .entry)) (now (second .entry)))) ⌝ }
 {
     *answer = numbers::of_policy(legality::policy_legality(sizes, kind, first, second));
+}
+
+// Two policies tested.
+#[no_mangle]
+pub extern "C" fn netkat_policies(
+    sizes: &[u16],
+    left_kind: &[u8],
+    left_first: &[u16],
+    left_second: &[u16],
+    right_kind: &[u8],
+    right_first: &[u16],
+    right_second: &[u16],
+    answer: &mut [u64; 8],
+)
+    ensures { λ _. ⌜ now (answer .exit) ≡ pairNumbers (pairLegality (now (sizes .entry)) (asLists (now («left_kind» .entry)) (now («left_first» .entry)) (now («left_second» .entry))) (asLists (now («right_kind» .entry)) (now («right_first» .entry)) (now («right_second» .entry)))) ⌝ }
+{
+    *answer = numbers::of_pair(legality::pair_legality(
+        sizes,
+        left_kind,
+        left_first,
+        left_second,
+        right_kind,
+        right_first,
+        right_second,
+    ));
 }
 
 // One text read.

@@ -9,6 +9,8 @@ use Rattle.turning.specs.declared.Number.{Number}
 use Rattle.turning.specs.declared.Number.the-variants.{Packet, Refused as NumberRefused}
 use Rattle.legality.specs.declared.PolicyAnswer.{PolicyAnswer}
 use Rattle.legality.specs.declared.PolicyAnswer.the-variants.{Legal, Refused as PolicyRefused}
+use Rattle.legality.specs.declared.PairAnswer.{PairAnswer}
+use Rattle.legality.specs.declared.PairAnswer.the-variants.{Legal as BothLegal, Refused as PairRefused}
 use Rattle.grammar.specs.declared.Answer.{Answer}
 use Rattle.grammar.specs.declared.Answer.the-variants.{Nodes, Refused as TextRefused}
 use Rattle.verdict.specs.declared.Verdict.{Verdict}
@@ -39,6 +41,11 @@ numberNumbers (NumberRefused r) = refusedNumbers r
 unfoldable pub policyNumbers : PolicyAnswer → List ℕ
 policyNumbers (Legal dups) = eight 0 dups 0 0
 policyNumbers (PolicyRefused r) = refusedNumbers r
+
+-- the dups of the left policy, of the right policy
+unfoldable pub pairNumbers : PairAnswer → List ℕ
+pairNumbers (BothLegal left right) = eight 0 left right 0
+pairNumbers (PairRefused r) = refusedNumbers r
 
 -- the nodes
 unfoldable pub textNumbers : Answer → List ℕ

@@ -1,8 +1,9 @@
 // The eight numbers of each answer, for the C interface.
 ghost use mathlib.Core.Path.{_≡_};
-ghost use Rattle.numbers.specs.Numbers.{eight, refusedNumbers, valuesNumbers, numberNumbers, policyNumbers, textNumbers, verdictNumbers, evidenceNumbers, traceNumbers};
+ghost use Rattle.numbers.specs.Numbers.{eight, refusedNumbers, valuesNumbers, numberNumbers, policyNumbers, pairNumbers, textNumbers, verdictNumbers, evidenceNumbers, traceNumbers};
 use evidence::Evidence;
 use grammar::Answer;
+use legality::PairAnswer;
 use legality::PolicyAnswer;
 use packet::Refusal;
 use traces::TraceChecked;
@@ -47,6 +48,15 @@ pub fn of_policy(answer: PolicyAnswer) -> [u64; 8]
     match answer {
         PolicyAnswer::Legal(dups) => numbers(0, dups as u64, 0, 0),
         PolicyAnswer::Refused(r) => of_refusal(r),
+    }
+}
+
+pub fn of_pair(answer: PairAnswer) -> [u64; 8]
+    ensures { λ r. ⌜ r ≡ pairNumbers answer ⌝ }
+{
+    match answer {
+        PairAnswer::Legal(left, right) => numbers(0, left as u64, right as u64, 0),
+        PairAnswer::Refused(r) => of_refusal(r),
     }
 }
 

@@ -2,8 +2,8 @@
 // list that the call may write, as it stands after the call. What it must write is worked out by the scripts tools/*_cases.py
 // and by the second implementation (reference/).
 //
-// A call is its number (0 values, 1 number, 2 policy, 3 read, 4 search, 5 evidence, 6 trace, 7 search on texts), then what it
-// takes, in the order of include/netkat.h. A list that the call may write is its length; each entry is 7 before the call. A
+// A call is its number (0 values, 1 number, 2 policy, 3 read, 4 search, 5 evidence, 6 trace, 7 search on texts, 8 policies), then
+// what it takes, in the order of include/netkat.h. A list that the call may write is its length; each entry is 7 before the call. A
 // list that it only reads is the number of its parts, and for each part how often it stands there, at least once, how many
 // entries it has, at least one, and these. An entry of 32 bits is its upper and its lower half.
 use harness::Scanned;
@@ -540,6 +540,31 @@ fn texts(input: &[u8], from: usize) -> usize {
     )
 }
 
+fn policies(
+    from: usize,
+    sizes: &[u16],
+    left_kind: &[u8],
+    left_first: &[u16],
+    left_second: &[u16],
+    right_kind: &[u8],
+    right_first: &[u16],
+    right_second: &[u16],
+) -> usize {
+    let mut answer = [7u64; 8];
+    exports::netkat_policies(
+        sizes,
+        left_kind,
+        left_first,
+        left_second,
+        right_kind,
+        right_first,
+        right_second,
+        &mut answer,
+    );
+    show(&answer);
+    from
+}
+
 // A call on two policies.
 fn of_pair(
     call: u32,
@@ -569,6 +594,18 @@ fn of_pair(
     if call == 5 {
         return evidence(
             input,
+            from,
+            sizes,
+            left_kind,
+            left_first,
+            left_second,
+            right_kind,
+            right_first,
+            right_second,
+        );
+    }
+    if call == 8 {
+        return policies(
             from,
             sizes,
             left_kind,

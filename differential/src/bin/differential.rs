@@ -95,6 +95,10 @@ impl Tally {
             Case::Program { input, .. } => self.compare_program(origin, before, input),
             _ => self.compare_call(origin, before),
         }
+        // the policies of a search are tested by themselves, too
+        if let Some(tested) = before.tested() {
+            self.compare_call(origin, &tested);
+        }
     }
 
     fn compare_call(&mut self, origin: &str, before: &Case) {

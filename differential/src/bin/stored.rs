@@ -160,6 +160,7 @@ impl Numbers {
                 self.list(sizes, MOST_SIZES)?;
                 self.nodes(policy)
             }
+            Case::Policies { sizes, left, right } => self.pair(8, sizes, left, right),
             Case::Read { text, nodes } => {
                 self.number(3);
                 self.list(text, MOST_TEXT)?;
@@ -314,6 +315,11 @@ impl Given<'_> {
                 left: self.list()?,
                 right: self.list()?,
                 lists: self.all_lent()?,
+            },
+            8 => Case::Policies {
+                sizes: self.list()?,
+                left: self.nodes()?,
+                right: self.nodes()?,
             },
             _ => return None,
         };

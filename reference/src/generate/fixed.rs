@@ -118,7 +118,15 @@ fn policies() -> Vec<Case> {
         sizes: vec![2, 3],
         policy,
     };
-    lists.into_iter().map(policy).collect()
+    // each beside the next, on either side
+    let pairs = lists.windows(2).map(|two| Case::Policies {
+        sizes: vec![2, 3],
+        left: two[0].clone(),
+        right: two[1].clone(),
+    });
+    let mut cases: Vec<Case> = pairs.collect();
+    cases.extend(lists.into_iter().map(policy));
+    cases
 }
 
 fn read(text: &str, room: usize) -> Case {

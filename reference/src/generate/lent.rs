@@ -41,6 +41,9 @@ pub fn fill(case: &mut Case, number: usize) {
         }
         Case::Evidence { lists, .. } => fill_list(random, &mut lists.work, wide),
         Case::Trace { work, .. } => fill_list(random, work, wide),
-        Case::Number { .. } | Case::Policy { .. } | Case::Program { .. } => {}
+        Case::Number { .. }
+        | Case::Policy { .. }
+        | Case::Policies { .. }
+        | Case::Program { .. } => {}
     }
 }

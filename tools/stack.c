@@ -1,0 +1,170 @@
+/* How much stack each call takes, in KiB, rounded up: on a thread whose stack was painted before, on inputs made to go deep and
+ * to touch every large local. Prints a line for each call; fails if one takes more than NETKAT_STACK, less a page.
+ *
+ * The inputs: policies as deep as 512 nodes allow (nested stars, sequences that nest to either side, sums, and mixtures, over a dup or
+ * a change), on 1,024 packets; tables and traces of these; the deepest parentheses. What lies below the frame that makes
+ * the call is counted, so that of the smallest calls the thread's own end shows. Each call runs once unpainted, so that what
+ * the loader does at a first call is not counted. */
+#define _GNU_SOURCE
+#include <pthread.h>
+#include <stdio.h>
+#include <stdlib.h>
+#include <string.h>
+#include <sys/mman.h>
+
+#include "netkat.h"
+
+#define PAINT 0xA5
+#define ROWS 1500
+#define ROOM ((size_t)NETKAT_STACK + (1 << 20))
+
+struct policy {
+    uint8_t kind[NETKAT_NODES];
+    uint16_t first[NETKAT_NODES], second[NETKAT_NODES];
+    size_t nodes, dups;
+};
+
+static const uint16_t sizes[] = {2, 2, 2, 2, 2, 2, 4, 4};
+#define FIELDS (sizeof sizes / sizeof *sizes)
+
+static struct policy one, other;
+static uint16_t packet[NETKAT_ROWS], parent[NETKAT_ROWS], trace[NETKAT_ROWS];
+static uint32_t left[NETKAT_ROWS], right[NETKAT_ROWS], work[NETKAT_WORK];
+static uint64_t answer[NETKAT_NUMBERS];
+static uint8_t text[4096];
+static size_t text_length, rows;
+
+static size_t node(struct policy *p, unsigned kind, size_t first, size_t second) {
+    p->kind[p->nodes] = (uint8_t)kind;
+    p->first[p->nodes] = (uint16_t)first;
+    p->second[p->nodes] = (uint16_t)second;
+    if (kind == 5) p->dups++;
+    return p->nodes++;
+}
+
+/* a leaf: a dup as long as there may be one, now and then, else a change or a test */
+static size_t leaf(struct policy *p, size_t i) {
+    if (i % 3 == 0 && p->dups < 31) return node(p, 5, 0, 0);
+    return node(p, i % 3 == 1 ? 4 : 3, i % FIELDS, (i / FIELDS) % 2);
+}
+
+/* shapes: 0 nested stars over a dup, 1 over id, 2 sequences that nest to the left, 3 to the right, 4 sums, 5 a star of a sequence of the
+ * same, 6 a star of a sum of the same, 7 a sequence of a leaf and a star of the same */
+#define SHAPES 8
+static void build(struct policy *p, int shape) {
+    memset(p, 0, sizeof *p);
+    size_t top = shape == 1 ? node(p, 1, 0, 0) : node(p, 5, 0, 0);
+    for (size_t i = 1; p->nodes + (shape < 2 ? 1 : 3) <= NETKAT_NODES; i++) {
+        switch (shape) {
+        case 0: case 1: top = node(p, 8, top, 0); break;
+        case 2: { size_t l = leaf(p, i); top = node(p, 7, top, l); break; }
+        case 3: { size_t l = leaf(p, i); top = node(p, 7, l, top); break; }
+        case 4: { size_t l = leaf(p, i); top = node(p, 6, l, top); break; }
+        case 5: { size_t l = leaf(p, i); top = node(p, 8, node(p, 7, top, l), 0); break; }
+        case 6: { size_t l = leaf(p, i); top = node(p, 8, node(p, 6, top, l), 0); break; }
+        default: { size_t l = leaf(p, i); top = node(p, 7, l, node(p, 8, top, 0)); break; }
+        }
+    }
+}
+
+#define POLICY(p) (p).kind, (p).nodes, (p).first, (p).nodes, (p).second, (p).nodes
+#define LISTS(n) packet, n, left, n, right, n, parent, n, trace, n, work, NETKAT_WORK
+
+static void values(void) { uint16_t v[FIELDS]; netkat_values(sizes, FIELDS, 1023, v, FIELDS, answer); }
+static void number(void) { uint16_t v[FIELDS] = {0}; netkat_number(sizes, FIELDS, v, FIELDS, answer); }
+static void policy(void) { netkat_policy(sizes, FIELDS, POLICY(one), answer); }
+static void policies(void) { netkat_policies(sizes, FIELDS, POLICY(one), POLICY(other), answer); }
+static void reads(void) { netkat_read(text, text_length, other.kind, 512, other.first, 512, other.second, 512, answer); }
+static void search(void) { netkat_search(sizes, FIELDS, POLICY(one), POLICY(other), LISTS(ROWS), answer); }
+static void texts(void) { netkat_search_texts(sizes, FIELDS, text, text_length, text, text_length, LISTS(ROWS), answer); }
+static void evidence(void) { netkat_evidence(sizes, FIELDS, POLICY(one), POLICY(other), packet, rows, left, rows, right, rows, work, NETKAT_WORK, answer); }
+static void traces(void) { netkat_trace(sizes, FIELDS, POLICY(one), POLICY(other), 0, trace, 8, work, NETKAT_WORK, answer); }
+
+static uint8_t *base;
+
+static void *run(void *call) {
+    base = __builtin_frame_address(0);
+    (*(void (**)(void))call)();
+    return NULL;
+}
+
+/* bytes of a painted stack below the thread's own frame that are changed when it has made the call */
+static size_t taken(void (*call)(void)) {
+    uint8_t *stack = mmap(NULL, ROOM, PROT_READ | PROT_WRITE, MAP_PRIVATE | MAP_ANONYMOUS, -1, 0);
+    pthread_attr_t attributes;
+    pthread_t thread;
+    if (stack == MAP_FAILED) exit(2);
+    memset(stack, PAINT, ROOM);
+    if (pthread_attr_init(&attributes) || pthread_attr_setstack(&attributes, stack, ROOM) ||
+        pthread_create(&thread, &attributes, run, &call) || pthread_join(thread, NULL)) exit(2);
+    pthread_attr_destroy(&attributes);
+    size_t low = 0;
+    while (low < ROOM && stack[low] == PAINT) low++;
+    size_t bytes = (size_t)(base - (stack + low));
+    munmap(stack, ROOM);
+    return bytes;
+}
+
+struct call {
+    const char *name;
+    void (*call)(void);
+    size_t most;
+};
+
+static struct call calls[] = {
+    {"netkat_values", values, 0}, {"netkat_number", number, 0}, {"netkat_policy", policy, 0},
+    {"netkat_policies", policies, 0}, {"netkat_read", reads, 0},
+    {"netkat_search", search, 0}, {"netkat_search_texts", texts, 0}, {"netkat_evidence", evidence, 0}, {"netkat_trace", traces, 0},
+};
+#define CALLS (sizeof calls / sizeof *calls)
+
+static void measure(struct call *c) {
+    c->call();
+    size_t bytes = taken(c->call);
+    if (bytes > c->most) c->most = bytes;
+}
+
+static void say(const char *words, size_t times) {
+    for (size_t i = 0; i < times; i++) {
+        memcpy(text + text_length, words, strlen(words));
+        text_length += strlen(words);
+    }
+}
+
+int main(void) {
+    const char *innermost[] = {"dup", "f0<-1", "(dup+f0<-1;dup)*;f1=0"};
+    for (int shape = 0; shape < SHAPES; shape++) {
+        for (int against = 0; against < 2; against++) {
+            build(&one, shape);
+            build(&other, against ? 1 : shape);
+            for (size_t i = 0; i < CALLS; i++) {
+                if (calls[i].call == reads || calls[i].call == texts || calls[i].call == evidence) continue;
+                measure(&calls[i]);
+            }
+            /* the table that the search leaves, as far as it came */
+            search();
+            rows = answer[0] == NETKAT_DONE ? answer[1] : ROWS;
+            for (size_t i = 0; i < CALLS; i++)
+                if (calls[i].call == evidence) measure(&calls[i]);
+        }
+    }
+    for (size_t i = 0; i < sizeof innermost / sizeof *innermost; i++) {
+        for (int stars = 0; stars < 2; stars++) {
+            text_length = 0;
+            size_t deep = i == 2 ? 63 : 64;
+            say("(", deep);
+            say(innermost[i], 1);
+            say(stars ? ")*" : ")", deep);
+            if (stars) say("*", 512 - 72);
+            for (size_t c = 0; c < CALLS; c++)
+                if (calls[c].call == reads || calls[c].call == texts) measure(&calls[c]);
+        }
+    }
+    int over = 0;
+    for (size_t i = 0; i < CALLS; i++) {
+        printf("%s %zu\n", calls[i].name, (calls[i].most + 1023) / 1024);
+        over |= calls[i].most > (size_t)NETKAT_STACK - 4096;
+    }
+    if (over) fprintf(stderr, "a call takes more than NETKAT_STACK\n");
+    return over;
+}
