@@ -1,6 +1,6 @@
 -- Each way out of a visit, over the lists.
 use Prim.Native.Nat.{ℕ, suc, _≤_, _<_}
-use mathlib.Core.Bool.{Bool, true, false, _&&_, _||_, not}
+use mathlib.Core.Bool.{Bool, true, false, _&&_, _||_, not, or-false}
 use mathlib.Core.List.{List, [], _∷_}
 use mathlib.Core.Logic.{_⊎_, inl, inr, ⊎-elim}
 use mathlib.Core.Path.{_≡_, refl, sym, ap, ap₂, _∙_, subst}
@@ -211,6 +211,11 @@ module _ {sizes nodes tests : List ℕ} {n from to : ℕ} {set work : List ℕ} 
     kids : Each (λ c. c < n) (children (nodeAt L n))
     kids = children-below (rd .legal .wellFormed) n (rd .node)
 
+    -- a child whose guard lets in nothing
+    shut-out : {c : ℕ} {Y w s m : List ℕ} → ((γ : ℕ) → (member Y γ && guardAt nodes tests c γ) ≡ false) → ThroughLists sizes L nodes tests c Y w s m 0 0 emptySet w s m
+    shut-out {c} {Y} {w} {s} {m} none =
+        record { through = through-none c (member Y) (slot w) (hasMark m) (member emptySet) none member-empty; spanned = no-packet 0; recorded = records-none }
+
     module _ (x y : ℕ) where
       sum-kids : nodeAt L n ≡ Sum x y → (x < n) × (y < n) × Enterable sizes L nodes tests x × Enterable sizes L nodes tests y
       unfolding Each children Enters
@@ -250,6 +255,29 @@ module _ {sizes nodes tests : List ℕ} {n from to : ℕ} {set work : List ℕ} 
             spanned = h .spanned;
             recorded = records-then (en .recorded next) (records-then (a .recorded) (b .recorded));
           }
+
+      -- the children are read before they are entered
+      pub sum-read : nodeAt L n ≡ Sum x y → (x < 512) × (y < 512) × (setIn (getD nodes x 0) ≤ 256) × (setIn (getD nodes y 0) ≤ 256)
+      sum-read e =
+          let k = sum-kids e in
+          let l = rd .node in
+          let s = node-small in
+          let h = k .0 in
+          let g = k .1 in
+          (omega arith, omega arith, rd .loaded .small x (omega arith), rd .loaded .small y (omega arith))
+
+      -- one summand lets in nothing: what comes out of the other comes out
+      module _ (e : nodeAt L n ≡ Sum x y) {next seen₂ work₂ next₂ setR : List ℕ} {f t : ℕ} where
+        pub leave-sum-first : ((γ : ℕ) → (member set₂ γ && guardAt nodes tests y γ) ≡ false) → ThroughLists sizes L nodes tests x set₂ work₁ seen₁ next f t setR work₂ seen₂ next₂
+            → ThroughLists sizes L nodes tests n set work seen next f t setR work₂ seen₂ next₂
+        leave-sum-first none a =
+            leave-sum e a (shut-out none)
+            (record { spanned = a .spanned; members = λ γ. sym (ap (λ b. member setR γ || b) (member-empty γ) ∙ or-false (member setR γ)) })
+
+        pub leave-sum-second : ((γ : ℕ) → (member set₂ γ && guardAt nodes tests x γ) ≡ false) → ThroughLists sizes L nodes tests y set₂ work₁ seen₁ next f t setR work₂ seen₂ next₂
+            → ThroughLists sizes L nodes tests n set work seen next f t setR work₂ seen₂ next₂
+        leave-sum-second none b =
+            leave-sum e (shut-out none) b (record { spanned = b .spanned; members = λ γ. sym (ap (λ c. c || member setR γ) (member-empty γ)) })
 
       module _ (e : nodeAt L n ≡ Seq x y) (q : length work₁ ≡ length work) {next next₂ seen₂ work₂ setA : List ℕ} {f₁ t₁ : ℕ} (a : ThroughLists sizes L nodes tests x set₂ work₁ seen₁ next f₁ t₁ setA work₂ seen₂ next₂) where
         pub seq-second : length work₂ ≡ length work₁ → Ready sizes L nodes tests y f₁ t₁ setA work₂

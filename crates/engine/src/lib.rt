@@ -1,10 +1,13 @@
 // One step of a state of a loaded policy at a packet (document 01, "States and rows"): one remainder at a time, by packet sets.
 // All functions here are inner.
 ghost use Prim.Native.Nat.{ℕ, _<_, _≤_};
+ghost use mathlib.Core.Bool.{false, _&&_};
 ghost use mathlib.Core.Path.{_≡_};
-ghost use lib.ListN.{length};
+ghost use lib.ListN.{length, getD};
 ghost use Rattle.policy.specs.Legality.{fieldOf, valueOf};
+ghost use Rattle.packet_set.specs.Members.{member};
 ghost use Rattle.spans.specs.Spans.{Spanned};
+ghost use Rattle.loaded.specs.Nodes.{setIn, guardAt};
 ghost use Rattle.changes.specs.Changes.{Changing};
 ghost use Rattle.engine.specs.Stepping.{FollowReady, Followed, MarksLeft, Visited, StepReady, Stepped};
 ghost use Rattle.engine.specs.Visiting.{Admitted, EnteredLists, Acted, onward, SomeReady, Sent};
@@ -29,6 +32,18 @@ fn admit(tests: &Tests, k: usize, span: Span, set: &mut PacketSet) -> bool
         return true;
     }
     spans::keep(tests, k, span, set)
+}
+
+// Inner. Does the guard of node n let in a packet of the set? (`false` says that it lets in none.)
+fn lets_in(nodes: &Nodes, tests: &Tests, n: u16, span: Span, set: &PacketSet) -> bool
+    requires { ⌜ (n < 512) × (setIn (getD (now nodes) n 0) ≤ 256) × Spanned (span .from) (span .to) (now set) ⌝ }
+    ensures { λ r. ⌜ (r ≡ false → (γ : ℕ) → (member (now (set .entry)) γ && guardAt (now (nodes .entry)) (now (tests .entry)) n γ) ≡ false) ⌝ }
+{
+    let k = loaded::set_in(nodes[n as usize]);
+    if k == 0 {
+        return true;
+    }
+    spans::meets(tests, k, span, set)
 }
 
 // Inner. The set enters node n: where the node keeps a slot, what had entered before in this step stays behind. Is anything new?
@@ -62,7 +77,8 @@ fn act(sizes: &[u16], action: FieldAction, span: Span, set: &mut PacketSet) -> S
 }
 
 // Inner. The set through node n, in place, and its span. Slots of the work list record what has entered the nodes that keep one: only
-// what is new goes on, so that a packet enters such a node once in a step. Dups mark next.
+// what is new goes on, so that a packet enters such a node once in a step. Dups mark next. Only a sum of which both summands let packets
+// in copies the set.
 fn through(
     nodes: &Nodes,
     tests: &Tests,
@@ -98,6 +114,12 @@ fn through(
             Span { from: 0, to: 0 }
         }
         Node::Sum(l, r) => {
+            if !lets_in(nodes, tests, r, span, set) {
+                return through(nodes, tests, sizes, l, span, set, work, seen, next);
+            }
+            if !lets_in(nodes, tests, l, span, set) {
+                return through(nodes, tests, sizes, r, span, set, work, seen, next);
+            }
             let mut other = *set;
             let a = through(nodes, tests, sizes, l, span, set, work, seen, next);
             let b = through(nodes, tests, sizes, r, span, &mut other, work, seen, next);
