@@ -101,8 +101,8 @@ module _ (sizes nodes tests : List ℕ) (i d β : ℕ) (work₀ seen₀ next₀ 
     pub recorded : Recorded sizes work₀ seen₀ next₀ work seen next
 
 module _ {sizes nodes tests : List ℕ} {i d β : ℕ} where
-  dup-at : {L : NodeLists} → Stands sizes L nodes tests β → 0 < i → i < 32 → d ≡ placeAt nodes i → (d ≡ 512 → ⊥) → DupAt L nodes i d
-  dup-at {L} st p b e z = subst (DupAt L nodes i) (sym e) (placed-at (st .loaded) (st .legal) i p b (λ q. z (e ∙ q)))
+  dup-at : {L : NodeLists} → Stands sizes L nodes tests β → 0 < i → i < 32 → d ≡ placeAt nodes i → (d ≡ 512 → ⊥) → DupAt L i d
+  dup-at {L} st p b e z = subst (DupAt L i) (sym e) (placed-at (st .loaded) (st .legal) i p b (λ q. z (e ∙ q)))
 
 module _ {sizes nodes tests : List ℕ} {i d β : ℕ} {work₀ seen₀ next₀ : List ℕ} where
   pub climb-start : 0 < i → i < 32 → d ≡ placeAt nodes i → (d ≡ 512 → ⊥) → {set : List ℕ} {f t : ℕ} → set ≡ withPacket emptySet β → Spanned f t set
@@ -198,7 +198,7 @@ module _ {sizes nodes tests : List ℕ} {i d β : ℕ} {work₀ seen₀ next₀ 
           spanned = h .spanned;
           recorded = cl .recorded;
           followed = λ L st R₀ D₀ marks steps marked.
-              steps-after (st .loaded) (st .legal) steps p (subst (DupAt L nodes i) q (dup-at st p b q z)) marked
+              steps-after (st .loaded) (st .legal) steps p (subst (DupAt L i) q (dup-at st p b q z)) marked
               (subst (λ x. Climbing sizes L nodes tests x β (slot work₀) (hasMark next₀) n (member set) (slot work) (hasMark next)) q (cl .climbing L st)) (λ γ t. sym e ∙ u) (member out′) (h .members);
         }
 
@@ -209,7 +209,7 @@ module _ {sizes nodes tests : List ℕ} {i d β : ℕ} {work₀ seen₀ next₀ 
           spanned = s;
           recorded = cl .recorded;
           followed = λ L st R₀ D₀ marks steps marked.
-              steps-lost (st .loaded) (st .legal) steps p (subst (DupAt L nodes i) q (dup-at st p b q z)) marked
+              steps-lost (st .loaded) (st .legal) steps p (subst (DupAt L i) q (dup-at st p b q z)) marked
               (subst (λ x. Climbing sizes L nodes tests x β (slot work₀) (hasMark next₀) n (member set) (slot work) (hasMark next)) q (cl .climbing L st)) (empty-span (cl .spanned) l);
         }
 
