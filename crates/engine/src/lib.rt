@@ -9,8 +9,8 @@ ghost use Rattle.packet_set.specs.Members.{member};
 ghost use Rattle.spans.specs.Spans.{Spanned};
 ghost use Rattle.loaded.specs.Nodes.{setIn, guardAt};
 ghost use Rattle.changes.specs.Changes.{Changing};
-ghost use Rattle.engine.specs.Stepping.{FollowReady, Followed, MarksLeft, Visited, StepReady, Stepped};
-ghost use Rattle.engine.specs.Visiting.{Admitted, EnteredLists, Acted, onward, SomeReady, Sent};
+ghost use Rattle.engine.specs.Stepping.{RemainderReady, RemainderStepped, MarksLeft, Visited, StepReady, Stepped};
+ghost use Rattle.engine.specs.Visiting.{Admitted, EnteredLists, Acted, onward, SomeVisitReady, Sent};
 use loaded::Nodes;
 use loaded::Tests;
 use marks::Next;
@@ -90,7 +90,7 @@ fn through(
     seen: &mut Seen,
     next: &mut Next,
 ) -> Span
-    requires { ⌜ SomeReady (now sizes) (now nodes) (now tests) n (span .from) (span .to) (now set) (now work) ⌝ }
+    requires { ⌜ SomeVisitReady (now sizes) (now nodes) (now tests) n (span .from) (span .to) (now set) (now work) ⌝ }
     requires { ⌜ (length (now seen) ≡ 16) × (length (now next) ≡ 1056) ⌝ }
     ensures { λ r. ⌜ Sent (now (sizes .entry)) (now (nodes .entry)) (now (tests .entry)) n (span .from) (span .to) (now (set .entry)) (now (work .entry)) (now (seen .entry)) (now (next .entry)) (r .from) (r .to) (now (set .exit)) (now (work .exit)) (now (seen .exit)) (now (next .exit)) ⌝ }
 {
@@ -188,8 +188,8 @@ fn follow_whole(
     seen: &mut Seen,
     next: &mut Next,
 ) -> Span
-    requires { ⌜ FollowReady (now sizes) (now nodes) (now tests) packet (span .from) (span .to) (now out) (now work) (now seen) (now next) ⌝ }
-    ensures { λ r. ⌜ Followed (now (sizes .entry)) (now (nodes .entry)) (now (tests .entry)) 0 packet (now (out .entry)) (now (work .entry)) (now (seen .entry)) (now (next .entry)) (r .from) (r .to) (now (out .exit)) (now (work .exit)) (now (seen .exit)) (now (next .exit)) ⌝ }
+    requires { ⌜ RemainderReady (now sizes) (now nodes) (now tests) packet (span .from) (span .to) (now out) (now work) (now seen) (now next) ⌝ }
+    ensures { λ r. ⌜ RemainderStepped (now (sizes .entry)) (now (nodes .entry)) (now (tests .entry)) 0 packet (now (out .entry)) (now (work .entry)) (now (seen .entry)) (now (next .entry)) (r .from) (r .to) (now (out .exit)) (now (work .exit)) (now (seen .exit)) (now (next .exit)) ⌝ }
 {
     let mut set = packet_set::singleton(packet);
     let root = nodes[512] as u16;
@@ -221,8 +221,8 @@ fn follow_dup(
     seen: &mut Seen,
     next: &mut Next,
 ) -> Span
-    requires { ⌜ (0 < i) × (i < 32) × FollowReady (now sizes) (now nodes) (now tests) packet (span .from) (span .to) (now out) (now work) (now seen) (now next) ⌝ }
-    ensures { λ r. ⌜ Followed (now (sizes .entry)) (now (nodes .entry)) (now (tests .entry)) i packet (now (out .entry)) (now (work .entry)) (now (seen .entry)) (now (next .entry)) (r .from) (r .to) (now (out .exit)) (now (work .exit)) (now (seen .exit)) (now (next .exit)) ⌝ }
+    requires { ⌜ (0 < i) × (i < 32) × RemainderReady (now sizes) (now nodes) (now tests) packet (span .from) (span .to) (now out) (now work) (now seen) (now next) ⌝ }
+    ensures { λ r. ⌜ RemainderStepped (now (sizes .entry)) (now (nodes .entry)) (now (tests .entry)) i packet (now (out .entry)) (now (work .entry)) (now (seen .entry)) (now (next .entry)) (r .from) (r .to) (now (out .exit)) (now (work .exit)) (now (seen .exit)) (now (next .exit)) ⌝ }
 {
     let place = nodes[512 + i as usize] as usize;
     if place == 512 {
@@ -270,7 +270,7 @@ fn follow(
     seen: &mut Seen,
     next: &mut Next,
 ) -> Span
-    requires { ⌜ (i < 32) × FollowReady (now sizes) (now nodes) (now tests) packet (span .from) (span .to) (now out) (now work) (now seen) (now next) ⌝ }
+    requires { ⌜ (i < 32) × RemainderReady (now sizes) (now nodes) (now tests) packet (span .from) (span .to) (now out) (now work) (now seen) (now next) ⌝ }
     ensures { λ r. ⌜ Visited (now (sizes .entry)) (now (nodes .entry)) (now (tests .entry)) state i packet (now (out .entry)) (now (work .entry)) (now (seen .entry)) (now (next .entry)) (r .from) (r .to) (now (out .exit)) (now (work .exit)) (now (seen .exit)) (now (next .exit)) ⌝ }
 {
     if !packet_set::is_marked(state, i as u32) {

@@ -137,7 +137,7 @@ pub record Loading (sizes : List ℕ) (L : NodeLists) (count : ℕ) (all : List 
   pub every : SetOf all (everyPacket sizes)
 
 -- node n of the policy is made of tests alone
-pub record Tested (L : NodeLists) (n : ℕ) : Type 0 where
+pub record TestNode (L : NodeLists) (n : ℕ) : Type 0 where
   pub within : n < nodeCount L
   pub alone : isTest (treeOf L n) ≡ true
 

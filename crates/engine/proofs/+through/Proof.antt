@@ -7,7 +7,7 @@ use lib.ListN.{length}
 use Rattle.policy.specs.NodeLists.{NodeLists, nodeAt}
 use Rattle.policy.specs.declared.Node.the-variants.{Star}
 use Rattle.spans.specs.Spans.{slot}
-use Rattle.engine.specs.Going.{Ready}
+use Rattle.engine.specs.Going.{VisitReady}
 use Rattle.engine.proofs.Records.{missing, arrays, records-note, records-then}
 use Rattle.engine.proofs.Leaving.{EntryLists, TurningLists, node-small, set-small, node-is, entry, entry-below, leave-blocked, leave-tests, leave-known, leave-never, never-drop, never-id, acts-changing, leave-change, label-small, leave-dup, sum-below, sum-read, sum-first, sum-second, sent-spanned, leave-sum, leave-sum-first, leave-sum-second, seq-below, seq-first, seq-second, leave-seq-none, leave-seq, star-below, turn-start, turn-ready, turn-end, turn-more, turn-less, long-still, not-true, not-false}
 use Prim.Native.Nat.{ℕ, _<_}
@@ -47,7 +47,7 @@ through-calls t = (set-in-reads.Asked, set-in-reads.Learnt, admit-reads.Asked, a
 abbrev through-Inv-loop : through-lts.InvT-loop
 through-Inv-loop nodes tests sizes n set₀ work₀ seen₀ next₀ packed c delta₀ from₀ to₀ out₀ set work seen next delta from to out =
     (length work ≡ length work₀)
-    × ((L : NodeLists) (set0 work0 seen0 : List ℕ) (rd : Ready sizes L nodes tests n from₀ to₀ set0 work0) (en : EntryLists sizes L nodes tests n from₀ to₀ set0 work0 seen0 set₀ work₀ seen₀) → nodeAt L n ≡ Star c
+    × ((L : NodeLists) (set0 work0 seen0 : List ℕ) (rd : VisitReady sizes L nodes tests n from₀ to₀ set0 work0) (en : EntryLists sizes L nodes tests n from₀ to₀ set0 work0 seen0 set₀ work₀ seen₀) → nodeAt L n ≡ Star c
     → TurningLists L rd en next₀ delta set work seen next from to (out .from) (out .to))
     × ((length seen ≡ 16) × (length next ≡ 1056))
 
