@@ -25,7 +25,7 @@ use Rattle.spans.proofs.Sets.{no-packet}
 use Rattle.loaded.specs.Loading.{SetOf, withValue}
 use Rattle.loaded.proofs.Runs.{empty-wide, period-small}
 use Rattle.changes.specs.Changes.{Changing, Changed}
-use Rattle.changes.specs.Folding.{Joined, Window, Padded, Gathered, Folding, Folded}
+use Rattle.changes.specs.Folding.{Joined, Window, Padded, Gathered, Masked, Folded}
 use Rattle.changes.proofs.Walking.{digit-within, in-field, stride-some, field-within, goal-fits}
 
 -- ---- two words
@@ -143,26 +143,38 @@ gather-room at stride size n l p h =
     let k : (n + 1) * stride ≤ size * stride = mul-le-mul-right stride (omega arith) in
     omega arith
 
+-- ---- the mask
+
+module _ (pad : List ℕ) (at stride n mask : ℕ) where
+  pub masked-none : mask ≡ 0 → Masked pad at stride n mask 0
+  masked-none e = record {
+    all = λ b u l k t m. absurd (subst T (ap (λ (x : ℕ). bit x b) e ∙ bit-of-zero b) m);
+    only = λ b l t. absurd (subst T (bit-of-zero b) t);
+  }
+
+  pub masked-some : (word : ℕ) → Gathered pad at stride n word → Masked pad at stride n mask (bitAnd word mask)
+  masked-some word g = record {
+    all = λ b u l k t m. true-T (bit-and word mask b ∙ ap₂ _&&_ (T-true (bit word b) (g .all b u l k t)) (T-true (bit mask b) m));
+    only = λ b l t. let a = and-true (bit word b) (bit mask b) (sym (bit-and word mask b) ∙ T-true (bit (bitAnd word mask) b) t) in (true-T (a .1), g .only b l (true-T (a .0)));
+  }
+
 -- ---- the words
 
 module _ (pad mask : List ℕ) (at stride size : ℕ) (s : List ℕ) where
   pub fill-start : Folded pad mask 0 at stride size s s
   fill-start = record { long = refl; done = λ i l. absurd (omega arith); left = λ i l. refl }
 
-  pub fill-turn : (now : List ℕ) (i : ℕ) → Folded pad mask i at stride size s now → i < length s → (word : ℕ) → Gathered pad (at + 32 * i) stride size word
-      → Folded pad mask (i + 1) at stride size s (set now i (bitAnd word (getD mask i 0)))
+  pub fill-turn : (now : List ℕ) (i : ℕ) → Folded pad mask i at stride size s now → i < length s → (word : ℕ) → Masked pad (at + 32 * i) stride size (getD mask i 0) word
+      → Folded pad mask (i + 1) at stride size s (set now i word)
   fill-turn now i f l word g = record {
-    long = length-set now i v ∙ f .long;
+    long = length-set now i word ∙ f .long;
     done = λ j k. go j k (ℕ-discrete j i);
-    left = λ j k. getD-set-other now i j v 0 (omega arith) ∙ f .left j (omega arith);
+    left = λ j k. getD-set-other now i j word 0 (omega arith) ∙ f .left j (omega arith);
   }
     where
-      v : ℕ
-      v = bitAnd word (getD mask i 0)
-
-      go : (j : ℕ) → j < i + 1 → Dec (j ≡ i) → Folding pad mask at stride size j (getD (set now i (bitAnd word (getD mask i 0))) j 0)
-      go j k (yes e) = subst (λ (x : ℕ). Folding pad mask at stride size x (getD (set now i (bitAnd word (getD mask i 0))) x 0)) (sym e) (record { word = word; gathered = g; masked = getD-set-same now i (bitAnd word (getD mask i 0)) 0 (omega (arith, f .long)) })
-      go j k (no e) = subst (Folding pad mask at stride size j) (sym (getD-set-other now i j (bitAnd word (getD mask i 0)) 0 e)) (f .done j (omega arith))
+      go : (j : ℕ) → j < i + 1 → Dec (j ≡ i) → Masked pad (at + 32 * j) stride size (getD mask j 0) (getD (set now i word) j 0)
+      go j k (yes e) = subst (λ (x : ℕ). Masked pad (at + 32 * x) stride size (getD mask x 0) (getD (set now i word) x 0)) (sym e) (subst (Masked pad (at + 32 * i) stride size (getD mask i 0)) (sym (getD-set-same now i word 0 (omega (arith, f .long)))) g)
+      go j k (no e) = subst (Masked pad (at + 32 * j) stride size (getD mask j 0)) (sym (getD-set-other now i j word 0 e)) (f .done j (omega arith))
 
   pub fill-end : (now : List ℕ) (i words : ℕ) → (i ≤ words) × Folded pad mask i at stride size s now → words ≤ i → Folded pad mask words at stride size s now
   fill-end now i words f l = subst (λ (x : ℕ). Folded pad mask x at stride size s now) (let h = f .0 in omega arith) (f .1)
@@ -182,6 +194,10 @@ count-small sizes legal t e = subst (λ (x : ℕ). x ≤ 1024) (sym (count-of si
 
 pub words-of : (sizes : List ℕ) → LegalSizes sizes → (t : ℕ) → t ≡ stride sizes 0 → (words : ℕ) → words ≡ wordsFor (t * getD sizes 0 0) → words ≡ wordsFor (product sizes)
 words-of sizes legal t e words w = w ∙ ap wordsFor (count-of sizes legal t e)
+
+pub words-small : (sizes : List ℕ) → LegalSizes sizes → (t : ℕ) → t ≡ stride sizes 0 → (words : ℕ) → words ≡ wordsFor (t * getD sizes 0 0) → words ≤ 32
+unfolding wordsFor
+words-small sizes legal t e words w = omega (arith, count-small sizes legal t e)
 
 -- ---- the whole
 
@@ -272,10 +288,6 @@ module _ (sizes : List ℕ) (f v start k : ℕ) (s : List ℕ) (g : Changing siz
           let c′ = ap (λ (n : ℕ). n * t) (moved t z γ u v stride-is-some b d) in
           (γ - v * t + u * t, y, omega arith)
 
-      word-at : (γ : ℕ) (b : Folding pad mask (1024 - v * t) t z (γ / 32) (getD now (γ / 32) 0)) → member now γ ≡ bit (b .word) (γ % 32) && member mask γ
-      unfolding member
-      word-at γ b = ap (λ (x : ℕ). bit x (γ % 32)) (b .masked) ∙ bit-and (b .word) (getD mask (γ / 32) 0) (γ % 32)
-
       pub fold-changed : Changed sizes f v s 0 words now
       unfolding withValue member
       fold-changed = record {
@@ -301,8 +313,8 @@ module _ (sizes : List ℕ) (f v start k : ℕ) (s : List ℕ) (g : Changing siz
               let small = goal-below in
               let u : α / t % z < z = mod-lt (α / t) (omega (arith, value-within)) in
               let e : 1024 - v * t + 32 * (γ / 32) + α / t % z * t + γ % 32 ≡ 1024 + α = omega arith in
-              let y = h .gathered .all (γ % 32) (α / t % z) (omega arith) u (subst (λ (n : ℕ). T (member pad n)) (sym e) (subst T (sym (pad-at s pad p α (omega (arith, g .legal .small)))) x)) in
-              true-T (word-at γ h ∙ ap₂ _&&_ (T-true (bit (h .word) (γ % 32)) y) (masked γ b (changed-reads sizes f v α within value-within l)))
+              h .all (γ % 32) (α / t % z) (omega arith) u (subst (λ (n : ℕ). T (member pad n)) (sym e) (subst T (sym (pad-at s pad p α (omega (arith, g .legal .small)))) x))
+              (true-T (masked γ b (changed-reads sizes f v α within value-within l)))
             where
               masked : (γ : ℕ) → γ < product sizes → valueAt sizes f γ ≡ v → member mask γ ≡ true
               masked γ b e = m .members γ ∙ ap₂ _&&_ (lt-ltb γ (product sizes) b) (eq-eqb (valueAt sizes f γ) v e)
@@ -311,7 +323,7 @@ module _ (sizes : List ℕ) (f v start k : ℕ) (s : List ℕ) (g : Changing siz
           only γ x (no l) = absurd (subst T (ap (λ (n : ℕ). bit n (γ % 32)) (left-zero (γ / 32) (omega arith)) ∙ bit-of-zero (γ % 32)) x)
           only γ x (yes l) =
               let h = w .done (γ / 32) l in
-              let a = and-true (bit (h .word) (γ % 32)) (member mask γ) (sym (word-at γ h) ∙ T-true (member now γ) x) in
-              let c = and-true (ltb γ (product sizes)) (eqb (valueAt sizes f γ) v) (sym (m .members γ) ∙ a .1) in
-              let y = h .gathered .only (γ % 32) (omega arith) (true-T (a .0)) in
+              let a = h .only (γ % 32) (omega arith) x in
+              let c = and-true (ltb γ (product sizes)) (eqb (valueAt sizes f γ) v) (sym (m .members γ) ∙ T-true (member mask γ) (a .0)) in
+              let y = a .1 in
               back γ (ltb-true γ (product sizes) (c .0)) (eqb-true (valueAt sizes f γ) v (c .1)) (y .0) (y .1) (y .2)

@@ -2,7 +2,6 @@
 use Prim.Native.Nat.{ℕ, _+_, _*_, _≤_, _<_}
 use mathlib.Core.List.{List}
 use mathlib.Core.Path.{_≡_}
-use lib.Bits.{bitAnd}
 use lib.Dec.{T}
 use lib.ListN.{length, getD}
 use Rattle.packet_set.specs.Bits.{bit}
@@ -29,14 +28,13 @@ pub record Gathered (pad : List ℕ) (at stride n word : ℕ) : Type 0 where
   pub all : (b u : ℕ) → b < 32 → u < n → T (member pad (at + u * stride + b)) → T (bit word b)
   pub only : (b : ℕ) → b < 32 → T (bit word b) → (u : ℕ) × (u < n) × T (member pad (at + u * stride + b))
 
--- word i of a set is what is gathered there and in the mask
-pub record Folding (pad mask : List ℕ) (at stride size i now : ℕ) : Type 0 where
-  pub word : ℕ
-  pub gathered : Gathered pad (at + 32 * i) stride size word
-  pub masked : now ≡ bitAnd word (getD mask i 0)
+-- the same of the bits that the mask has
+pub record Masked (pad : List ℕ) (at stride n mask word : ℕ) : Type 0 where
+  pub all : (b u : ℕ) → b < 32 → u < n → T (member pad (at + u * stride + b)) → T (bit mask b) → T (bit word b)
+  pub only : (b : ℕ) → b < 32 → T (bit word b) → T (bit mask b) × ((u : ℕ) × (u < n) × T (member pad (at + u * stride + b)))
 
--- the first words of a set are so
+-- the first words of a set are what is gathered there and in the mask
 pub record Folded (pad mask : List ℕ) (words at stride size : ℕ) (set set′ : List ℕ) : Type 0 where
   pub long : length set′ ≡ length set
-  pub done : (i : ℕ) → i < words → Folding pad mask at stride size i (getD set′ i 0)
+  pub done : (i : ℕ) → i < words → Masked pad (at + 32 * i) stride size (getD mask i 0) (getD set′ i 0)
   pub left : (i : ℕ) → words ≤ i → getD set′ i 0 ≡ getD set i 0

@@ -1,10 +1,10 @@
-// One field is changed in each packet of a set: of few words packet by packet, of many words by words. All functions here are inner.
+// One field is changed in each packet of a set: of few packets one by one, of many packets by words. All functions here are inner.
 ghost use mathlib.Core.Path.{_≡_};
 ghost use Prim.Native.Nat.{_+_, _-_, _*_, _/_, _%_, _≤_, _<_};
 ghost use lib.ListN.{length};
 ghost use Rattle.spans.specs.Spans.{Spanned};
 ghost use Rattle.changes.specs.Changes.{Changing, Changed, Added};
-ghost use Rattle.changes.specs.Folding.{Joined, Window, Padded, Gathered, Folded};
+ghost use Rattle.changes.specs.Folding.{Joined, Window, Padded, Gathered, Masked, Folded};
 use packet_set::Lowest;
 use packet_set::PacketSet;
 use spans::Span;
@@ -101,6 +101,17 @@ fn gather(pad: &[u32; 96], at: usize, stride: usize, size: usize) -> u32
     word
 }
 
+// Inner. What is gathered at `at` and in the mask; where the mask is 0 nothing need be gathered.
+fn masked(pad: &[u32; 96], at: usize, stride: usize, size: usize, mask: u32) -> u32
+    requires { ⌜ (0 < stride) × (at + size * stride ≤ 3040) ⌝ }
+    ensures { λ r. ⌜ Masked (now (pad .entry)) at stride size mask r ⌝ }
+{
+    if mask == 0 {
+        return 0;
+    }
+    gather(pad, at, stride, size) & mask
+}
+
 // Inner. The first words of the set become what is gathered there and in the mask.
 fn fill(
     pad: &[u32; 96],
@@ -116,7 +127,7 @@ fn fill(
 {
     let mut i = 0;
     while i < words {
-        let word = gather(pad, at + 32 * i, stride, size) & mask[i];
+        let word = masked(pad, at + 32 * i, stride, size, mask[i]);
         set[i] = word;
         i += 1;
     }
@@ -148,15 +159,66 @@ fn fold(sizes: &[u16], field: u16, value: u16, span: Span, set: &mut PacketSet) 
     Span { from: 0, to: words }
 }
 
-// Inner. Is it cheaper to go by words? (A word costs as many steps as the field has values.)
-fn by_words(span: Span, size: u16) -> bool {
-    if 32 < size {
+// Inner. How many members the word has.
+fn members_in(word: u32) -> u32
+    ensures { λ r. ⌜ r ≤ 32 ⌝ }
+{
+    if word == 0 {
+        return 0;
+    }
+    u32::count_ones(word)
+}
+
+// Inner. Has the set more than `few` members?
+fn more_than(set: &PacketSet, span: Span, few: u32) -> bool
+    requires { ⌜ (span .to ≤ 32) × (few ≤ 1024) ⌝ }
+{
+    let to = span.to;
+    let mut count: u32 = 0;
+    let mut i = span.from;
+    while i < to {
+        count += members_in(set[i]);
+        if few < count {
+            return true;
+        }
+        i += 1;
+    }
+    false
+}
+
+// Inner. How many shifts a word costs: one for each value, or fewer where the stride leaves most masks 0.
+fn shifts_of(stride: u32, size: u32) -> u32
+    requires { ⌜ 0 < stride ⌝ }
+    ensures { λ r. ⌜ r ≤ 32 ⌝ }
+{
+    let most = 31 / stride + 1;
+    if size < most {
+        return size;
+    }
+    most
+}
+
+// Inner. So many members cost as much one by one as all words do.
+fn fair_share(words: u32, shifts: u32) -> u32
+    requires { ⌜ (words ≤ 32) × (shifts ≤ 32) ⌝ }
+    ensures { λ r. ⌜ r ≤ 1024 ⌝ }
+{
+    words * shifts / 4 + 8
+}
+
+// Inner. Is it cheaper to go by words? The set is counted no further than it takes to tell.
+fn by_words(sizes: &[u16], field: u16, value: u16, span: Span, set: &PacketSet) -> bool
+    requires { ⌜ Changing (now sizes) field value (span .from) (span .to) (now set) ⌝ }
+{
+    if !more_than(set, span, 8) {
         return false;
     }
-    if span.to <= 2 {
-        return false;
-    }
-    span.from < span.to - 2
+    let at = field as usize;
+    let stride = packet::stride_of(sizes, at);
+    let count = packet::stride_of(sizes, 0) * sizes[0];
+    let words = packet_set::words_for(count as usize);
+    let shifts = shifts_of(stride as u32, sizes[at] as u32);
+    more_than(set, span, fair_share(words as u32, shifts))
 }
 
 // Inner. The set becomes the packets that the change makes of its members; its span.
@@ -164,7 +226,7 @@ pub fn change(sizes: &[u16], field: u16, value: u16, span: Span, set: &mut Packe
     requires { ⌜ Changing (now sizes) field value (span .from) (span .to) (now set) ⌝ }
     ensures { λ r. ⌜ Changed (now (sizes .entry)) field value (now (set .entry)) (r .from) (r .to) (now (set .exit)) ⌝ }
 {
-    if by_words(span, sizes[field as usize]) {
+    if by_words(sizes, field, value, span, set) {
         return fold(sizes, field, value, span, set);
     }
     walk(sizes, field, value, span, set)

@@ -45,7 +45,7 @@ pub record Above (L : NodeLists) (nodes : List ℕ) (m q : ℕ) : Type 0 where
 
 module _ {sizes : List ℕ} {L : NodeLists} {nodes tests : List ℕ} (ld : Loaded sizes L nodes tests) (lg : Legal sizes L) where
   -- β comes out of the dup
-  pub climbing-start : {i d : ℕ} → DupAt L nodes i d → (β : ℕ) → β < product sizes → (X : Members) → T (X β) → ((γ : ℕ) → T (X γ) → γ ≡ β)
+  pub climbing-start : {i d : ℕ} → DupAt L i d → (β : ℕ) → β < product sizes → (X : Members) → T (X β) → ((γ : ℕ) → T (X γ) → γ ≡ β)
       → (S D : ℕ → Members) → Climbing sizes L nodes tests d β S D d X S D
   climbing-start {i} {d} dp β b X has only S D = record {
     inside = dp .within;
@@ -69,7 +69,7 @@ module _ {sizes : List ℕ} {L : NodeLists} {nodes tests : List ℕ} (ld : Loade
         joint (at-seq p x y e b t k h) = seq-joint x y (ap (nodeAt L) (sym u ∙ e) ∙ k)
         joint (at-star p c e b t k h) = star-joint c (ap (nodeAt L) (sym u ∙ e) ∙ k)
 
-        go : Rises L nodes m → Path sizes L nodes m → Above L nodes m q
+        go : Rises L (upAt nodes) (testsAt nodes) m → Path sizes L nodes m → Above L nodes m q
         go (ends e) p = absurd (z (sym u ∙ e))
         go (rises a b c) p =
             record {
@@ -103,7 +103,7 @@ module _ {sizes : List ℕ} {L : NodeLists} {nodes tests : List ℕ} (ld : Loade
       }
         where
           up : upAt nodes y ≡ upAt nodes q
-          up = subst (Linked nodes q) e (ld .moving q l z .linked) .1
+          up = subst (Linked (upAt nodes) q) e (ld .moving q l z .linked) .1
 
           out : {w : Way} {n α : ℕ} → Goes sizes L nodes tests S′ D′ (upAt nodes y) R w n α → Goes sizes L nodes tests S′ D′ (upAt nodes q) R w n α
           out = goes-wider (λ n γ t. t) (λ j γ t. t) up (λ γ t. t)

@@ -172,13 +172,13 @@ module _ {sizes : List ℕ} {L : NodeLists} {nodes tests : List ℕ} (ld : Loade
           go (Sum x y) e r =
               let mv = ld .moving n l (r .0) in
               let k = two x y (ap children e) (subst (Enters sizes L nodes tests) e (mv .enters)) in
-              let up = subst (Linked nodes n) e (mv .linked) in
+              let up = subst (Linked (upAt nodes) n) e (mv .linked) in
               ⊎-elim (λ p. out-same (up .0) (k .left .pass α γ b (r .1) p)) (λ p. out-same (up .1) (k .right .pass α γ b (r .2) p))
               (sum-pass lg n l x y e α γ .0 h)
           go (Seq x y) e r =
               let mv = ld .moving n l (r .0) in
               let k = two x y (ap children e) (subst (Enters sizes L nodes tests) e (mv .enters)) in
-              let up = subst (Linked nodes n) e (mv .linked) in
+              let up = subst (Linked (upAt nodes) n) e (mv .linked) in
               let p = seq-pass lg n l x y e α γ .0 h in
               let c = pass-below lg x (k .inside) α (p .0) b (p .1) in
               out-same (up .1) (k .right .pass (p .0) γ c (on-seq n x y x (p .0) l e (up .0) (k .left .pass α (p .0) b (r .1) (p .1))) (p .2))
@@ -187,7 +187,7 @@ module _ {sizes : List ℕ} {L : NodeLists} {nodes tests : List ℕ} (ld : Loade
               let k = one-kid lg n c l (ap children e) in
               let ok = ih c k (subst (Enters sizes L nodes tests) e (mv .enters)) in
               ⊎-elim (λ o. only o (r .2)) (λ w. w .1)
-              (walk c e ok (omega arith) (subst (Linked nodes n) e (mv .linked)) (star-pass lg n l c e α γ .0 h) b g)
+              (walk c e ok (omega arith) (subst (Linked (upAt nodes) n) e (mv .linked)) (star-pass lg n l c e α γ .0 h) b g)
 
       reach-on : (α i γ : ℕ) → α < product sizes → Into n α → Reaches (numbered sizes) (treeOf L n) i α γ → T (D i γ)
       unfolding Rule Linked Enters children HasBy
@@ -197,7 +197,7 @@ module _ {sizes : List ℕ} {L : NodeLists} {nodes tests : List ℕ} (ld : Loade
           has : HasDup (treeOf L n) i
           has = reach-has n i α γ h
 
-          mv : Linked nodes n (nodeAt L n) × Enters sizes L nodes tests (nodeAt L n)
+          mv : Linked (upAt nodes) n (nodeAt L n) × Enters sizes L nodes tests (nodeAt L n)
           mv = let m = ld .moving n l (has-moves sizes L nodes tests n i en has) in (m .linked, m .enters)
 
           go : (d : Node) → nodeAt L n ≡ d → Rule n α d → T (D i γ)
@@ -214,7 +214,7 @@ module _ {sizes : List ℕ} {L : NodeLists} {nodes tests : List ℕ} (ld : Loade
               ⊎-elim (k .left .reach α i γ b (r .1)) (k .right .reach α i γ b (r .2)) (sum-reach lg n l x y e i α γ .0 h)
           go (Seq x y) e r =
               let k = two x y (ap children e) (subst (Enters sizes L nodes tests) e (mv .1)) in
-              let up = subst (Linked nodes n) e (mv .0) in
+              let up = subst (Linked (upAt nodes) n) e (mv .0) in
               ⊎-elim (k .left .reach α i γ b (r .1))
               (λ p.
               k .right .reach (p .0) i γ (pass-below lg x (k .inside) α (p .0) b (p .1))
@@ -224,7 +224,7 @@ module _ {sizes : List ℕ} {L : NodeLists} {nodes tests : List ℕ} (ld : Loade
               let ok = ih c k (subst (Enters sizes L nodes tests) e (mv .1)) in
               let p = star-reach lg n l c e i α γ .0 h in
               ⊎-elim (λ o. absurd (o .dupless i has)) (λ w. ok .reach (p .0) i γ (pass-below lg n l α (p .0) b (p .1)) (w .0) (p .2))
-              (walk c e ok (omega arith) (subst (Linked nodes n) e (mv .0)) (star-pass lg n l c e α (p .0) .0 (p .1)) b g)
+              (walk c e ok (omega arith) (subst (Linked (upAt nodes) n) e (mv .0)) (star-pass lg n l c e α (p .0) .0 (p .1)) b g)
 
     complete : (t n : ℕ) → n < t → n < nodeCount L → Enterable sizes L nodes tests n → Complete n
     complete zero n a l en = absurd (not-suc-le-zero a)
@@ -237,7 +237,7 @@ module _ {sizes : List ℕ} {L : NodeLists} {nodes tests : List ℕ} (ld : Loade
     completes n l en = complete (suc n) n (omega arith) l en
 
     -- ---- β has come out of dup i, at node d
-    module _ (i d β : ℕ) (b : β < product sizes) (dp : DupAt L nodes i d) (g : Goes sizes L nodes tests S D 512 R out-of d β) where
+    module _ (i d β : ℕ) (b : β < product sizes) (dp : DupAt L i d) (g : Goes sizes L nodes tests S D 512 R out-of d β) where
       -- so has all that passes from there on
       abbrev Resumes : ℕ → Type 0
       Resumes n = (γ : ℕ) → RemPass sizes L n i β γ → (γ < product sizes) × OutOf n γ
@@ -246,14 +246,14 @@ module _ {sizes : List ℕ} {L : NodeLists} {nodes tests : List ℕ} (ld : Loade
       Meeting n = (j γ : ℕ) → RemReach sizes L n i j β γ → T (D j γ)
 
       module _ (n : ℕ) (l : n < nodeCount L) (en : Enterable sizes L nodes tests n) where
-        moving : HasDup (treeOf L n) i → Linked nodes n (nodeAt L n) × Enters sizes L nodes tests (nodeAt L n)
+        moving : HasDup (treeOf L n) i → Linked (upAt nodes) n (nodeAt L n) × Enters sizes L nodes tests (nodeAt L n)
         moving h = let m = ld .moving n l (has-moves sizes L nodes tests n i en h) in (m .linked, m .enters)
 
         resume-on : ((c : ℕ) → c < n → Enterable sizes L nodes tests c → Resumes c) → Resumes n
         unfolding Linked Enters PassBy children
         resume-on ih γ h = go (nodeAt L n) refl (moving (rem-has (numbered sizes) (treeOf L n) i β [] γ h)) (pass-by lg n l i β γ (nodeAt L n) refl .0 h)
           where
-            go : (k : Node) → nodeAt L n ≡ k → Linked nodes n k × Enters sizes L nodes tests k → PassBy sizes L n i β γ k → (γ < product sizes) × OutOf n γ
+            go : (k : Node) → nodeAt L n ≡ k → Linked (upAt nodes) n k × Enters sizes L nodes tests k → PassBy sizes L n i β γ k → (γ < product sizes) × OutOf n γ
             go Drop e m r = absurd r
             go Id e m r = absurd r
             go (Field a) e m r = absurd r
@@ -278,7 +278,7 @@ module _ {sizes : List ℕ} {L : NodeLists} {nodes tests : List ℕ} (ld : Loade
         unfolding Linked Enters ReachBy children
         meet-on res ih j γ h = go (nodeAt L n) refl (moving (rem-meets-of (numbered sizes) (treeOf L n) i j β γ h)) (reach-by lg n l i j β γ (nodeAt L n) refl .0 h)
           where
-            go : (k : Node) → nodeAt L n ≡ k → Linked nodes n k × Enters sizes L nodes tests k → ReachBy sizes L n i j β γ k → T (D j γ)
+            go : (k : Node) → nodeAt L n ≡ k → Linked (upAt nodes) n k × Enters sizes L nodes tests k → ReachBy sizes L n i j β γ k → T (D j γ)
             go Drop e m r = absurd r
             go Id e m r = absurd r
             go (Field a) e m r = absurd r

@@ -7,8 +7,8 @@ use mathlib.Core.Path.{_≡_, refl, sym, subst}
 use lib.Dec.{T, eqb, eqb→eq}
 use lib.ListN.{getD}
 use Rattle.packet_set.specs.Members.{Members, Within}
-use Rattle.automaton.proofs.Tests.{both, either, T-true, eqb-true}
-use Rattle.loaded.specs.Nodes.{setIn, slotIn, guardAt}
+use Rattle.automaton.proofs.Tests.{both, either, eqb-true}
+use Rattle.loaded.specs.Nodes.{slotIn, guardAt}
 
 -- X enters node n, where S is recorded before: Y of it goes on, and then S′ is recorded
 pub record Entered (nodes tests : List ℕ) (n : ℕ) (X : Members) (S : ℕ → Members) (Y : Members) (S′ : ℕ → Members) : Type 0 where
@@ -27,15 +27,6 @@ not-false true e = subst T e tt
 not-false false e = tt
 
 module _ (nodes tests : List ℕ) (n : ℕ) where
-  -- a node with no guard lets every packet in
-  pub unguarded : setIn (getD nodes n 0) ≡ 0 → (X : Members) (γ : ℕ) → X γ ≡ (X γ && guardAt nodes tests n γ)
-  unfolding guardAt
-  unguarded e X γ = rw (T-true (eqb (setIn (getD nodes n 0)) 0) (eqb-true (setIn (getD nodes n 0)) 0 e)) (go (X γ))
-    where
-      go : (b : Bool) → b ≡ (b && true)
-      go true = refl
-      go false = refl
-
   -- what passes the guard goes on
   pub entered-plain : (X : Members) (S : ℕ → Members) (Y : Members) → slotIn (getD nodes n 0) ≡ false → ((γ : ℕ) → Y γ ≡ (X γ && guardAt nodes tests n γ))
       → Entered nodes tests n X S Y S

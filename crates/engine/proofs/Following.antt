@@ -26,9 +26,9 @@ use Rattle.automaton.proofs.Tests.{T-true, true-T}
 use Rattle.spans.specs.Spans.{slot, hasMark, touched, Spanned, Holds, Unseen}
 use Rattle.loaded.specs.Nodes.{nodeIn, upIn, readAt, testsAt, upAt, placeAt}
 use Rattle.loaded.specs.Loaded.{Enterable, Enters, DupAt, Loaded}
-use Rattle.engine.specs.Going.{Recorded, Through, ThroughLists, Ready}
+use Rattle.engine.specs.Going.{Recorded, Through, ThroughLists, VisitReady}
 use Rattle.engine.specs.Visiting.{onward, Sent}
-use Rattle.engine.specs.Stepping.{Steps, Stands, FollowReady, Followed, StepReady, Stepped}
+use Rattle.engine.specs.Stepping.{Steps, Stands, RemainderReady, RemainderStepped, StepReady, Stepped}
 use Rattle.engine.proofs.Parts.{root-inside, two-kids}
 use Rattle.engine.proofs.Climbing.{Climbing, Joint, seq-joint, star-joint, Above, climbing-start, climbing-next, climbing-seq, climbing-star}
 use Rattle.engine.proofs.Steps.{placed-at, steps-start, steps-idle, steps-whole, steps-after, steps-lost, steps-output, steps-marks}
@@ -56,7 +56,7 @@ module _ {sizes : List ℕ} {L : NodeLists} {nodes tests : List ℕ} {β : ℕ} 
     single-below γ t = subst (λ x. x < product sizes) (sym (single-only γ t)) (st .packet)
 
     -- the whole policy may be entered
-    pub root-ready : {root f t : ℕ} {work : List ℕ} → root ≡ getD nodes 512 0 → Spanned f t set → 16384 ≤ length work → Ready sizes L nodes tests root f t set work
+    pub root-ready : {root f t : ℕ} {work : List ℕ} → root ≡ getD nodes 512 0 → Spanned f t set → 16384 ≤ length work → VisitReady sizes L nodes tests root f t set work
     unfolding placeAt
     root-ready {root} q s l =
         let r : root ≡ pred (nodeCount L) = q ∙ st .loaded .whole in
@@ -78,7 +78,7 @@ module _ {sizes : List ℕ} {L : NodeLists} {nodes tests : List ℕ} {β : ℕ} 
 -- the whole policy has been stepped
 pub whole-followed : {sizes nodes tests : List ℕ} {β root f t f′ t′ f″ t″ : ℕ} {set work seen next set′ work′ seen′ next′ out out′ : List ℕ} → (L : NodeLists) → Stands sizes L nodes tests β
     → set ≡ withPacket emptySet β → root ≡ getD nodes 512 0 → Spanned f t set → 16384 ≤ length work → Sent sizes nodes tests root f t set work seen next f′ t′ set′ work′ seen′ next′
-    → Holds f″ t″ out′ (λ γ. member out γ || member set′ γ) → Followed sizes nodes tests 0 β out work seen next f″ t″ out′ work′ seen′ next′
+    → Holds f″ t″ out′ (λ γ. member out γ || member set′ γ) → RemainderStepped sizes nodes tests 0 β out work seen next f″ t″ out′ work′ seen′ next′
 unfolding placeAt
 whole-followed {sizes} {nodes} {tests} {set} {work} {next} {set′} {work′} {next′} {out′} L st e q s l h all =
     record {
@@ -101,8 +101,8 @@ module _ (sizes nodes tests : List ℕ) (i d β : ℕ) (work₀ seen₀ next₀ 
     pub recorded : Recorded sizes work₀ seen₀ next₀ work seen next
 
 module _ {sizes nodes tests : List ℕ} {i d β : ℕ} where
-  dup-at : {L : NodeLists} → Stands sizes L nodes tests β → 0 < i → i < 32 → d ≡ placeAt nodes i → (d ≡ 512 → ⊥) → DupAt L nodes i d
-  dup-at {L} st p b e z = subst (DupAt L nodes i) (sym e) (placed-at (st .loaded) (st .legal) i p b (λ q. z (e ∙ q)))
+  dup-at : {L : NodeLists} → Stands sizes L nodes tests β → 0 < i → i < 32 → d ≡ placeAt nodes i → (d ≡ 512 → ⊥) → DupAt L i d
+  dup-at {L} st p b e z = subst (DupAt L i) (sym e) (placed-at (st .loaded) (st .legal) i p b (λ q. z (e ∙ q)))
 
 module _ {sizes nodes tests : List ℕ} {i d β : ℕ} {work₀ seen₀ next₀ : List ℕ} where
   pub climb-start : 0 < i → i < 32 → d ≡ placeAt nodes i → (d ≡ 512 → ⊥) → {set : List ℕ} {f t : ℕ} → set ≡ withPacket emptySet β → Spanned f t set
@@ -137,7 +137,7 @@ module _ {sizes nodes tests : List ℕ} {i d β : ℕ} {work₀ seen₀ next₀ 
           unfolding readAt
           is-node = en ∙ st .loaded .node above (next-up .inside)
 
-          ready-at : (m : ℕ) → m < nodeCount L → Enterable sizes L nodes tests m → 16384 ≤ length work → Ready sizes L nodes tests m f t set work
+          ready-at : (m : ℕ) → m < nodeCount L → Enterable sizes L nodes tests m → 16384 ≤ length work → VisitReady sizes L nodes tests m f t set work
           ready-at m l ok long =
               record {
                 legal-sizes = st .legal-sizes;
@@ -153,11 +153,11 @@ module _ {sizes nodes tests : List ℕ} {i d β : ℕ} {work₀ seen₀ next₀ 
           target-is : (k : Node) → nodeAt L above ≡ k → target ≡ onward k above
           target-is k q = et ∙ ap (λ x. onward x above) (is-node ∙ q)
 
-          pub climb-ready : 16384 ≤ length work → Ready sizes L nodes tests target f t set work
+          pub climb-ready : 16384 ≤ length work → VisitReady sizes L nodes tests target f t set work
           unfolding onward Enters Enterable children
           climb-ready long = go (next-up .joint)
             where
-              go : Joint L above → Ready sizes L nodes tests target f t set work
+              go : Joint L above → VisitReady sizes L nodes tests target f t set work
               go (seq-joint x y q) =
                   let k = two-kids (st .legal) above x y (next-up .inside) (ap children q) in
                   let ok = subst (Enters sizes L nodes tests) q (st .loaded .moving above (next-up .inside) (next-up .moves) .enters) .1 in
@@ -191,30 +191,30 @@ module _ {sizes nodes tests : List ℕ} {i d β : ℕ} {work₀ seen₀ next₀ 
 
     -- it has come out of the root
     pub climb-out : 0 < i → i < 32 → (q : d ≡ placeAt nodes i) → (d ≡ 512 → ⊥) → {above : ℕ} → above ≡ upIn (getD nodes n 0) → above ≡ 512
-        → {out out′ : List ℕ} {f′ t′ : ℕ} → Holds f′ t′ out′ (λ γ. member out γ || member set γ) → Followed sizes nodes tests i β out work₀ seen₀ next₀ f′ t′ out′ work seen next
+        → {out out′ : List ℕ} {f′ t′ : ℕ} → Holds f′ t′ out′ (λ γ. member out γ || member set γ) → RemainderStepped sizes nodes tests i β out work₀ seen₀ next₀ f′ t′ out′ work seen next
     unfolding upAt
     climb-out p b q z e u {out} {out′} h =
         record {
           spanned = h .spanned;
           recorded = cl .recorded;
           followed = λ L st R₀ D₀ marks steps marked.
-              steps-after (st .loaded) (st .legal) steps p (subst (DupAt L nodes i) q (dup-at st p b q z)) marked
+              steps-after (st .loaded) (st .legal) steps p (subst (DupAt L i) q (dup-at st p b q z)) marked
               (subst (λ x. Climbing sizes L nodes tests x β (slot work₀) (hasMark next₀) n (member set) (slot work) (hasMark next)) q (cl .climbing L st)) (λ γ t. sym e ∙ u) (member out′) (h .members);
         }
 
     -- nothing is left on the way
-    pub climb-lost : 0 < i → i < 32 → (q : d ≡ placeAt nodes i) → (d ≡ 512 → ⊥) → t ≤ f → {out : List ℕ} {f′ t′ : ℕ} → Spanned f′ t′ out → Followed sizes nodes tests i β out work₀ seen₀ next₀ f′ t′ out work seen next
+    pub climb-lost : 0 < i → i < 32 → (q : d ≡ placeAt nodes i) → (d ≡ 512 → ⊥) → t ≤ f → {out : List ℕ} {f′ t′ : ℕ} → Spanned f′ t′ out → RemainderStepped sizes nodes tests i β out work₀ seen₀ next₀ f′ t′ out work seen next
     climb-lost p b q z l s =
         record {
           spanned = s;
           recorded = cl .recorded;
           followed = λ L st R₀ D₀ marks steps marked.
-              steps-lost (st .loaded) (st .legal) steps p (subst (DupAt L nodes i) q (dup-at st p b q z)) marked
+              steps-lost (st .loaded) (st .legal) steps p (subst (DupAt L i) q (dup-at st p b q z)) marked
               (subst (λ x. Climbing sizes L nodes tests x β (slot work₀) (hasMark next₀) n (member set) (slot work) (hasMark next)) q (cl .climbing L st)) (empty-span (cl .spanned) l);
         }
 
 -- there is no such dup
-pub absent-steps : {sizes nodes tests : List ℕ} {i β : ℕ} → placeAt nodes i ≡ 512 → {out work seen next : List ℕ} {f t : ℕ} → Spanned f t out → Followed sizes nodes tests i β out work seen next f t out work seen next
+pub absent-steps : {sizes nodes tests : List ℕ} {i β : ℕ} → placeAt nodes i ≡ 512 → {out work seen next : List ℕ} {f t : ℕ} → Spanned f t out → RemainderStepped sizes nodes tests i β out work seen next f t out work seen next
 absent-steps e s = record { spanned = s; recorded = records-none; followed = λ L st R₀ D₀ marks steps marked. steps-idle (st .loaded) (st .legal) steps (λ _. e) }
 
 pub single-spanned : (β : ℕ) {f t : ℕ} {set : List ℕ} → set ≡ withPacket emptySet β → Spanned f t (withPacket emptySet β) → Spanned f t set
@@ -223,8 +223,8 @@ single-spanned β {f} {t} e s = subst (Spanned f t) (sym e) s
 pub same-spanned : {f t : ℕ} {a b : List ℕ} → a ≡ b → Spanned f t b → Spanned f t a
 same-spanned {f} {t} e s = subst (Spanned f t) (sym e) s
 
-pub same-followed : {sizes nodes tests : List ℕ} {i β f t : ℕ} {a b w s x a′ w′ s′ x′ : List ℕ} → a ≡ b → Followed sizes nodes tests i β a w s x f t a′ w′ s′ x′ → Followed sizes nodes tests i β b w s x f t a′ w′ s′ x′
-same-followed {sizes} {nodes} {tests} {i} {β} {f} {t} {w = w} {s} {x} {a′} {w′} {s′} {x′} e h = subst (λ z. Followed sizes nodes tests i β z w s x f t a′ w′ s′ x′) e h
+pub same-followed : {sizes nodes tests : List ℕ} {i β f t : ℕ} {a b w s x a′ w′ s′ x′ : List ℕ} → a ≡ b → RemainderStepped sizes nodes tests i β a w s x f t a′ w′ s′ x′ → RemainderStepped sizes nodes tests i β b w s x f t a′ w′ s′ x′
+same-followed {sizes} {nodes} {tests} {i} {β} {f} {t} {w = w} {s} {x} {a′} {w′} {s′} {x′} e h = subst (λ z. RemainderStepped sizes nodes tests i β z w s x f t a′ w′ s′ x′) e h
 
-pub zero-followed : {sizes nodes tests : List ℕ} {i β f t : ℕ} {a w s x a′ w′ s′ x′ : List ℕ} → i ≡ 0 → Followed sizes nodes tests 0 β a w s x f t a′ w′ s′ x′ → Followed sizes nodes tests i β a w s x f t a′ w′ s′ x′
-zero-followed {sizes} {nodes} {tests} {β = β} {f} {t} {a} {w} {s} {x} {a′} {w′} {s′} {x′} e h = subst (λ z. Followed sizes nodes tests z β a w s x f t a′ w′ s′ x′) (sym e) h
+pub zero-followed : {sizes nodes tests : List ℕ} {i β f t : ℕ} {a w s x a′ w′ s′ x′ : List ℕ} → i ≡ 0 → RemainderStepped sizes nodes tests 0 β a w s x f t a′ w′ s′ x′ → RemainderStepped sizes nodes tests i β a w s x f t a′ w′ s′ x′
+zero-followed {sizes} {nodes} {tests} {β = β} {f} {t} {a} {w} {s} {x} {a′} {w′} {s′} {x′} e h = subst (λ z. RemainderStepped sizes nodes tests z β a w s x f t a′ w′ s′ x′) (sym e) h

@@ -1,6 +1,6 @@
 -- Each way out of a visit, over the lists.
 use Prim.Native.Nat.{ℕ, suc, _≤_, _<_}
-use mathlib.Core.Bool.{Bool, true, false, _&&_, _||_, not}
+use mathlib.Core.Bool.{Bool, true, false, _&&_, _||_, not, or-false}
 use mathlib.Core.List.{List, [], _∷_}
 use mathlib.Core.Logic.{_⊎_, inl, inr, ⊎-elim}
 use mathlib.Core.Path.{_≡_, refl, sym, ap, ap₂, _∙_, subst}
@@ -25,7 +25,7 @@ use Rattle.spans.specs.Spans.{slot, hasMark, Spanned, Holds, Noted, GotMark}
 use Rattle.changes.specs.Changes.{Changing}
 use Rattle.loaded.specs.Nodes.{setIn, testsIn, labelIn, slotIn, nodeIn, readAt, testsAt, guardAt}
 use Rattle.loaded.specs.Loaded.{treeOf, Enterable, Enters, Moves, Moving, Loaded}
-use Rattle.engine.specs.Going.{Recorded, Through, ThroughLists, Ready}
+use Rattle.engine.specs.Going.{Recorded, Through, ThroughLists, VisitReady}
 use Rattle.engine.specs.Visiting.{Admitted, EnteredLists, Acted, Sent}
 use Rattle.engine.proofs.Parts.{tree-at}
 use Rattle.engine.proofs.Entries.{Entered, entered-plain, entered-slot}
@@ -53,7 +53,7 @@ not-false true e = refl
 not-false false e = sym e
 
 pub sent-spanned : {sizes nodes tests : List ℕ} {n from to : ℕ} {set work seen next : List ℕ} {f t : ℕ} {set′ work′ seen′ next′ : List ℕ}
-    → Sent sizes nodes tests n from to set work seen next f t set′ work′ seen′ next′ → (L : NodeLists) → Ready sizes L nodes tests n from to set work → Spanned f t set′
+    → Sent sizes nodes tests n from to set work seen next f t set′ work′ seen′ next′ → (L : NodeLists) → VisitReady sizes L nodes tests n from to set work → Spanned f t set′
 sent-spanned h L rd = h .sent L rd .spanned
 
 -- a node that is no tests alone has been entered: what goes on, and what is recorded
@@ -63,7 +63,7 @@ pub record EntryLists (sizes : List ℕ) (L : NodeLists) (nodes tests : List ℕ
   pub recorded : (next : List ℕ) → Recorded sizes work seen next work₁ seen₁ next
   pub moves : testsAt nodes n ≡ false
 
-module _ {sizes nodes tests : List ℕ} {n from to : ℕ} {set work : List ℕ} (L : NodeLists) (rd : Ready sizes L nodes tests n from to set work) where
+module _ {sizes nodes tests : List ℕ} {n from to : ℕ} {set work : List ℕ} (L : NodeLists) (rd : VisitReady sizes L nodes tests n from to set work) where
   pub node-small : n < 512
   node-small = let h = rd .legal .wellFormed .few in let g = rd .node in omega arith
 
@@ -195,7 +195,7 @@ module _ {sizes nodes tests : List ℕ} {n from to : ℕ} {set work : List ℕ} 
     -- ---- nodes with children
 
     child-ready : (c : ℕ) → c < n → Enterable sizes L nodes tests c → {f t : ℕ} {Y w : List ℕ} → ((γ : ℕ) → T (member Y γ) → γ < product sizes) → Spanned f t Y → 16384 ≤ length w
-        → Ready sizes L nodes tests c f t Y w
+        → VisitReady sizes L nodes tests c f t Y w
     child-ready c l ok {f} {t} {Y} {w} below s q =
         record {
           legal-sizes = rd .legal-sizes;
@@ -210,6 +210,11 @@ module _ {sizes nodes tests : List ℕ} {n from to : ℕ} {set work : List ℕ} 
 
     kids : Each (λ c. c < n) (children (nodeAt L n))
     kids = children-below (rd .legal .wellFormed) n (rd .node)
+
+    -- a child whose guard lets in nothing
+    shut-out : {c : ℕ} {Y w s m : List ℕ} → ((γ : ℕ) → (member Y γ && guardAt nodes tests c γ) ≡ false) → ThroughLists sizes L nodes tests c Y w s m 0 0 emptySet w s m
+    shut-out {c} {Y} {w} {s} {m} none =
+        record { through = through-none c (member Y) (slot w) (hasMark m) (member emptySet) none member-empty; spanned = no-packet 0; recorded = records-none }
 
     module _ (x y : ℕ) where
       sum-kids : nodeAt L n ≡ Sum x y → (x < n) × (y < n) × Enterable sizes L nodes tests x × Enterable sizes L nodes tests y
@@ -232,13 +237,13 @@ module _ {sizes nodes tests : List ℕ} {n from to : ℕ} {set work : List ℕ} 
       pub seq-below : nodeAt L n ≡ Seq x y → (x < n) × (y < n)
       seq-below e = let k = seq-kids e in (k .0, k .1)
 
-      pub sum-first : nodeAt L n ≡ Sum x y → length work₁ ≡ length work → Ready sizes L nodes tests x from to set₂ work₁
+      pub sum-first : nodeAt L n ≡ Sum x y → length work₁ ≡ length work → VisitReady sizes L nodes tests x from to set₂ work₁
       sum-first e q = let k = sum-kids e in child-ready x (k .0) (k .2) entry-below (en .spanned) (long-still (rd .long) q)
 
-      pub sum-second : nodeAt L n ≡ Sum x y → {w : List ℕ} → length w ≡ length work → Ready sizes L nodes tests y from to set₂ w
+      pub sum-second : nodeAt L n ≡ Sum x y → {w : List ℕ} → length w ≡ length work → VisitReady sizes L nodes tests y from to set₂ w
       sum-second e q = let k = sum-kids e in child-ready y (k .1) (k .3) entry-below (en .spanned) (long-still (rd .long) q)
 
-      pub seq-first : nodeAt L n ≡ Seq x y → length work₁ ≡ length work → Ready sizes L nodes tests x from to set₂ work₁
+      pub seq-first : nodeAt L n ≡ Seq x y → length work₁ ≡ length work → VisitReady sizes L nodes tests x from to set₂ work₁
       seq-first e q = let k = seq-kids e in child-ready x (k .0) (k .2) entry-below (en .spanned) (long-still (rd .long) q)
 
       pub leave-sum : (e : nodeAt L n ≡ Sum x y) {next next₂ next₃ seen₂ seen₃ work₂ work₃ setA setB setR : List ℕ} {f₁ t₁ f₂ t₂ f t : ℕ} → ThroughLists sizes L nodes tests x set₂ work₁ seen₁ next f₁ t₁ setA work₂ seen₂ next₂
@@ -251,8 +256,31 @@ module _ {sizes nodes tests : List ℕ} {n from to : ℕ} {set work : List ℕ} 
             recorded = records-then (en .recorded next) (records-then (a .recorded) (b .recorded));
           }
 
+      -- the children are read before they are entered
+      pub sum-read : nodeAt L n ≡ Sum x y → (x < 512) × (y < 512) × (setIn (getD nodes x 0) ≤ 256) × (setIn (getD nodes y 0) ≤ 256)
+      sum-read e =
+          let k = sum-kids e in
+          let l = rd .node in
+          let s = node-small in
+          let h = k .0 in
+          let g = k .1 in
+          (omega arith, omega arith, rd .loaded .small x (omega arith), rd .loaded .small y (omega arith))
+
+      -- one summand lets in nothing: what comes out of the other comes out
+      module _ (e : nodeAt L n ≡ Sum x y) {next seen₂ work₂ next₂ setR : List ℕ} {f t : ℕ} where
+        pub leave-sum-first : ((γ : ℕ) → (member set₂ γ && guardAt nodes tests y γ) ≡ false) → ThroughLists sizes L nodes tests x set₂ work₁ seen₁ next f t setR work₂ seen₂ next₂
+            → ThroughLists sizes L nodes tests n set work seen next f t setR work₂ seen₂ next₂
+        leave-sum-first none a =
+            leave-sum e a (shut-out none)
+            (record { spanned = a .spanned; members = λ γ. sym (ap (λ b. member setR γ || b) (member-empty γ) ∙ or-false (member setR γ)) })
+
+        pub leave-sum-second : ((γ : ℕ) → (member set₂ γ && guardAt nodes tests x γ) ≡ false) → ThroughLists sizes L nodes tests y set₂ work₁ seen₁ next f t setR work₂ seen₂ next₂
+            → ThroughLists sizes L nodes tests n set work seen next f t setR work₂ seen₂ next₂
+        leave-sum-second none b =
+            leave-sum e (shut-out none) b (record { spanned = b .spanned; members = λ γ. sym (ap (λ c. c || member setR γ) (member-empty γ)) })
+
       module _ (e : nodeAt L n ≡ Seq x y) (q : length work₁ ≡ length work) {next next₂ seen₂ work₂ setA : List ℕ} {f₁ t₁ : ℕ} (a : ThroughLists sizes L nodes tests x set₂ work₁ seen₁ next f₁ t₁ setA work₂ seen₂ next₂) where
-        pub seq-second : length work₂ ≡ length work₁ → Ready sizes L nodes tests y f₁ t₁ setA work₂
+        pub seq-second : length work₂ ≡ length work₁ → VisitReady sizes L nodes tests y f₁ t₁ setA work₂
         seq-second q₂ =
             let k = seq-kids e in
             child-ready y (k .1) (k .3) (through-below (rd .legal) (let h = rd .node in let g = k .0 in omega arith) (a .through) entry-below) (a .spanned) (long-still (rd .long) (q₂ ∙ q))
@@ -301,7 +329,7 @@ module _ {sizes nodes tests : List ℕ} {n from to : ℕ} {set work : List ℕ} 
           }
 
       module _ {next delta out w s x : List ℕ} {f t f₁ t₁ : ℕ} (tn : TurningLists next delta out w s x f t f₁ t₁) where
-        pub turn-ready : 16384 ≤ length w → Ready sizes L nodes tests c f t delta w
+        pub turn-ready : 16384 ≤ length w → VisitReady sizes L nodes tests c f t delta w
         turn-ready q =
             child-ready c (star-kid .0) (star-kid .1) (λ γ d. turning-below (rd .legal) (rd .node) (tn .turning) (rd .below) γ (tn .turning .within γ d)) (tn .delta-spanned) q
 

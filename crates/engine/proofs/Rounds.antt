@@ -87,7 +87,7 @@ module _ {sizes : List ℕ} {L : NodeLists} {nodes tests : List ℕ} (ld : Loade
       widens γ o = subst T (sym (all γ)) (either (out γ) (new′ γ) .1 (inl o))
 
       up : upAt nodes c ≡ n
-      up = subst (Linked nodes n) e (ld .moving n l z .linked)
+      up = subst (Linked (upAt nodes) n) e (ld .moving n l z .linked)
 
       outer : {w : Way} {m α : ℕ} → Goes sizes L nodes tests S D (upAt nodes n) out w m α → Goes sizes L nodes tests S₃ D₂ (upAt nodes n) out′ w m α
       outer = goes-wider (λ m γ s. grows m γ (th .slots-stay m γ s)) (th .dups-stay) refl widens

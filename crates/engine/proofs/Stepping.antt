@@ -20,7 +20,7 @@ use Rattle.automaton.proofs.Tests.{true-T}
 use Rattle.spans.specs.Spans.{slot, hasMark, Spanned, Unseen}
 use Rattle.spans.proofs.Sets.{slot-word, slot-beyond}
 use Rattle.engine.specs.Going.{Recorded}
-use Rattle.engine.specs.Stepping.{Steps, Stands, FollowReady, Followed, MarksLeft, Visited, StepReady, Stepped}
+use Rattle.engine.specs.Stepping.{Steps, Stands, RemainderReady, RemainderStepped, MarksLeft, Visited, StepReady, Stepped}
 use Rattle.engine.proofs.Steps.{steps-start, steps-idle, steps-output, steps-marks}
 use Rattle.engine.proofs.Records.{arrays, records-none, records-then}
 use Rattle.engine.proofs.Leaving.{long-still}
@@ -56,7 +56,7 @@ module _ {sizes nodes tests : List ℕ} {state i β : ℕ} {out work seen next :
   visited-not s e = record { spanned = s; recorded = records-none; visited = λ L st R₀ D₀ steps. steps-idle (st .loaded) (st .legal) steps (λ m. absurd (subst T e m)) }
 
   -- it is, and has been followed
-  pub visited-marked : {out′ work′ seen′ next′ : List ℕ} → bit state i ≡ true → Followed sizes nodes tests i β out work seen next f t out′ work′ seen′ next′
+  pub visited-marked : {out′ work′ seen′ next′ : List ℕ} → bit state i ≡ true → RemainderStepped sizes nodes tests i β out work seen next f t out′ work′ seen′ next′
       → Visited sizes nodes tests state i β out work seen next f t out′ work′ seen′ next′
   visited-marked e fo = record { spanned = fo .spanned; recorded = fo .recorded; visited = λ L st R₀ D₀ steps. fo .followed L st R₀ D₀ (bit state) steps (true-T e) }
 
@@ -123,5 +123,5 @@ module _ {sizes nodes tests : List ℕ} {state β : ℕ} {out₀ work₀ seen₀
     pub unsee-asks : {f₀ t₀ : ℕ} → StepReady sizes nodes tests β f₀ t₀ out₀ work₀ next₀ → (16384 ≤ length work) × ((m γ : ℕ) → T (slot work m γ) → m < 512 → T (member seen m))
     unsee-asks rd = (long-still (rd .long) (sl .same), sl .recorded .seeing (λ m γ h l. absurd (subst T (slots-clear work₀ (rd .zero) m γ l) h)))
 
-    pub follow-asks : {f₀ t₀ : ℕ} → StepReady sizes nodes tests β f₀ t₀ out₀ work₀ next₀ → FollowReady sizes nodes tests β f t out work seen next
+    pub follow-asks : {f₀ t₀ : ℕ} → StepReady sizes nodes tests β f₀ t₀ out₀ work₀ next₀ → RemainderReady sizes nodes tests β f t out work seen next
     follow-asks rd = record { lists = rd .lists; stands = rd .stands; spanned = sl .spanned; long = long-still (rd .long) (sl .same); arrays = sl .long }

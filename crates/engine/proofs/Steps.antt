@@ -62,10 +62,10 @@ module _ {sizes : List ℕ} {L : NodeLists} {nodes tests : List ℕ} (ld : Loade
   dups-iff i j β γ = Iff·trans (meets-iff (numbered sizes) (remainder policy (suc i)) j β γ) (remainder-meets (numbered sizes) policy (evaluable .labelled) i j β γ)
 
   -- the dup of a remainder that there is
-  pub placed-at : (i : ℕ) → 0 < i → i < 32 → (placeAt nodes i ≡ 512 → ⊥) → DupAt L nodes i (placeAt nodes i)
+  pub placed-at : (i : ℕ) → 0 < i → i < 32 → (placeAt nodes i ≡ 512 → ⊥) → DupAt L i (placeAt nodes i)
   placed-at i p b z = go (decLt (dupsBelow L (nodeCount L)) i)
     where
-      go : Dec (dupsBelow L (nodeCount L) < i) → DupAt L nodes i (placeAt nodes i)
+      go : Dec (dupsBelow L (nodeCount L) < i) → DupAt L i (placeAt nodes i)
       go (yes o) = absurd (z (ld .absent i o b))
       go (no o) = ld .placed i p (omega arith)
 
@@ -158,7 +158,7 @@ module _ {sizes : List ℕ} {L : NodeLists} {nodes tests : List ℕ} (ld : Loade
         out = goes-wider (λ m γ t. t) (λ k γ t. t) (ld .last) (union-right R Q R′ all)
 
     -- what remains after a dup: the climb has ended, where what has come out leaves the root
-    pub steps-after : {i : ℕ} {S D : ℕ → Members} {R : Members} → Steps sizes L nodes tests R₀ D₀ marks β i S D R → 0 < i → DupAt L nodes i (placeAt nodes i)
+    pub steps-after : {i : ℕ} {S D : ℕ → Members} {R : Members} → Steps sizes L nodes tests R₀ D₀ marks β i S D R → 0 < i → DupAt L i (placeAt nodes i)
         → T (marks i) → {m : ℕ} {X : Members} {S′ D′ : ℕ → Members} → Climbing sizes L nodes tests (placeAt nodes i) β S D m X S′ D′
         → ((γ : ℕ) → T (X γ) → upAt nodes m ≡ 512) → (R′ : Members) → ((γ : ℕ) → R′ γ ≡ (R γ || X γ)) → Steps sizes L nodes tests R₀ D₀ marks β (suc i) S′ D′ R′
     unfolding Leaves
@@ -173,7 +173,7 @@ module _ {sizes : List ℕ} {L : NodeLists} {nodes tests : List ℕ} (ld : Loade
         out = goes-map (λ n γ t. t) (λ k γ t. t) (λ n γ e t. let-out (e ∙ ends γ t) (union-right R X R′ all γ t))
 
     -- the climb has ended with nothing
-    pub steps-lost : {i : ℕ} {S D : ℕ → Members} {R : Members} → Steps sizes L nodes tests R₀ D₀ marks β i S D R → 0 < i → DupAt L nodes i (placeAt nodes i)
+    pub steps-lost : {i : ℕ} {S D : ℕ → Members} {R : Members} → Steps sizes L nodes tests R₀ D₀ marks β i S D R → 0 < i → DupAt L i (placeAt nodes i)
         → T (marks i) → {m : ℕ} {X : Members} {S′ D′ : ℕ → Members} → Climbing sizes L nodes tests (placeAt nodes i) β S D m X S′ D′
         → ((γ : ℕ) → X γ ≡ false) → Steps sizes L nodes tests R₀ D₀ marks β (suc i) S′ D′ R
     steps-lost {R} st p dp marked {X} cl none =

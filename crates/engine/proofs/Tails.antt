@@ -148,7 +148,7 @@ module _ {sizes : List ℕ} {L : NodeLists} (lg : Legal sizes L) (n : ℕ) (l : 
     after-again (leaves δ) μ r h = h
     after-again (meets j δ) μ r h = reach-by lg n l i j β δ (Star c) e .1 (inr (μ, r, h))
 
-module _ {sizes : List ℕ} {L : NodeLists} {nodes tests : List ℕ} (ld : Loaded sizes L nodes tests) (lg : Legal sizes L) (i d : ℕ) (dp : DupAt L nodes i d) where
+module _ {sizes : List ℕ} {L : NodeLists} {nodes tests : List ℕ} (ld : Loaded sizes L nodes tests) (lg : Legal sizes L) (i d : ℕ) (dp : DupAt L i d) where
   -- ---- the dup stands in the tree of the root
 
   has-on : (n : ℕ) → n < nodeCount L → ((c : ℕ) → c < n → InTree L c d → HasAt sizes L c i) → InTree L n d → HasAt sizes L n i
@@ -196,7 +196,7 @@ module _ {sizes : List ℕ} {L : NodeLists} {nodes tests : List ℕ} (ld : Loade
     moves : testsAt nodes n ≡ false
     moves = has-moves sizes L nodes tests n i en h
 
-    moving : Linked nodes n (nodeAt L n) × Enters sizes L nodes tests (nodeAt L n)
+    moving : Linked (upAt nodes) n (nodeAt L n) × Enters sizes L nodes tests (nodeAt L n)
     moving = let m = ld .moving n l moves in (m .linked, m .enters)
 
     here : nodeAt L n ≡ Dup → i ≡ dupsBelow L (suc n) → d ≡ n
@@ -207,7 +207,7 @@ module _ {sizes : List ℕ} {L : NodeLists} {nodes tests : List ℕ} (ld : Loade
     unfolding Linked Enters HasBy children
     path-on ih p = go (nodeAt L n) refl moving (has-by lg n l i (nodeAt L n) refl .0 h)
       where
-        go : (k : Node) → nodeAt L n ≡ k → Linked nodes n k × Enters sizes L nodes tests k → HasBy sizes L n i k → Path sizes L nodes d
+        go : (k : Node) → nodeAt L n ≡ k → Linked (upAt nodes) n k × Enters sizes L nodes tests k → HasBy sizes L n i k → Path sizes L nodes d
         go Drop e m r = absurd r
         go Id e m r = absurd r
         go (Field a) e m r = absurd r
@@ -226,7 +226,7 @@ module _ {sizes : List ℕ} {L : NodeLists} {nodes tests : List ℕ} (ld : Loade
       unfolding Linked Enters HasBy PassBy children
       climbed-on ih t = go (nodeAt L n) refl moving (has-by lg n l i (nodeAt L n) refl .0 h)
         where
-          go : (k : Node) → nodeAt L n ≡ k → Linked nodes n k × Enters sizes L nodes tests k → HasBy sizes L n i k → Climbed n
+          go : (k : Node) → nodeAt L n ≡ k → Linked (upAt nodes) n k × Enters sizes L nodes tests k → HasBy sizes L n i k → Climbed n
           go Drop e m r = absurd r
           go Id e m r = absurd r
           go (Field f) e m r = absurd r

@@ -163,7 +163,7 @@ module _ {sizes : List ℕ} {L : NodeLists} {nodes tests : List ℕ} where
       }
         where
           up : (upAt nodes x ≡ upAt nodes n) × (upAt nodes y ≡ upAt nodes n)
-          up = subst (Linked nodes n) e (ld .moving n l z .linked)
+          up = subst (Linked (upAt nodes) n) e (ld .moving n l z .linked)
 
           first : {w : Way} {m α : ℕ} → Goes sizes L nodes tests S₂ D₂ (upAt nodes x) R₁ w m α → Goes sizes L nodes tests S₃ D₃ (upAt nodes n) R w m α
           first = goes-wider (b .slots-stay) (b .dups-stay) (up .0) (λ γ t. subst T (sym (all γ)) (either (R₁ γ) (R₂ γ) .1 (inl t)))
@@ -198,7 +198,7 @@ module _ {sizes : List ℕ} {L : NodeLists} {nodes tests : List ℕ} where
       }
         where
           up : (upAt nodes x ≡ n) × (upAt nodes y ≡ upAt nodes n)
-          up = subst (Linked nodes n) e (ld .moving n l z .linked)
+          up = subst (Linked (upAt nodes) n) e (ld .moving n l z .linked)
 
           second : {w : Way} {m α : ℕ} → Goes sizes L nodes tests S₃ D₃ (upAt nodes y) R w m α → Goes sizes L nodes tests S₃ D₃ (upAt nodes n) R w m α
           second = goes-wider (λ m γ t. t) (λ i γ t. t) (up .1) (λ γ t. t)

@@ -5,6 +5,7 @@ use mathlib.Core.List.{List}
 use mathlib.Core.Path.{_≡_, refl, sym, ap, _∙_, subst}
 use native.Mathlib.Omega.{arith}
 use lib.Dec.{eqb}
+use lib.ListN.{getD}
 use borrow.Author.Tests.{eq-eqb, ne-eqb}
 use Rattle.policy.specs.declared.FieldAction.{FieldAction}
 use Rattle.policy.specs.declared.FieldAction.the-variants.{Equals, Differs, Set}
@@ -12,6 +13,7 @@ use Rattle.policy.specs.Legality.{fieldOf, valueOf}
 use Rattle.packet_set.specs.Members.{member}
 use Rattle.spans.specs.Spans.{slot, Spanned, Holds, Left, Noted}
 use Rattle.changes.specs.Changes.{Changing, Changed}
+use Rattle.loaded.specs.Nodes.{setIn, guardAt}
 use Rattle.engine.specs.Visiting.{Admitted, EnteredLists, Acted}
 
 true-not-false : true ≡ false → ⊥
@@ -36,6 +38,12 @@ module _ (tests : List ℕ) (k from to : ℕ) (set : List ℕ) where
         kept = record { spanned = h .spanned; members = λ γ. h .members γ ∙ ap (λ b. member set γ && (b || slot tests k γ)) (sym (ne-eqb k 0 n)) };
         none = l .none;
       }
+
+-- the set has none of the packets of the guard
+pub none-met : (nodes tests set : List ℕ) (n k : ℕ) {some : Bool} → k ≡ setIn (getD nodes n 0) → (k ≡ 0 → ⊥)
+    → (some ≡ false → (γ : ℕ) → (member set γ && slot tests k γ) ≡ false) → some ≡ false → (γ : ℕ) → (member set γ && guardAt nodes tests n γ) ≡ false
+unfolding guardAt
+none-met nodes tests set n k e z h f γ = ap (λ j. member set γ && (eqb j 0 || slot tests j γ)) (sym e) ∙ ap (λ b. member set γ && (b || slot tests k γ)) (ne-eqb k 0 z) ∙ h f γ
 
 module _ (n from to : ℕ) (set work seen : List ℕ) where
   -- the node keeps a slot

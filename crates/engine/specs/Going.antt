@@ -68,7 +68,7 @@ module _ (sizes : List ℕ) (L : NodeLists) (nodes tests : List ℕ) where
     pub recorded : Recorded sizes work seen next work′ seen′ next′
 
   -- what a visit asks
-  pub record Ready (n from to : ℕ) (set work : List ℕ) : Type 0 where
+  pub record VisitReady (n from to : ℕ) (set work : List ℕ) : Type 0 where
     pub legal-sizes : LegalSizes sizes
     pub legal : Legal sizes L
     pub loaded : Loaded sizes L nodes tests

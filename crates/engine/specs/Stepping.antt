@@ -47,7 +47,7 @@ pub record Stands (sizes : List ℕ) (L : NodeLists) (nodes tests : List ℕ) (�
 
 module _ (sizes nodes tests : List ℕ) where
   -- a remainder may be stepped, for some policy that is loaded
-  pub record FollowReady (β from to : ℕ) (out work seen next : List ℕ) : Type 0 where
+  pub record RemainderReady (β from to : ℕ) (out work seen next : List ℕ) : Type 0 where
     pub lists : NodeLists
     pub stands : Stands sizes lists nodes tests β
     pub spanned : Spanned from to out
@@ -55,7 +55,7 @@ module _ (sizes nodes tests : List ℕ) where
     pub arrays : (length seen ≡ 16) × (length next ≡ 1056)
 
   -- remainder i has been stepped too, whatever was gathered before
-  pub record Followed (i β : ℕ) (out work seen next : List ℕ) (from to : ℕ) (out′ work′ seen′ next′ : List ℕ) : Type 0 where
+  pub record RemainderStepped (i β : ℕ) (out work seen next : List ℕ) (from to : ℕ) (out′ work′ seen′ next′ : List ℕ) : Type 0 where
     pub spanned : Spanned from to out′
     pub recorded : Recorded sizes work seen next work′ seen′ next′
     pub followed : (L : NodeLists) → Stands sizes L nodes tests β → (R₀ : Members) (D₀ : ℕ → Members) (marks : Marks)

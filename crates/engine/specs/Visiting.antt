@@ -13,7 +13,7 @@ use Rattle.policy.specs.NodeLists.{NodeLists}
 use Rattle.packet_set.specs.Members.{member}
 use Rattle.spans.specs.Spans.{slot, Spanned, Holds, Noted}
 use Rattle.changes.specs.Changes.{Changed}
-use Rattle.engine.specs.Going.{ThroughLists, Ready}
+use Rattle.engine.specs.Going.{ThroughLists, VisitReady}
 
 -- the packets that set k lets in, and set 0 lets in all; `some` false: none is left
 pub record Admitted (tests : List ℕ) (k from to : ℕ) (set : List ℕ) (some : Bool) (set′ : List ℕ) : Type 0 where
@@ -43,10 +43,10 @@ onward (Star c) q = q
 
 module _ (sizes nodes tests : List ℕ) where
   -- a visit may start, for some policy that is loaded
-  pub record SomeReady (n from to : ℕ) (set work : List ℕ) : Type 0 where
+  pub record SomeVisitReady (n from to : ℕ) (set work : List ℕ) : Type 0 where
     pub lists : NodeLists
-    pub ready : Ready sizes lists nodes tests n from to set work
+    pub ready : VisitReady sizes lists nodes tests n from to set work
 
   -- the set has been sent through node n
   pub record Sent (n from to : ℕ) (set work seen next : List ℕ) (from′ to′ : ℕ) (set′ work′ seen′ next′ : List ℕ) : Type 0 where
-    pub sent : (L : NodeLists) → Ready sizes L nodes tests n from to set work → ThroughLists sizes L nodes tests n set work seen next from′ to′ set′ work′ seen′ next′
+    pub sent : (L : NodeLists) → VisitReady sizes L nodes tests n from to set work → ThroughLists sizes L nodes tests n set work seen next from′ to′ set′ work′ seen′ next′

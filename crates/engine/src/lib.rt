@@ -1,13 +1,16 @@
 // One step of a state of a loaded policy at a packet (document 01, "States and rows"): one remainder at a time, by packet sets.
 // All functions here are inner.
 ghost use Prim.Native.Nat.{ℕ, _<_, _≤_};
+ghost use mathlib.Core.Bool.{false, _&&_};
 ghost use mathlib.Core.Path.{_≡_};
-ghost use lib.ListN.{length};
+ghost use lib.ListN.{length, getD};
 ghost use Rattle.policy.specs.Legality.{fieldOf, valueOf};
+ghost use Rattle.packet_set.specs.Members.{member};
 ghost use Rattle.spans.specs.Spans.{Spanned};
+ghost use Rattle.loaded.specs.Nodes.{setIn, guardAt};
 ghost use Rattle.changes.specs.Changes.{Changing};
-ghost use Rattle.engine.specs.Stepping.{FollowReady, Followed, MarksLeft, Visited, StepReady, Stepped};
-ghost use Rattle.engine.specs.Visiting.{Admitted, EnteredLists, Acted, onward, SomeReady, Sent};
+ghost use Rattle.engine.specs.Stepping.{RemainderReady, RemainderStepped, MarksLeft, Visited, StepReady, Stepped};
+ghost use Rattle.engine.specs.Visiting.{Admitted, EnteredLists, Acted, onward, SomeVisitReady, Sent};
 use loaded::Nodes;
 use loaded::Tests;
 use marks::Next;
@@ -29,6 +32,18 @@ fn admit(tests: &Tests, k: usize, span: Span, set: &mut PacketSet) -> bool
         return true;
     }
     spans::keep(tests, k, span, set)
+}
+
+// Inner. Does the guard of node n let in a packet of the set? (`false` says that it lets in none.)
+fn lets_in(nodes: &Nodes, tests: &Tests, n: u16, span: Span, set: &PacketSet) -> bool
+    requires { ⌜ (n < 512) × (setIn (getD (now nodes) n 0) ≤ 256) × Spanned (span .from) (span .to) (now set) ⌝ }
+    ensures { λ r. ⌜ (r ≡ false → (γ : ℕ) → (member (now (set .entry)) γ && guardAt (now (nodes .entry)) (now (tests .entry)) n γ) ≡ false) ⌝ }
+{
+    let k = loaded::set_in(nodes[n as usize]);
+    if k == 0 {
+        return true;
+    }
+    spans::meets(tests, k, span, set)
 }
 
 // Inner. The set enters node n: where the node keeps a slot, what had entered before in this step stays behind. Is anything new?
@@ -62,7 +77,8 @@ fn act(sizes: &[u16], action: FieldAction, span: Span, set: &mut PacketSet) -> S
 }
 
 // Inner. The set through node n, in place, and its span. Slots of the work list record what has entered the nodes that keep one: only
-// what is new goes on, so that a packet enters such a node once in a step. Dups mark next.
+// what is new goes on, so that a packet enters such a node once in a step. Dups mark next. Only a sum of which both summands let packets
+// in copies the set.
 fn through(
     nodes: &Nodes,
     tests: &Tests,
@@ -74,7 +90,7 @@ fn through(
     seen: &mut Seen,
     next: &mut Next,
 ) -> Span
-    requires { ⌜ SomeReady (now sizes) (now nodes) (now tests) n (span .from) (span .to) (now set) (now work) ⌝ }
+    requires { ⌜ SomeVisitReady (now sizes) (now nodes) (now tests) n (span .from) (span .to) (now set) (now work) ⌝ }
     requires { ⌜ (length (now seen) ≡ 16) × (length (now next) ≡ 1056) ⌝ }
     ensures { λ r. ⌜ Sent (now (sizes .entry)) (now (nodes .entry)) (now (tests .entry)) n (span .from) (span .to) (now (set .entry)) (now (work .entry)) (now (seen .entry)) (now (next .entry)) (r .from) (r .to) (now (set .exit)) (now (work .exit)) (now (seen .exit)) (now (next .exit)) ⌝ }
 {
@@ -98,6 +114,12 @@ fn through(
             Span { from: 0, to: 0 }
         }
         Node::Sum(l, r) => {
+            if !lets_in(nodes, tests, r, span, set) {
+                return through(nodes, tests, sizes, l, span, set, work, seen, next);
+            }
+            if !lets_in(nodes, tests, l, span, set) {
+                return through(nodes, tests, sizes, r, span, set, work, seen, next);
+            }
             let mut other = *set;
             let a = through(nodes, tests, sizes, l, span, set, work, seen, next);
             let b = through(nodes, tests, sizes, r, span, &mut other, work, seen, next);
@@ -166,8 +188,8 @@ fn follow_whole(
     seen: &mut Seen,
     next: &mut Next,
 ) -> Span
-    requires { ⌜ FollowReady (now sizes) (now nodes) (now tests) packet (span .from) (span .to) (now out) (now work) (now seen) (now next) ⌝ }
-    ensures { λ r. ⌜ Followed (now (sizes .entry)) (now (nodes .entry)) (now (tests .entry)) 0 packet (now (out .entry)) (now (work .entry)) (now (seen .entry)) (now (next .entry)) (r .from) (r .to) (now (out .exit)) (now (work .exit)) (now (seen .exit)) (now (next .exit)) ⌝ }
+    requires { ⌜ RemainderReady (now sizes) (now nodes) (now tests) packet (span .from) (span .to) (now out) (now work) (now seen) (now next) ⌝ }
+    ensures { λ r. ⌜ RemainderStepped (now (sizes .entry)) (now (nodes .entry)) (now (tests .entry)) 0 packet (now (out .entry)) (now (work .entry)) (now (seen .entry)) (now (next .entry)) (r .from) (r .to) (now (out .exit)) (now (work .exit)) (now (seen .exit)) (now (next .exit)) ⌝ }
 {
     let mut set = packet_set::singleton(packet);
     let root = nodes[512] as u16;
@@ -199,8 +221,8 @@ fn follow_dup(
     seen: &mut Seen,
     next: &mut Next,
 ) -> Span
-    requires { ⌜ (0 < i) × (i < 32) × FollowReady (now sizes) (now nodes) (now tests) packet (span .from) (span .to) (now out) (now work) (now seen) (now next) ⌝ }
-    ensures { λ r. ⌜ Followed (now (sizes .entry)) (now (nodes .entry)) (now (tests .entry)) i packet (now (out .entry)) (now (work .entry)) (now (seen .entry)) (now (next .entry)) (r .from) (r .to) (now (out .exit)) (now (work .exit)) (now (seen .exit)) (now (next .exit)) ⌝ }
+    requires { ⌜ (0 < i) × (i < 32) × RemainderReady (now sizes) (now nodes) (now tests) packet (span .from) (span .to) (now out) (now work) (now seen) (now next) ⌝ }
+    ensures { λ r. ⌜ RemainderStepped (now (sizes .entry)) (now (nodes .entry)) (now (tests .entry)) i packet (now (out .entry)) (now (work .entry)) (now (seen .entry)) (now (next .entry)) (r .from) (r .to) (now (out .exit)) (now (work .exit)) (now (seen .exit)) (now (next .exit)) ⌝ }
 {
     let place = nodes[512 + i as usize] as usize;
     if place == 512 {
@@ -248,7 +270,7 @@ fn follow(
     seen: &mut Seen,
     next: &mut Next,
 ) -> Span
-    requires { ⌜ (i < 32) × FollowReady (now sizes) (now nodes) (now tests) packet (span .from) (span .to) (now out) (now work) (now seen) (now next) ⌝ }
+    requires { ⌜ (i < 32) × RemainderReady (now sizes) (now nodes) (now tests) packet (span .from) (span .to) (now out) (now work) (now seen) (now next) ⌝ }
     ensures { λ r. ⌜ Visited (now (sizes .entry)) (now (nodes .entry)) (now (tests .entry)) state i packet (now (out .entry)) (now (work .entry)) (now (seen .entry)) (now (next .entry)) (r .from) (r .to) (now (out .exit)) (now (work .exit)) (now (seen .exit)) (now (next .exit)) ⌝ }
 {
     if !packet_set::is_marked(state, i as u32) {

@@ -21,8 +21,7 @@ use Rattle.policy.proofs.Trees.{each-child}
 use Rattle.automaton.proofs.Tests.{T-true, true-T, either}
 use Rattle.spans.specs.Spans.{slot}
 use Rattle.loaded.specs.Loaded.{treeOf, Linked, Moves, KeepsSlot, Rises, ends, rises, DupAt, Guarded, OnlyTests, Enterable, Enters, Loaded}
-use Rattle.loaded.specs.Loading as loading
-use Rattle.loaded.specs.Loading.{Formed, Alone, Joined, Way, Ways, Labels, Places, Numbered, guardOf, Guards, Flags, packed, Packed, Fitting, PackedAll, PlacedAll}
+use Rattle.loaded.specs.Loading.{Formed, Alone, wayFrom, Ways, Labels, Places, Numbered, guardOf, Guards, Flags, packed, Packed, Fitting, PackedAll, PlacedAll}
 use Rattle.loaded.specs.Nodes.{nodeIn, setIn, testsIn, labelIn, upIn, slotIn, readAt, testsAt, upAt, guardAt, placeAt}
 use Rattle.loaded.specs.Tests.{isTest, passes, passing}
 use Rattle.loaded.proofs.Meanings.{test-traces, test-dupless, Alive, has-trace, has-dup, first-alive, test-alive}
@@ -47,29 +46,6 @@ one-back : (b : Bool) → eqb (one b) 1 ≡ b
 unfolding one
 one-back true = refl
 one-back false = refl
-
--- only kind 8 is a star
-isStar : Node → Bool
-isStar Drop = false
-isStar Id = false
-isStar (Field a) = false
-isStar Dup = false
-isStar (Sum x y) = false
-isStar (Seq x y) = false
-isStar (Star x) = true
-
-star-kind : (k a b x : ℕ) → nodeOf k a b ≡ Star x → k ≡ 8
-unfolding nodeOf isStar
-star-kind zero a b x e = absurd (true≢false (sym (ap isStar e)))
-star-kind (suc zero) a b x e = absurd (true≢false (sym (ap isStar e)))
-star-kind (suc (suc zero)) a b x e = absurd (true≢false (sym (ap isStar e)))
-star-kind (suc (suc (suc zero))) a b x e = absurd (true≢false (sym (ap isStar e)))
-star-kind (suc (suc (suc (suc zero)))) a b x e = absurd (true≢false (sym (ap isStar e)))
-star-kind (suc (suc (suc (suc (suc zero))))) a b x e = absurd (true≢false (sym (ap isStar e)))
-star-kind (suc (suc (suc (suc (suc (suc zero)))))) a b x e = absurd (true≢false (sym (ap isStar e)))
-star-kind (suc (suc (suc (suc (suc (suc (suc zero))))))) a b x e = absurd (true≢false (sym (ap isStar e)))
-star-kind (suc (suc (suc (suc (suc (suc (suc (suc zero)))))))) a b x e = refl
-star-kind (suc (suc (suc (suc (suc (suc (suc (suc (suc k))))))))) a b x e = absurd (true≢false (sym (ap isStar e)))
 
 module _ (L : NodeLists) (alone ups labels places : List ℕ) (p : Parts L alone ups labels places) where
   f : Formed L
@@ -151,13 +127,13 @@ module _ (L : NodeLists) (alone ups labels places : List ℕ) (p : Parts L alone
       sets = λ n l. let s = guard-small n l in omega arith;
       flags = λ n l. let s = one-small (isTest (treeOf L n)) in omega (arith, p .alone-is .flags n l);
       numbers = λ n l. let s = few-dups L f (suc n) l in omega (arith, p .labels-are .labelled n l);
-      ways = λ n l. way n (p .ways .way n l);
+      ways = λ n l. way n (p .ways .rise n l);
       seconds = h;
     }
       where
-        way : (n : ℕ) → Way L ups n → getD ups n 0 < 1024
-        way n (loading.ends e) = omega arith
-        way n (loading.leads a b c) = let s = few L f in omega arith
+        way : (n : ℕ) → Rises L (wayFrom ups) (λ m. isTest (treeOf L m)) n → getD ups n 0 < 1024
+        way n (ends e) = omega arith
+        way n (rises a b c) = let s = few L f in omega arith
 
     -- ---- a packed node gives its parts back
     module _ (nodes₀ nodes₁ nodes : List ℕ) (k : PackedAll L guards alone labels ups nodes₀ nodes₁) (j : PlacedAll places nodes₁ nodes)
@@ -228,10 +204,10 @@ module _ (L : NodeLists) (alone ups labels places : List ℕ) (p : Parts L alone
         unfolding upAt
         up-read = fits (λ m. upIn (getD nodes n 0) ≡ getD ups n 0) (λ hk hs ht hl hu ho. ap upIn here ∙ up-back kd fr sn gd al lb up keeps hk (first-fits n) (second-fits n) hs ht hl hu ho)
 
-        star-read : getD (L .kind) n 0 ≡ 8 → T (slotIn (getD nodes n 0))
+        star-read : (c : ℕ) → nodeAt L n ≡ Star c → T (slotIn (getD nodes n 0))
         unfolding slotIn
-        star-read e = fits (λ m. T (slotIn (getD nodes n 0))) (λ hk hs ht hl hu ho.
-            true-T (ap slotIn here ∙ ap (λ (x : ℕ). eqb x 1) (slot-back kd fr sn gd al lb up keeps hk (first-fits n) (second-fits n) hs ht hl hu ho ∙ parts .star e)))
+        star-read c e = fits (λ m. T (slotIn (getD nodes n 0))) (λ hk hs ht hl hu ho.
+            true-T (ap slotIn here ∙ ap (λ (x : ℕ). eqb x 1) (slot-back kd fr sn gd al lb up keeps hk (first-fits n) (second-fits n) hs ht hl hu ho ∙ parts .star c e)))
 
         guard-read : (α : ℕ) → guardAt nodes tests n α ≡ held (getD guards n 0) α
         unfolding guardAt
@@ -258,9 +234,9 @@ module _ (L : NodeLists) (alone ups labels places : List ℕ) (p : Parts L alone
         }
 
       -- the ways up
-      rise-of : (n : ℕ) (l : n < nodeCount L) → Way L ups n → Rises L nodes n
-      rise-of n l (loading.ends e) = ends (up-read n l ∙ e)
-      rise-of n l (loading.leads a b c) =
+      rise-of : (n : ℕ) (l : n < nodeCount L) → Rises L (wayFrom ups) (λ m. isTest (treeOf L m)) n → Rises L (upAt nodes) (testsAt nodes) n
+      rise-of n l (ends e) = ends (up-read n l ∙ e)
+      rise-of n l (rises a b c) =
           rises (subst (λ (x : ℕ). n < x) (sym (up-read n l)) a) (subst (λ (x : ℕ). x < nodeCount L) (sym (up-read n l)) b)
           (subst (λ (x : ℕ). testsAt nodes x ≡ false) (sym (up-read n l)) (tests-read (getD ups n 0) b ∙ c))
 
@@ -283,11 +259,11 @@ module _ (L : NodeLists) (alone ups labels places : List ℕ) (p : Parts L alone
             go (Seq x y) e = tt
             go (Star x) e = tt
 
-        linked-of : Linked nodes n (nodeAt L n)
-        unfolding Linked Joined children Each
-        linked-of = go (nodeAt L n) (each-child L (below L f) (λ c. upAt nodes c ≡ getD ups c 0) n l (λ c h. up-read c (omega arith))) (p .ways .joined n l z)
+        linked-of : Linked (upAt nodes) n (nodeAt L n)
+        unfolding Linked children Each
+        linked-of = go (nodeAt L n) (each-child L (below L f) (λ c. upAt nodes c ≡ getD ups c 0) n l (λ c h. up-read c (omega arith))) (p .ways .linked n l z)
           where
-            go : (d : Node) → Each (λ c. upAt nodes c ≡ getD ups c 0) (children d) → Joined ups n d → Linked nodes n d
+            go : (d : Node) → Each (λ c. upAt nodes c ≡ getD ups c 0) (children d) → Linked (wayFrom ups) n d → Linked (upAt nodes) n d
             go Drop h e = tt
             go Id h e = tt
             go (Field a) h e = tt
@@ -307,7 +283,7 @@ module _ (L : NodeLists) (alone ups labels places : List ℕ) (p : Parts L alone
             go Dup e = tt
             go (Sum x y) e = tt
             go (Seq x y) e = tt
-            go (Star x) e = star-read n l (star-kind (getD (L .kind) n 0) (getD (L .first) n 0) (getD (L .second) n 0) x (unfold nodeAt in e))
+            go (Star x) e = star-read n l x e
 
         enters-of : Enters sizes L nodes tests (nodeAt L n)
         unfolding Enters children Each
@@ -341,7 +317,7 @@ module _ (L : NodeLists) (alone ups labels places : List ℕ) (p : Parts L alone
               guarded = guarded n l;
               label = λ o. label-read n l;
             };
-        rise = λ n l. rise-of n l (p .ways .way n l);
+        rise = λ n l. rise-of n l (p .ways .rise n l);
         root = enterable (pred (nodeCount L)) last-node (q .root);
         last = up-read (pred (nodeCount L)) last-node ∙ p .ways .last;
         whole = j .after 0 (omega arith) ∙ p .places-are .whole;
@@ -352,17 +328,7 @@ module _ (L : NodeLists) (alone ups labels places : List ℕ) (p : Parts L alone
           last-node : pred (nodeCount L) < nodeCount L
           last-node = let h = some L f in omega arith
 
-          dup-moves : (v : ℕ) → v < nodeCount L → nodeAt L v ≡ Dup → isTest (treeOf L v) ≡ false
-          dup-moves v l e = ap isTest (tree-of L f v l Dup e) ∙ unfold grow isTest in refl
-
-          dup-at : (i : ℕ) → 0 < i → i ≤ dupsBelow L (nodeCount L) → DupAt L nodes i (getD nodes (512 + i) 0)
+          dup-at : (i : ℕ) → 0 < i → i ≤ dupsBelow L (nodeCount L) → DupAt L i (getD nodes (512 + i) 0)
           dup-at i a b =
-              let d = p .places-are .dups i a b in
               let few-of = few-dups L f (nodeCount L) (omega arith) in
-              subst (DupAt L nodes i) (sym (j .after i (omega arith)))
-              (record {
-                within = d .within;
-                isDup = d .isDup;
-                numbered = d .numbered;
-                moves = tests-read (getD places i 0) (d .within) ∙ dup-moves (getD places i 0) (d .within) (d .isDup);
-              })
+              subst (DupAt L i) (sym (j .after i (omega arith))) (p .places-are .dups i a b)

@@ -21,7 +21,7 @@ use Rattle.policy.proofs.VisitLaws.{no-child}
 use Rattle.packet_set.specs.Members.{member}
 use Rattle.spans.specs.Spans.{slot}
 use Rattle.loaded.specs.Loaded.{treeOf}
-use Rattle.loaded.specs.Loading.{Formed, Alone, Tested, pick, testUnder, SetOf, Kept, Gave, Numbered}
+use Rattle.loaded.specs.Loading.{Formed, Alone, TestNode, pick, testUnder, SetOf, Kept, Gave, Numbered}
 use Rattle.loaded.specs.Tests.{isTest, passing}
 use Rattle.loaded.proofs.Bounds.{replicate-le, set-le}
 use Rattle.loaded.proofs.Sums.{sumBelow, sum-le, sum-lt, sum-both, sum-more}
@@ -59,31 +59,31 @@ module _ (L : NodeLists) (f : Formed L) (alone : List ℕ) (a : Alone L alone) w
   flag-no c l e = a .flags c l ∙ ap one e
 
   -- what is picked is a test
-  picked : (c d : ℕ) → c < nodeCount L → d ≡ 512 ⊎ Tested L d → pick (getD alone c 0) c d ≡ 512 ⊎ Tested L (pick (getD alone c 0) c d)
+  picked : (c d : ℕ) → c < nodeCount L → d ≡ 512 ⊎ TestNode L d → pick (getD alone c 0) c d ≡ 512 ⊎ TestNode L (pick (getD alone c 0) c d)
   unfolding one
   picked c d l h = go (isTest (treeOf L c)) refl
     where
-      go : (b : Bool) → isTest (treeOf L c) ≡ b → pick (getD alone c 0) c d ≡ 512 ⊎ Tested L (pick (getD alone c 0) c d)
-      go true e = inr (subst (Tested L) (pick-yes (getD alone c 0) c d (flag-yes c l e)) (record { within = l; alone = e }))
-      go false e = subst (λ (x : ℕ). x ≡ 512 ⊎ Tested L x) (pick-no (getD alone c 0) c d (flag-no c l e)) h
+      go : (b : Bool) → isTest (treeOf L c) ≡ b → pick (getD alone c 0) c d ≡ 512 ⊎ TestNode L (pick (getD alone c 0) c d)
+      go true e = inr (subst (TestNode L) (pick-yes (getD alone c 0) c d (flag-yes c l e)) (record { within = l; alone = e }))
+      go false e = subst (λ (x : ℕ). x ≡ 512 ⊎ TestNode L x) (pick-no (getD alone c 0) c d (flag-no c l e)) h
 
   module _ (n : ℕ) (l : n < nodeCount L) where
     -- the node's child that is tests alone, as its contract names it
     abbrev child : ℕ
     child = testUnder alone (getD alone n 0) (nodeAt L n)
 
-    child-tested : child < 512 → Tested L child
+    child-tested : child < 512 → TestNode L child
     unfolding testUnder children
     child-tested h = sure (go (getD alone n 0) (nodeAt L n) refl)
       where
-        sure : child ≡ 512 ⊎ Tested L child → Tested L child
+        sure : child ≡ 512 ⊎ TestNode L child → TestNode L child
         sure (inl e) = absurd (omega arith)
         sure (inr t) = t
 
-        two : (x y : ℕ) → children (nodeAt L n) ≡ x ∷ y ∷ [] → pick (getD alone x 0) x (pick (getD alone y 0) y 512) ≡ 512 ⊎ Tested L (pick (getD alone x 0) x (pick (getD alone y 0) y 512))
+        two : (x y : ℕ) → children (nodeAt L n) ≡ x ∷ y ∷ [] → pick (getD alone x 0) x (pick (getD alone y 0) y 512) ≡ 512 ⊎ TestNode L (pick (getD alone x 0) x (pick (getD alone y 0) y 512))
         two x y e = let b = two-below L (below L f) n x y l e in picked x (pick (getD alone y 0) y 512) (omega arith) (picked y 512 (omega arith) (inl refl))
 
-        go : (z : ℕ) (d : Node) → nodeAt L n ≡ d → testUnder alone z d ≡ 512 ⊎ Tested L (testUnder alone z d)
+        go : (z : ℕ) (d : Node) → nodeAt L n ≡ d → testUnder alone z d ≡ 512 ⊎ TestNode L (testUnder alone z d)
         go zero Drop e = inl refl
         go zero Id e = inl refl
         go zero (Field g) e = inl refl
@@ -234,7 +234,7 @@ module _ (L : NodeLists) (f : Formed L) where
   unfolding tests
   tests-more n = sum-le (weighed L n) (weighed L (suc n)) (nodeCount L) (λ j l. weigh L n (suc n) j (times-more L j n (suc n) (omega arith)))
 
-  module _ (n : ℕ) (l : n < nodeCount L) (c : ℕ) (t : Tested L c) (z : isTest (treeOf L n) ≡ false) (o : 0 < occurrences c (children (nodeAt L n))) where
+  module _ (n : ℕ) (l : n < nodeCount L) (c : ℕ) (t : TestNode L c) (z : isTest (treeOf L n) ≡ false) (o : 0 < occurrences c (children (nodeAt L n))) where
     moves-next : moves L (suc n) ≡ moves L n + 1
     unfolding moves sumBelow moving one
     moves-next = ap (λ (b : Bool). sumBelow (moving L) n + one (not b)) z
@@ -368,8 +368,8 @@ module _ (sizes : List ℕ) (L : NodeLists) (f : Formed L) where
       same : c ≡ testUnder alone (getD alone n 0) (nodeAt L n)
       same = ec ∙ ap (testUnder alone (getD alone n 0)) en
 
-      is-tested : c < 512 → Tested L c
-      is-tested h = subst (Tested L) (sym same) (child-tested L f alone a n l (omega (arith, same)))
+      is-tested : c < 512 → TestNode L c
+      is-tested h = subst (TestNode L) (sym same) (child-tested L f alone a n l (omega (arith, same)))
 
       is-under : c < 512 → isTest (treeOf L n) ≡ false
       is-under h = child-moves L f alone a n l (omega (arith, same))
@@ -377,7 +377,7 @@ module _ (sizes : List ℕ) (L : NodeLists) (f : Formed L) where
       is-child : c < 512 → 0 < occurrences c (children (nodeAt L n))
       is-child h = subst (λ (x : ℕ). 0 < occurrences x (children (nodeAt L n))) (sym same) (child-occurs L f alone a n l (omega (arith, same)))
 
-      pub give-ready : c < 512 → Tested L c × (k < 256)
+      pub give-ready : c < 512 → TestNode L c × (k < 256)
       give-ready h = (is-tested h, enough L f n l c (is-tested h) (is-under h) (is-child h) k (i .few-moves) (i .few-tests))
 
       pub giving-turn : (k′ : ℕ) (sets′ tests″ : List ℕ) → Gave sizes L c k sets tests′ k′ sets′ tests″ → Giving sizes L sets′ tests″ k′ (n + 1)
@@ -431,10 +431,10 @@ module _ (sizes : List ℕ) (L : NodeLists) (f : Formed L) where
           go true e = (ec ∙ sym (pick-yes (getD alone r 0) r 512 (flag-yes L f alone a r inside e)), e)
           go false e = absurd (omega (arith, pick-no (getD alone r 0) r 512 (flag-no L f alone a r inside e)))
 
-      pub root-ready : c < 512 → Tested L c × (k < 256)
+      pub root-ready : c < 512 → TestNode L c × (k < 256)
       root-ready h =
           let q = root-is h in (
-            subst (Tested L) (sym (q .0)) (record { within = inside; alone = q .1 }),
+            subst (TestNode L) (sym (q .0)) (record { within = inside; alone = q .1 }),
             enough-root L f (subst (λ (x : ℕ). isTest (treeOf L x) ≡ true) last (q .1)) k (subst (λ (x : ℕ). k ≤ moves L x) whole (i .few-moves)) (subst (λ (x : ℕ). k ≤ tests L x) whole (i .few-tests)),
           )
 

@@ -11,7 +11,8 @@ use lib.Seq.{getD-set-same, getD-set-other}
 use Rattle.policy.specs.declared.Node.{Node}
 use Rattle.policy.specs.declared.Node.the-variants.{Drop, Id, Field, Dup, Sum, Seq, Star}
 use Rattle.policy.specs.NodeLists.{NodeLists, nodeCount, nodeAt, isDup, one, dupsBelow}
-use Rattle.loaded.specs.Loading.{Formed, Labels, placed, DupHere, Places}
+use Rattle.loaded.specs.Loaded.{DupAt}
+use Rattle.loaded.specs.Loading.{Formed, Labels, placed, Places}
 use Rattle.loaded.proofs.Bounds.{replicate-le}
 use Rattle.loaded.proofs.Trees.{few, some, few-dups, small}
 
@@ -96,7 +97,7 @@ pub record Placing (L : NodeLists) (places : List ℕ) (n : ℕ) : Type 0 where
   pub at : n ≤ nodeCount L
   pub long : length places ≡ 32
   pub whole : getD places 0 0 ≡ pred (nodeCount L)
-  pub dups : (i : ℕ) → 0 < i → i ≤ dupsBelow L n → DupHere L i (getD places i 0)
+  pub dups : (i : ℕ) → 0 < i → i ≤ dupsBelow L n → DupAt L i (getD places i 0)
   pub none : (i : ℕ) → dupsBelow L n < i → i < 32 → getD places i 0 ≡ 512
   pub short : (i : ℕ) → getD places i 0 ≤ 512
 
@@ -147,12 +148,12 @@ module _ (L : NodeLists) (f : Formed L) where
           here : getD (set places (dupsBelow L (suc n)) n) (dupsBelow L (suc n)) 0 ≡ n
           here = getD-set-same places (dupsBelow L (suc n)) n 0 fits
 
-          split : (i : ℕ) → 0 < i → i ≤ dupsBelow L (suc n) → Dec (i ≡ dupsBelow L (suc n)) → DupHere L i (getD (set places (dupsBelow L (suc n)) n) i 0)
+          split : (i : ℕ) → 0 < i → i ≤ dupsBelow L (suc n) → Dec (i ≡ dupsBelow L (suc n)) → DupAt L i (getD (set places (dupsBelow L (suc n)) n) i 0)
           split i a b (yes e) =
-              subst (λ (x : ℕ). DupHere L x (getD (set places (dupsBelow L (suc n)) n) x 0)) (sym e)
-              (subst (DupHere L (dupsBelow L (suc n))) (sym here) (record { within = l; isDup = o; numbered = refl }))
+              subst (λ (x : ℕ). DupAt L x (getD (set places (dupsBelow L (suc n)) n) x 0)) (sym e)
+              (subst (DupAt L (dupsBelow L (suc n))) (sym here) (record { within = l; isDup = o; numbered = refl }))
           split i a b (no e) =
-              subst (DupHere L i) (sym (getD-set-other places (dupsBelow L (suc n)) i n 0 e)) (m .dups i a (let h = next in omega arith))
+              subst (DupAt L i) (sym (getD-set-other places (dupsBelow L (suc n)) i n 0 e)) (m .dups i a (let h = next in omega arith))
 
           bound : (i : ℕ) → Dec (i ≡ dupsBelow L (suc n)) → getD (set places (dupsBelow L (suc n)) n) i 0 ≤ 512
           bound i (yes e) = subst (λ (x : ℕ). getD (set places (dupsBelow L (suc n)) n) x 0 ≤ 512) (sym e) (let h = small L f n l in omega (arith, here))
@@ -185,7 +186,7 @@ module _ (L : NodeLists) (f : Formed L) where
       let e : n ≡ nodeCount L = omega (arith, m .at) in
       record {
         whole = m .whole;
-        dups = subst (λ (k : ℕ). (i : ℕ) → 0 < i → i ≤ dupsBelow L k → DupHere L i (getD places i 0)) e (m .dups);
+        dups = subst (λ (k : ℕ). (i : ℕ) → 0 < i → i ≤ dupsBelow L k → DupAt L i (getD places i 0)) e (m .dups);
         none = subst (λ (k : ℕ). (i : ℕ) → dupsBelow L k < i → i < 32 → getD places i 0 ≡ 512) e (m .none);
         small = m .short;
       }

@@ -24,7 +24,7 @@ use Rattle.policy.proofs.Trees.{two-below, tree-fields}
 use Rattle.packet_set.specs.Members.{member, emptySet, unionOf, exclusiveOrOf}
 use Rattle.packet_set.proofs.Words.{length-wordwise, member-empty, member-union, member-exclusive-or, length-union}
 use Rattle.loaded.specs.Loaded.{treeOf}
-use Rattle.loaded.specs.Loading.{Formed, SetOf, Met, everyPacket, withValue, Fielding, Loading, Tested}
+use Rattle.loaded.specs.Loading.{Formed, SetOf, Met, everyPacket, withValue, Fielding, Loading, TestNode}
 use Rattle.loaded.specs.Tests.{isTest, passes, passing}
 use Rattle.loaded.proofs.Meeting.{member-beyond}
 use Rattle.loaded.proofs.Runs.{empty-wide}
@@ -84,7 +84,7 @@ field-declared sizes count all a g f v ef ev = sym (ap₂ (badField sizes) ef ev
 pub formed : (sizes : List ℕ) (L : NodeLists) (count : ℕ) (all : List ℕ) → Loading sizes L count all → Formed L
 formed sizes L count all g = record { sizes = sizes; legal = g .legal }
 
-module _ (sizes : List ℕ) (L : NodeLists) (count : ℕ) (all : List ℕ) (g : Loading sizes L count all) (n : ℕ) (o : Tested L n) (node : Node) (en : node ≡ nodeAt L n) where
+module _ (sizes : List ℕ) (L : NodeLists) (count : ℕ) (all : List ℕ) (g : Loading sizes L count all) (n : ℕ) (o : TestNode L n) (node : Node) (en : node ≡ nodeAt L n) where
   f : Formed L
   f = formed sizes L count all g
 
@@ -158,7 +158,7 @@ module _ (sizes : List ℕ) (L : NodeLists) (count : ℕ) (all : List ℕ) (g : 
       fields = unfold treeOf InFields in subst (EachAction (λ a. badField sizes (fieldOf a) (valueOf a) ≡ false)) (tree (Field a) e) (tree-fields (g .legal .wellFormed) (suc n) n (omega arith) (o .within))
 
   -- the parts of a test are tests
-  parts : (x y : ℕ) → children node ≡ children (Sum x y) → isTest (treeOf L x) && isTest (treeOf L y) ≡ true → Tested L x × Tested L y
+  parts : (x y : ℕ) → children node ≡ children (Sum x y) → isTest (treeOf L x) && isTest (treeOf L y) ≡ true → TestNode L x × TestNode L y
   unfolding children
   parts x y e h =
       let k = two-below L (below L f) n x y (o .within) (ap children (sym en) ∙ e) in
@@ -171,10 +171,10 @@ module _ (sizes : List ℕ) (L : NodeLists) (count : ℕ) (all : List ℕ) (g : 
   lower x y e = two-below L (below L f) n x y (o .within) (ap children (sym en) ∙ e)
 
   module _ (x y : ℕ) where
-    pub sum-parts : node ≡ Sum x y → Tested L x × Tested L y × (x < n) × (y < n)
+    pub sum-parts : node ≡ Sum x y → TestNode L x × TestNode L y × (x < n) × (y < n)
     unfolding grow isTest
     sum-parts e = let h = parts x y (ap children e) (sym (ap isTest (tree (Sum x y) e)) ∙ o .alone) in let k = lower x y (ap children e) in (h .0, h .1, k .0, k .1)
 
-    pub seq-parts : node ≡ Seq x y → Tested L x × Tested L y × (x < n) × (y < n)
+    pub seq-parts : node ≡ Seq x y → TestNode L x × TestNode L y × (x < n) × (y < n)
     unfolding grow isTest children
     seq-parts e = let h = parts x y (ap children e) (sym (ap isTest (tree (Seq x y) e)) ∙ o .alone) in let k = lower x y (ap children e) in (h .0, h .1, k .0, k .1)

@@ -15,8 +15,8 @@ use Rattle.policy.specs.NodeLists.{NodeLists, nodeCount, nodeAt, children, one}
 use Rattle.policy.proofs.EachLaws.{each-map}
 use Rattle.policy.proofs.Trees.{two-below, one-below}
 use Rattle.policy.proofs.VisitLaws.{no-child}
-use Rattle.loaded.specs.Loaded.{treeOf}
-use Rattle.loaded.specs.Loading.{Formed, Alone, told, Joined, Way, ends, leads, Ways}
+use Rattle.loaded.specs.Loaded.{treeOf, Linked, Rises, ends, rises}
+use Rattle.loaded.specs.Loading.{Formed, Alone, told, wayFrom, Ways}
 use Rattle.loaded.specs.Tests.{isTest}
 use Rattle.loaded.proofs.Children.{apart, not-first, not-rest, two-differ}
 use Rattle.loaded.proofs.Trees.{below, few, some}
@@ -66,16 +66,16 @@ set-at : (ups : List ℕ) (x j v : ℕ) → j ≡ x → x < length ups → getD 
 set-at ups x j v e h = subst (λ (k : ℕ). getD (set ups x v) k 0 ≡ v) (sym e) (getD-set-same ups x v 0 h)
 
 -- where the links keep their entries, they hold
-joined-kept : (ups ups′ : List ℕ) (m : ℕ) (d : Node) → Each (λ c. getD ups′ c 0 ≡ getD ups c 0) (children d) → getD ups′ m 0 ≡ getD ups m 0
-    → Joined ups m d → Joined ups′ m d
-unfolding Joined children Each
-joined-kept ups ups′ m Drop h e j = tt
-joined-kept ups ups′ m Id h e j = tt
-joined-kept ups ups′ m (Field a) h e j = tt
-joined-kept ups ups′ m Dup h e j = tt
-joined-kept ups ups′ m (Sum x y) h e j = (h .0 ∙ j .0 ∙ sym e, h .1 .0 ∙ j .1 ∙ sym e)
-joined-kept ups ups′ m (Seq x y) h e j = (h .0 ∙ j .0, h .1 .0 ∙ j .1 ∙ sym e)
-joined-kept ups ups′ m (Star x) h e j = h .0 ∙ j
+linked-kept : (ups ups′ : List ℕ) (m : ℕ) (d : Node) → Each (λ c. getD ups′ c 0 ≡ getD ups c 0) (children d) → getD ups′ m 0 ≡ getD ups m 0
+    → Linked (wayFrom ups) m d → Linked (wayFrom ups′) m d
+unfolding Linked children Each
+linked-kept ups ups′ m Drop h e j = tt
+linked-kept ups ups′ m Id h e j = tt
+linked-kept ups ups′ m (Field a) h e j = tt
+linked-kept ups ups′ m Dup h e j = tt
+linked-kept ups ups′ m (Sum x y) h e j = (h .0 ∙ j .0 ∙ sym e, h .1 .0 ∙ j .1 ∙ sym e)
+linked-kept ups ups′ m (Seq x y) h e j = (h .0 ∙ j .0, h .1 .0 ∙ j .1 ∙ sym e)
+linked-kept ups ups′ m (Star x) h e j = h .0 ∙ j
 
 -- ---- all nodes
 
@@ -83,8 +83,8 @@ joined-kept ups ups′ m (Star x) h e j = h .0 ∙ j
 pub record Telling (L : NodeLists) (ups : List ℕ) (n : ℕ) : Type 0 where
   pub at : n ≤ nodeCount L
   pub long : length ups ≡ 512
-  pub joined : (m : ℕ) → n ≤ m → m < nodeCount L → isTest (treeOf L m) ≡ false → Joined ups m (nodeAt L m)
-  pub way : (j : ℕ) → j < nodeCount L → Way L ups j
+  pub linked : (m : ℕ) → n ≤ m → m < nodeCount L → isTest (treeOf L m) ≡ false → Linked (wayFrom ups) m (nodeAt L m)
+  pub rise : (j : ℕ) → j < nodeCount L → Rises L (wayFrom ups) (λ k. isTest (treeOf L k)) j
   pub last : getD ups (pred (nodeCount L)) 0 ≡ 512
 
 module _ (L : NodeLists) (f : Formed L) where
@@ -92,8 +92,8 @@ module _ (L : NodeLists) (f : Formed L) where
   telling-start ups e n en = record {
     at = omega arith;
     long = ap length e;
-    joined = λ m a l. absurd (omega arith);
-    way = λ j l. ends (start j l);
+    linked = λ m a l. absurd (omega arith);
+    rise = λ j l. ends (start j l);
     last = start (pred (nodeCount L)) (let h = some L f in omega arith);
   }
     where
@@ -112,8 +112,8 @@ module _ (L : NodeLists) (f : Formed L) where
       short x l = let h = few L f in let w = within in omega (arith, t .long)
 
       -- its own children
-      own : Joined told-list n (nodeAt L n)
-      unfolding Joined told children
+      own : Linked (wayFrom told-list) n (nodeAt L n)
+      unfolding Linked told children
       own = go (nodeAt L n) refl
         where
           self : (d : Node) → nodeAt L n ≡ d → getD (told 0 n ups d) n 0 ≡ getD ups n 0
@@ -122,7 +122,7 @@ module _ (L : NodeLists) (f : Formed L) where
               no-child-here : occurrences n (children (nodeAt L n)) ≡ 0
               no-child-here = no-child L (below L f) n n within (omega arith)
 
-          go : (d : Node) → nodeAt L n ≡ d → Joined (told 0 n ups d) n d
+          go : (d : Node) → nodeAt L n ≡ d → Linked (wayFrom (told 0 n ups d)) n d
           go Drop e = tt
           go Id e = tt
           go (Field a) e = tt
@@ -183,20 +183,20 @@ module _ (L : NodeLists) (f : Formed L) where
               first (yes q) = itself (let h = b in omega arith) (set-at ups x j n q (short x b))
               first (no q) = nothing (getD-set-other ups x j n 0 q)
 
-      way-told : (j : ℕ) → j < nodeCount L → Way L told-list j
-      way-told j l = go (heard j)
+      rise-told : (j : ℕ) → j < nodeCount L → Rises L (wayFrom told-list) (λ k. isTest (treeOf L k)) j
+      rise-told j l = go (heard j)
         where
           -- the same entry as at i, which is no lower
-          from : (v i : ℕ) → getD told-list j 0 ≡ v → v ≡ getD ups i 0 → j ≤ i → Way L ups i → Way L told-list j
+          from : (v i : ℕ) → getD told-list j 0 ≡ v → v ≡ getD ups i 0 → j ≤ i → Rises L (wayFrom ups) (λ k. isTest (treeOf L k)) i → Rises L (wayFrom told-list) (λ k. isTest (treeOf L k)) j
           from v i e q h (ends w) = ends (e ∙ q ∙ w)
-          from v i e q h (leads a b z) =
+          from v i e q h (rises a b z) =
               let r : getD told-list j 0 ≡ getD ups i 0 = e ∙ q in
-              leads (omega arith) (omega arith) (subst (λ (x : ℕ). isTest (treeOf L x) ≡ false) (sym r) z)
+              rises (omega arith) (omega arith) (subst (λ (x : ℕ). isTest (treeOf L x) ≡ false) (sym r) z)
 
-          go : Heard ups told-list n j → Way L told-list j
-          go (nothing e) = from (getD ups j 0) j e refl (omega arith) (t .way j l)
-          go (its-way h e) = from (getD ups n 0) n e refl (omega arith) (t .way n within)
-          go (itself h e) = leads (omega arith) (let w = within in omega arith) (subst (λ (x : ℕ). isTest (treeOf L x) ≡ false) (sym e) moves)
+          go : Heard ups told-list n j → Rises L (wayFrom told-list) (λ k. isTest (treeOf L k)) j
+          go (nothing e) = from (getD ups j 0) j e refl (omega arith) (t .rise j l)
+          go (its-way h e) = from (getD ups n 0) n e refl (omega arith) (t .rise n within)
+          go (itself h e) = rises (omega arith) (let w = within in omega arith) (subst (λ (x : ℕ). isTest (treeOf L x) ≡ false) (sym e) moves)
 
       not-told : (m : ℕ) → n ≤ m → m < nodeCount L → getD told-list m 0 ≡ getD ups m 0
       not-told m a l = told-other n ups (nodeAt L n) m (no-child L (below L f) m n within a)
@@ -205,32 +205,32 @@ module _ (L : NodeLists) (f : Formed L) where
       told-turn = record {
         at = let h = within in omega arith;
         long = told-length n ups (nodeAt L n) ∙ t .long;
-        joined = λ m a l z. split m a l z (ℕ-discrete m n);
-        way = way-told;
+        linked = λ m a l z. split m a l z (ℕ-discrete m n);
+        rise = rise-told;
         last = let h = within in not-told (pred (nodeCount L)) (omega arith) (omega arith) ∙ t .last;
       }
         where
-          split : (m : ℕ) → n ≤ m → m < nodeCount L → isTest (treeOf L m) ≡ false → Dec (m ≡ n) → Joined told-list m (nodeAt L m)
-          split m a l z (yes e) = subst (λ (x : ℕ). Joined told-list x (nodeAt L x)) (sym e) own
+          split : (m : ℕ) → n ≤ m → m < nodeCount L → isTest (treeOf L m) ≡ false → Dec (m ≡ n) → Linked (wayFrom told-list) m (nodeAt L m)
+          split m a l z (yes e) = subst (λ (x : ℕ). Linked (wayFrom told-list) x (nodeAt L x)) (sym e) own
           split m a l z (no e) =
-              joined-kept ups told-list m (nodeAt L m)
+              linked-kept ups told-list m (nodeAt L m)
               (each-map (λ c. occurrences c (children (nodeAt L n)) ≡ 0) (λ c. getD told-list c 0 ≡ getD ups c 0) (children (nodeAt L m))
               (λ c h. told-other n ups (nodeAt L n) c h) (apart L f m n (omega arith) l))
               (not-told m a l)
-              (t .joined m (omega arith) l z)
+              (t .linked m (omega arith) l z)
 
     same-turn : isTest (treeOf L n) ≡ true → Telling L ups n
     same-turn still = record {
       at = let h = within in omega arith;
       long = t .long;
-      joined = λ m a l z. split m a l z (ℕ-discrete m n);
-      way = t .way;
+      linked = λ m a l z. split m a l z (ℕ-discrete m n);
+      rise = t .rise;
       last = t .last;
     }
       where
-        split : (m : ℕ) → n ≤ m → m < nodeCount L → isTest (treeOf L m) ≡ false → Dec (m ≡ n) → Joined ups m (nodeAt L m)
+        split : (m : ℕ) → n ≤ m → m < nodeCount L → isTest (treeOf L m) ≡ false → Dec (m ≡ n) → Linked (wayFrom ups) m (nodeAt L m)
         split m a l z (yes e) = absurd (true≢false (sym still ∙ subst (λ (x : ℕ). isTest (treeOf L x) ≡ false) e z))
-        split m a l z (no e) = t .joined m (omega arith) l z
+        split m a l z (no e) = t .linked m (omega arith) l z
 
     pub telling-turn : (alone : List ℕ) → Alone L alone → (node : Node) → node ≡ nodeAt L n → (ups′ : List ℕ) → ups′ ≡ told (getD alone n 0) n ups node → Telling L ups′ n
     unfolding one
@@ -241,4 +241,4 @@ module _ (L : NodeLists) (f : Formed L) where
         go false e = subst (λ (x : List ℕ). Telling L x n) (told-is (getD alone n 0) n ups node (nodeAt L n) (a .flags n within ∙ ap one e) en ∙ sym eu) (told-turn e)
 
   pub telling-end : (ups : List ℕ) (n : ℕ) → Telling L ups n → n ≤ 0 → Ways L ups
-  telling-end ups n t h = record { joined = λ m l z. t .joined m (omega arith) l z; way = t .way; last = t .last }
+  telling-end ups n t h = record { linked = λ m l z. t .linked m (omega arith) l z; rise = t .rise; last = t .last }

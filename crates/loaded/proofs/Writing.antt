@@ -7,14 +7,43 @@ use native.Mathlib.Omega.{arith}
 use borrow.Author.Tests.{ltb-false}
 use lib.ListN.{length, getD, set, length-set}
 use lib.Seq.{getD-set-same, getD-set-other}
+use Rattle.policy.specs.declared.FieldAction.{FieldAction}
+use Rattle.policy.specs.declared.Node.{Node}
+use Rattle.policy.specs.declared.Node.the-variants.{Drop, Id, Field, Dup, Sum, Seq, Star}
 use Rattle.policy.specs.Legality.{badKind}
-use Rattle.policy.specs.NodeLists.{NodeLists, nodeCount}
+use Rattle.policy.specs.NodeLists.{NodeLists, nodeCount, nodeAt}
 use Rattle.loaded.specs.Loading.{Formed, packed, Packed, PackedAll, PlacedAll}
 use Rattle.loaded.proofs.Trees.{small}
 
 pub kind-small : (L : NodeLists) → Formed L → (n : ℕ) → n < nodeCount L → getD (L .kind) n 0 ≤ 8
 unfolding badKind
 kind-small L f n l = ltb-false 8 (getD (L .kind) n 0) (f .legal .wellFormed .kinds n l)
+
+-- a node of another kind is no star
+pub drop-no-star : (c : ℕ) → Drop ≡ Star c → ⊥
+drop-no-star c h = let y : _≡_ {A = ℕ} 0 1 = cc in omega arith
+
+pub id-no-star : (c : ℕ) → Id ≡ Star c → ⊥
+id-no-star c h = let y : _≡_ {A = ℕ} 0 1 = cc in omega arith
+
+pub field-no-star : {a : FieldAction} (c : ℕ) → Field a ≡ Star c → ⊥
+field-no-star c h = let y : _≡_ {A = ℕ} 0 1 = cc in omega arith
+
+pub dup-no-star : (c : ℕ) → Dup ≡ Star c → ⊥
+dup-no-star c h = let y : _≡_ {A = ℕ} 0 1 = cc in omega arith
+
+pub sum-no-star : {l r : ℕ} (c : ℕ) → Sum l r ≡ Star c → ⊥
+sum-no-star c h = let y : _≡_ {A = ℕ} 0 1 = cc in omega arith
+
+pub seq-no-star : {l r : ℕ} (c : ℕ) → Seq l r ≡ Star c → ⊥
+seq-no-star c h = let y : _≡_ {A = ℕ} 0 1 = cc in omega arith
+
+pub no-star : {node d : Node} {k : ℕ} → node ≡ d → ((c : ℕ) → d ≡ Star c → ⊥) → (c : ℕ) → node ≡ Star c → k ≡ 1
+no-star e none c q = absurd (none c (sym e ∙ q))
+
+-- a star keeps a slot, by the node that was read
+pub star-keeps : {node read : Node} {keeps : ℕ} → read ≡ node → ((c : ℕ) → read ≡ Star c → keeps ≡ 1) → (c : ℕ) → node ≡ Star c → keeps ≡ 1
+star-keeps e h c q = h c (e ∙ q)
 
 -- the first n nodes are packed
 pub record Writing (L : NodeLists) (guards alone labels ups nodes now : List ℕ) (n : ℕ) : Type 0 where
@@ -27,7 +56,7 @@ module _ (L : NodeLists) (guards alone labels ups nodes : List ℕ) where
   writing-start = record { at = omega arith; long = refl; each = λ j h. absurd (omega arith) }
 
   module _ (now : List ℕ) (n : ℕ) (m : Writing L guards alone labels ups nodes now n) where
-    pub writing-turn : Formed L → length nodes ≡ 544 → n < nodeCount L → (keeps : ℕ) → keeps ≤ 1 → (getD (L .kind) n 0 ≡ 8 → keeps ≡ 1)
+    pub writing-turn : Formed L → length nodes ≡ 544 → n < nodeCount L → (keeps : ℕ) → keeps ≤ 1 → ((c : ℕ) → nodeAt L n ≡ Star c → keeps ≡ 1)
         → (x : ℕ) → x ≡ packed (getD (L .kind) n 0) (getD (L .first) n 0) (getD (L .second) n 0) (getD guards n 0) (getD alone n 0) (getD labels n 0) (getD ups n 0) keeps
         → Writing L guards alone labels ups nodes (set now n x) (n + 1)
     writing-turn f w l keeps flag star x e = record { at = omega arith; long = length-set now n x ∙ m .long; each = λ j h. split j h (ℕ-discrete j n) }

@@ -1,6 +1,6 @@
 -- What the lists of a loaded policy mean: they stand for the tree of the node lists, node for node.
 use Prim.Native.Nat.{ℕ, suc, pred, _<_, _≤_}
-use mathlib.Core.Bool.{false}
+use mathlib.Core.Bool.{Bool, false}
 use mathlib.Core.List.{List, [], _∷_}
 use mathlib.Core.Logic.{_↔_}
 use mathlib.Core.Path.{_≡_}
@@ -23,14 +23,14 @@ treeOf L n = treeAt L (suc n) n
 
 -- what comes out of the children of node n goes on where what comes out of n does, but: out of the first part of a sequence at the
 -- sequence, out of the body of a star at the star
-unfoldable pub Linked : List ℕ → ℕ → Node → Type 0
-Linked nodes n Drop = Unit
-Linked nodes n Id = Unit
-Linked nodes n (Field a) = Unit
-Linked nodes n Dup = Unit
-Linked nodes n (Sum l r) = (upAt nodes l ≡ upAt nodes n) × (upAt nodes r ≡ upAt nodes n)
-Linked nodes n (Seq l r) = (upAt nodes l ≡ n) × (upAt nodes r ≡ upAt nodes n)
-Linked nodes n (Star c) = upAt nodes c ≡ n
+unfoldable pub Linked : (ℕ → ℕ) → ℕ → Node → Type 0
+Linked up n Drop = Unit
+Linked up n Id = Unit
+Linked up n (Field a) = Unit
+Linked up n Dup = Unit
+Linked up n (Sum l r) = (up l ≡ up n) × (up r ≡ up n)
+Linked up n (Seq l r) = (up l ≡ n) × (up r ≡ up n)
+Linked up n (Star c) = up c ≡ n
 
 -- a node that is no tests alone: a change of a field, a dup, a sum, a sequence or a star
 unfoldable pub Moves : Node → Type 0
@@ -54,16 +54,15 @@ KeepsSlot nodes n (Seq l r) = Unit
 KeepsSlot nodes n (Star c) = T (slotIn (getD nodes n 0))
 
 -- the way up from node n ends, or leads to a node above that is no tests alone
-pub data Rises (L : NodeLists) (nodes : List ℕ) (n : ℕ) : Type 0 where
-  ends : upAt nodes n ≡ 512 → Rises L nodes n
-  rises : n < upAt nodes n → upAt nodes n < nodeCount L → testsAt nodes (upAt nodes n) ≡ false → Rises L nodes n
+pub data Rises (L : NodeLists) (up : ℕ → ℕ) (tests : ℕ → Bool) (n : ℕ) : Type 0 where
+  ends : up n ≡ 512 → Rises L up tests n
+  rises : n < up n → up n < nodeCount L → tests (up n) ≡ false → Rises L up tests n
 
 -- node v is the dup with number i
-pub record DupAt (L : NodeLists) (nodes : List ℕ) (i v : ℕ) : Type 0 where
+pub record DupAt (L : NodeLists) (i v : ℕ) : Type 0 where
   pub within : v < nodeCount L
   pub isDup : nodeAt L v ≡ Dup
   pub numbered : i ≡ dupsBelow L (suc v)
-  pub moves : testsAt nodes v ≡ false
 
 module _ (sizes : List ℕ) (L : NodeLists) (nodes tests : List ℕ) where
   -- a packet from which the policy has a trace, or reaches a dup, passes its guard
@@ -94,7 +93,7 @@ module _ (sizes : List ℕ) (L : NodeLists) (nodes tests : List ℕ) where
   -- what a visit asks of a node that is no tests alone
   pub record Moving (n : ℕ) : Type 0 where
     pub moves : Moves (nodeAt L n)
-    pub linked : Linked nodes n (nodeAt L n)
+    pub linked : Linked (upAt nodes) n (nodeAt L n)
     pub slotted : KeepsSlot nodes n (nodeAt L n)
     pub enters : Enters (nodeAt L n)
     pub guarded : Guarded n
@@ -105,11 +104,11 @@ module _ (sizes : List ℕ) (L : NodeLists) (nodes tests : List ℕ) where
     pub node : (n : ℕ) → n < nodeCount L → readAt nodes n ≡ nodeAt L n
     pub small : (n : ℕ) → n < nodeCount L → setIn (getD nodes n 0) ≤ 256
     pub moving : (n : ℕ) → n < nodeCount L → testsAt nodes n ≡ false → Moving n
-    pub rise : (n : ℕ) → n < nodeCount L → Rises L nodes n
+    pub rise : (n : ℕ) → n < nodeCount L → Rises L (upAt nodes) (testsAt nodes) n
     -- the root
     pub root : Enterable (pred (nodeCount L))
     pub last : upAt nodes (pred (nodeCount L)) ≡ 512
     -- remainder 0 is the whole policy, remainder i follows dup i
     pub whole : placeAt nodes 0 ≡ pred (nodeCount L)
-    pub placed : (i : ℕ) → 0 < i → i ≤ dupsBelow L (nodeCount L) → DupAt L nodes i (placeAt nodes i)
+    pub placed : (i : ℕ) → 0 < i → i ≤ dupsBelow L (nodeCount L) → DupAt L i (placeAt nodes i)
     pub absent : (i : ℕ) → dupsBelow L (nodeCount L) < i → i < 32 → placeAt nodes i ≡ 512

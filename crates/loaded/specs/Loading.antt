@@ -17,7 +17,7 @@ use Rattle.policy.specs.Meaning.{numbered}
 use Rattle.policy.specs.NodeLists.{NodeLists, nodeCount, nodeAt, children, dupsBelow, one}
 use Rattle.packet_set.specs.Members.{Members, member}
 use Rattle.spans.specs.Spans.{slot}
-use Rattle.loaded.specs.Loaded.{treeOf}
+use Rattle.loaded.specs.Loaded.{treeOf, Linked, Rises, DupAt}
 use Rattle.loaded.specs.Tests.{isTest, passing}
 
 -- the lists of a policy that is legal for some sizes
@@ -66,24 +66,13 @@ told zero n ups (Seq l r) = set (set ups l n) r (getD ups n 0)
 told zero n ups (Star c) = set ups c n
 told (suc f) n ups node = ups
 
--- `Linked`, of a list of the ways up
-unfoldable pub Joined : List ℕ → ℕ → Node → Type 0
-Joined ups n Drop = Unit
-Joined ups n Id = Unit
-Joined ups n (Field a) = Unit
-Joined ups n Dup = Unit
-Joined ups n (Sum l r) = (getD ups l 0 ≡ getD ups n 0) × (getD ups r 0 ≡ getD ups n 0)
-Joined ups n (Seq l r) = (getD ups l 0 ≡ n) × (getD ups r 0 ≡ getD ups n 0)
-Joined ups n (Star c) = getD ups c 0 ≡ n
-
--- the way up from node n ends, or leads to a node above that is no tests alone
-pub data Way (L : NodeLists) (ups : List ℕ) (n : ℕ) : Type 0 where
-  ends : getD ups n 0 ≡ 512 → Way L ups n
-  leads : n < getD ups n 0 → getD ups n 0 < nodeCount L → isTest (treeOf L (getD ups n 0)) ≡ false → Way L ups n
+-- the way up from a node
+abbrev pub wayFrom : List ℕ → ℕ → ℕ
+wayFrom ups n = getD ups n 0
 
 pub record Ways (L : NodeLists) (ups : List ℕ) : Type 0 where
-  pub joined : (n : ℕ) → n < nodeCount L → isTest (treeOf L n) ≡ false → Joined ups n (nodeAt L n)
-  pub way : (n : ℕ) → n < nodeCount L → Way L ups n
+  pub linked : (n : ℕ) → n < nodeCount L → isTest (treeOf L n) ≡ false → Linked (wayFrom ups) n (nodeAt L n)
+  pub rise : (n : ℕ) → n < nodeCount L → Rises L (wayFrom ups) (λ m. isTest (treeOf L m)) n
   pub last : getD ups (pred (nodeCount L)) 0 ≡ 512
 
 -- ---- dups
@@ -101,16 +90,10 @@ placed label n places (Sum l r) = places
 placed label n places (Seq l r) = places
 placed label n places (Star c) = places
 
--- node v is the dup with number i
-pub record DupHere (L : NodeLists) (i v : ℕ) : Type 0 where
-  pub within : v < nodeCount L
-  pub isDup : nodeAt L v ≡ Dup
-  pub numbered : i ≡ dupsBelow L (suc v)
-
 -- the nodes of the remainders; there is none: 512
 pub record Places (L : NodeLists) (places : List ℕ) : Type 0 where
   pub whole : getD places 0 0 ≡ pred (nodeCount L)
-  pub dups : (i : ℕ) → 0 < i → i ≤ dupsBelow L (nodeCount L) → DupHere L i (getD places i 0)
+  pub dups : (i : ℕ) → 0 < i → i ≤ dupsBelow L (nodeCount L) → DupAt L i (getD places i 0)
   pub none : (i : ℕ) → dupsBelow L (nodeCount L) < i → i < 32 → getD places i 0 ≡ 512
   pub small : (i : ℕ) → getD places i 0 ≤ 512
 
@@ -154,7 +137,7 @@ pub record Loading (sizes : List ℕ) (L : NodeLists) (count : ℕ) (all : List 
   pub every : SetOf all (everyPacket sizes)
 
 -- node n of the policy is made of tests alone
-pub record Tested (L : NodeLists) (n : ℕ) : Type 0 where
+pub record TestNode (L : NodeLists) (n : ℕ) : Type 0 where
   pub within : n < nodeCount L
   pub alone : isTest (treeOf L n) ≡ true
 
@@ -234,7 +217,7 @@ packed kind first second set test label up keeps =
 pub record Packed (L : NodeLists) (guards alone labels ups : List ℕ) (nodes : List ℕ) (n : ℕ) : Type 0 where
   pub keeps : ℕ
   pub flag : keeps ≤ 1
-  pub star : getD (L .kind) n 0 ≡ 8 → keeps ≡ 1
+  pub star : (c : ℕ) → nodeAt L n ≡ Star c → keeps ≡ 1
   pub here : getD nodes n 0 ≡ packed (getD (L .kind) n 0) (getD (L .first) n 0) (getD (L .second) n 0) (getD guards n 0) (getD alone n 0) (getD labels n 0) (getD ups n 0) keeps
 
 -- the parts of the nodes fit

@@ -3,7 +3,7 @@ ghost use Prim.Native.Nat.{_<_};
 ghost use mathlib.Core.Path.{_≡_};
 ghost use lib.ListN.{length, getD};
 ghost use Rattle.policy.specs.AsLists.{asLists};
-ghost use Rattle.loaded.specs.Loading.{Placed, Alone, Loading, Tested, pick, testUnder, Gave, Numbered};
+ghost use Rattle.loaded.specs.Loading.{Placed, Alone, Loading, TestNode, pick, testUnder, Gave, Numbered};
 use crate::Tests;
 use crate::sets;
 use packet_set::PacketSet;
@@ -58,7 +58,7 @@ fn give(
     sets: &mut [u16; 512],
     tests: &mut Tests,
 ) -> usize
-    requires { ⌜ Loading (now sizes) (asLists (now kind) (now first) (now second)) count (now all) × (length (now tests) ≡ 8224) × (c < 512 → Tested (asLists (now kind) (now first) (now second)) c × (k < 256)) ⌝ }
+    requires { ⌜ Loading (now sizes) (asLists (now kind) (now first) (now second)) count (now all) × (length (now tests) ≡ 8224) × (c < 512 → TestNode (asLists (now kind) (now first) (now second)) c × (k < 256)) ⌝ }
     ensures { λ r. ⌜ Gave (now (sizes .entry)) (asLists (now (kind .entry)) (now (first .entry)) (now (second .entry))) c k (now (sets .entry)) (now (tests .entry)) r (now (sets .exit)) (now (tests .exit)) ⌝ }
 {
     if 512 <= c {

@@ -48,7 +48,8 @@ pub fn pack_nodes(
 {
     let mut n = 0;
     while n < kind.len() {
-        let keeps = slots::keeps_slot(kind[n], alone[n], parts[n]);
+        let node = policy::lent::node_at(kind, first, second, n);
+        let keeps = slots::keeps_slot(node, alone[n], parts[n]);
         nodes[n] = packed_node(
             kind[n],
             first[n],

@@ -9,7 +9,7 @@ ghost use Rattle.policy.specs.Legality.{badField};
 ghost use Rattle.policy.specs.Tree.{field};
 ghost use Rattle.packet_set.specs.Members.{member};
 ghost use Rattle.loaded.specs.Loaded.{treeOf};
-ghost use Rattle.loaded.specs.Loading.{Ran, SetOf, Met, everyPacket, withValue, Fielding, Loading, Tested, Kept};
+ghost use Rattle.loaded.specs.Loading.{Ran, SetOf, Met, everyPacket, withValue, Fielding, Loading, TestNode, Kept};
 ghost use Rattle.loaded.specs.Tests.{passing};
 use crate::Tests;
 use packet_set::PacketSet;
@@ -93,7 +93,7 @@ pub fn test_set(
     all: &PacketSet,
     n: usize,
 ) -> PacketSet
-    requires { ⌜ Loading (now sizes) (asLists (now kind) (now first) (now second)) count (now all) × Tested (asLists (now kind) (now first) (now second)) n ⌝ }
+    requires { ⌜ Loading (now sizes) (asLists (now kind) (now first) (now second)) count (now all) × TestNode (asLists (now kind) (now first) (now second)) n ⌝ }
     ensures { λ r. ⌜ SetOf r (passing (now (sizes .entry)) (treeOf (asLists (now (kind .entry)) (now (first .entry)) (now (second .entry))) n)) ⌝ }
 {
     match policy::lent::node_at(kind, first, second, n) {

@@ -1,7 +1,8 @@
 // The nodes that keep a slot: stars, and second parts of sequences that are a sum or a sequence and no tests alone.
-ghost use Prim.Native.Nat.{_≤_};
+ghost use Prim.Native.Nat.{ℕ, _≤_};
 ghost use mathlib.Core.Path.{_≡_};
 ghost use Rattle.policy.specs.AsLists.{asLists};
+ghost use Rattle.policy.specs.declared.Node.the-variants.{Star};
 ghost use Rattle.loaded.specs.Loading.{Formed, Placed, Flags, seconded};
 use policy::Node;
 
@@ -37,22 +38,29 @@ pub fn second_parts(kind: &[u8], first: &[u16], second: &[u16]) -> [u16; 512]
     parts
 }
 
-// Inner. Whether a node keeps a slot, by its kind and the flags of tests alone and of second parts.
-pub fn keeps_slot(kind: u8, alone: u16, part: u16) -> u16
+// Inner. A node that is no tests alone keeps a slot where it is a second part.
+fn unless_alone(alone: u16, part: u16) -> u16
     requires { ⌜ part ≤ 1 ⌝ }
-    ensures { λ r. ⌜ (r ≤ 1) × (kind ≡ 8 → r ≡ 1) ⌝ }
+    ensures { λ r. ⌜ r ≤ 1 ⌝ }
 {
-    if kind == 8 {
-        return 1;
-    }
     if alone != 0 {
         return 0;
     }
-    if kind == 6 {
-        return part;
+    part
+}
+
+// Inner. Whether a node keeps a slot, by the flags of tests alone and of second parts.
+pub fn keeps_slot(node: Node, alone: u16, part: u16) -> u16
+    requires { ⌜ part ≤ 1 ⌝ }
+    ensures { λ r. ⌜ (r ≤ 1) × ((c : ℕ) → node ≡ Star c → r ≡ 1) ⌝ }
+{
+    match node {
+        Node::Drop => 0,
+        Node::Id => 0,
+        Node::Field(_) => 0,
+        Node::Dup => 0,
+        Node::Sum(_, _) => unless_alone(alone, part),
+        Node::Seq(_, _) => unless_alone(alone, part),
+        Node::Star(_) => 1,
     }
-    if kind == 7 {
-        return part;
-    }
-    0
 }

@@ -1,7 +1,7 @@
 -- Laws of packet sets: what the word loops leave, membership, extensionality. Assumes nothing.
 use Prim.Native.Nat.{ℕ, zero, suc, _+_, _*_, _/_, _%_, _≤_, _<_}
 use mathlib.Core.Path.{_≡_, refl, sym, ap, ap₂, _∙_}
-use mathlib.Core.Bool.{Bool, false, not, xor, _&&_, _||_, or-false}
+use mathlib.Core.Bool.{Bool, false, xor, _||_, or-false}
 use mathlib.Core.List.{List, [], _∷_}
 use native.Mathlib.Nat.{le-of-suc-le-suc, not-suc-le-zero}
 use native.Mathlib.Decide.{ℕ-discrete}
@@ -12,8 +12,8 @@ use lib.ListN.{length, getD, set, replicate, length-set}
 use lib.Seq.{getD-set-same, getD-set-other}
 use lib.Bits.{bitOr, bitXor}
 use Rattle.packet_set.specs.Bits.{bit, marked}
-use Rattle.packet_set.specs.Members.{member, wordsFor, emptySet, withPacket, wordwise, unionOf, without, differenceOf, exclusiveOrOf}
-use Rattle.packet_set.proofs.Digits.{bit-or, bit-xor, bit-without, bit-of-zero, bit-marked}
+use Rattle.packet_set.specs.Members.{member, wordsFor, emptySet, withPacket, wordwise, unionOf, exclusiveOrOf}
+use Rattle.packet_set.proofs.Digits.{bit-or, bit-xor, bit-of-zero, bit-marked}
 
 -- ---- a word loop: f done below i, the first set's words from i on
 
@@ -72,10 +72,6 @@ module _ (k : ℕ) (a b : List ℕ) where
   pub member-union : (γ : ℕ) → γ < 32 * k → k ≤ length a → member (unionOf k a b) γ ≡ member a γ || member b γ
   unfolding unionOf
   member-union = member-wordwise bitOr _||_ bit-or k a b
-
-  pub member-difference : (γ : ℕ) → γ < 32 * k → k ≤ length a → member (differenceOf k a b) γ ≡ member a γ && not (member b γ)
-  unfolding differenceOf
-  member-difference = member-wordwise without (λ p q. p && not q) bit-without k a b
 
   pub member-exclusive-or : (γ : ℕ) → γ < 32 * k → k ≤ length a → member (exclusiveOrOf k a b) γ ≡ xor (member a γ) (member b γ)
   unfolding exclusiveOrOf

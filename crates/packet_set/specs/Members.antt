@@ -41,9 +41,6 @@ unionOf = wordwise bitOr
 abbrev pub without : ℕ → ℕ → ℕ
 without w b = bitXor w (bitAnd w b)
 
-unfoldable pub differenceOf : ℕ → List ℕ → List ℕ → List ℕ
-differenceOf = wordwise without
-
 unfoldable pub exclusiveOrOf : ℕ → List ℕ → List ℕ → List ℕ
 exclusiveOrOf = wordwise bitXor
 

@@ -4,7 +4,7 @@ use mathlib.Core.Bool.{Bool, true, false, not, _&&_, _||_, cond, and-false, or-f
 use mathlib.Core.List.{List}
 use mathlib.Core.Logic.{_⊎_, inl, inr, ⊎-elim}
 use mathlib.Core.Path.{_≡_, refl, sym, ap, ap₂, _∙_}
-use native.Mathlib.Decide.{decLt}
+use native.Mathlib.Decide.{decLt, ℕ-discrete}
 use native.Mathlib.Omega.{arith}
 use borrow.Author.Tests.{eqb-true, eq-eqb, lt-ltb, le-ltb}
 use lib.Bits.{bitOr, bitAnd, bitXor, and-zero-l, or-zero-r}
@@ -157,6 +157,32 @@ module _ (from to : ℕ) (set : List ℕ) (s : Spanned from to set) (f : ℕ →
       spanned = record { wide = r .long ∙ s .wide; within = s .within; outside = λ i o. r .words i ∙ zeros i (s .outside i o) };
       members = λ γ. members-now γ ∙ sym (x γ);
     }
+
+-- ---- the set has nothing that a slot has
+
+-- so far, in the words below i
+pub record Apart (set tests : List ℕ) (k i : ℕ) : Type 0 where
+  pub words : (j : ℕ) → j < i → commonWord set tests k j ≡ 0
+
+module _ (from to : ℕ) (set tests : List ℕ) (k : ℕ) (s : Spanned from to set) where
+  pub apart-start : Apart set tests k from
+  apart-start = record { words = λ j l. common-zero set tests k j (below-span from to set s j l) }
+
+  module _ (i : ℕ) (a : Apart set tests k i) where
+    pub apart-turn : bitAnd (getD set i 0) (getD tests (32 * k + i) 0) ≡ 0 → Apart set tests k (i + 1)
+    unfolding commonWord
+    apart-turn e = record { words = λ j l. go j l (ℕ-discrete j i) }
+      where
+        go : (j : ℕ) → j < i + 1 → Dec (j ≡ i) → commonWord set tests k j ≡ 0
+        go j l (yes h) = ap (commonWord set tests k) h ∙ e
+        go j l (no h) = a .words j (omega arith)
+
+    pub apart-end : to ≤ i → (γ : ℕ) → (member set γ && slot tests k γ) ≡ false
+    apart-end l γ = common-members from to set s tests k γ ∙ ap (λ (x : ℕ). bit x (γ % 32)) (go (decLt (γ / 32) i)) ∙ bit-of-zero (γ % 32)
+      where
+        go : Dec (γ / 32 < i) → commonWord set tests k (γ / 32) ≡ 0
+        go (yes h) = a .words (γ / 32) h
+        go (no h) = common-zero set tests k (γ / 32) (above-span from to set s (γ / 32) (omega arith))
 
 -- ---- the set keeps what a slot has
 

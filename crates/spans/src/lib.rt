@@ -57,6 +57,23 @@ fn any_bit(word: u32) -> bool
     word != 0
 }
 
+// Inner. Has the set a packet that slot k of the tests has? (`false` says that it has none.)
+pub fn meets(tests: &[u32; 8224], k: usize, span: Span, set: &PacketSet) -> bool
+    requires { ⌜ (k ≤ 256) × Spanned (span .from) (span .to) (now set) ⌝ }
+    ensures { λ r. ⌜ (r ≡ false → (γ : ℕ) → (member (now (set .entry)) γ && slot (now (tests .entry)) k γ) ≡ false) ⌝ }
+{
+    let base = 32 * k;
+    let to = span.to;
+    let mut i = span.from;
+    while i < to {
+        if set[i] & tests[base + i] != 0 {
+            return true;
+        }
+        i += 1;
+    }
+    false
+}
+
 // Inner. The set keeps the packets that slot k of the tests has; is any left?
 pub fn keep(tests: &[u32; 8224], k: usize, span: Span, set: &mut PacketSet) -> bool
     requires { ⌜ (k ≤ 256) × Spanned (span .from) (span .to) (now set) ⌝ }

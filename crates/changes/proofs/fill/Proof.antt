@@ -16,20 +16,20 @@ abbrev μ-loop : tie.MeasureT-loop
 loop-holds : tie.Need-loop-holds Inv-loop μ-loop
 loop-holds c = (omega arith, fill-start _ _ _ _ _ _)
 
-mul-gather : tie.Need-mul-gather Inv-loop μ-loop
-mul-gather c = search needs
+mul-masked : tie.Need-mul-masked Inv-loop μ-loop
+mul-masked c = search needs
 
-add-gather : tie.Need-add-gather Inv-loop μ-loop
-add-gather c = search needs
+add-masked : tie.Need-add-masked Inv-loop μ-loop
+add-masked c = search needs
 
-gather-requires : tie.Need-gather-requires Inv-loop μ-loop
-gather-requires c κs = (c .before .before .pre .2, omega (arith, c .before .before .pre .0, c .before .before .pre .1, c .before .before .pre .3, c .loop-test .taken))
+mul-masked-2 : tie.Need-mul-masked-2 Inv-loop μ-loop
+mul-masked-2 c = search needs
 
-mul-word : tie.Need-mul-word Inv-loop μ-loop
-mul-word c = search needs
+element-copy-out-masked : tie.Need-element-copy-out-masked Inv-loop μ-loop
+element-copy-out-masked c = search needs
 
-element-copy-out-word : tie.Need-element-copy-out-word Inv-loop μ-loop
-element-copy-out-word c = search needs
+masked-requires : tie.Need-masked-requires Inv-loop μ-loop
+masked-requires c κs = (c .before .before .before .pre .2, omega (arith, c .before .before .before .pre .0, c .before .before .before .pre .1, c .before .before .before .pre .3, c .before .loop-test .taken))
 
 mul-set : tie.Need-mul-set Inv-loop μ-loop
 mul-set c = search needs
@@ -44,7 +44,7 @@ loop-less : tie.Need-loop-less Inv-loop μ-loop
 loop-less c = search needs
 
 loop-again : tie.Need-loop-again Inv-loop μ-loop
-loop-again c = (omega (arith, c .before .before .loop-test .taken), fill-turn _ _ _ _ _ _ _ _ (c .before .before .before .loop .inv .1) (omega (arith, c .before .before .before .before .pre .0, c .before .before .before .before .pre .4, c .before .before .loop-test .taken)) _ (c .before .gather .ensures))
+loop-again c = (omega (arith, c .before .before .loop-test .taken), fill-turn _ _ _ _ _ _ _ _ (c .before .before .before .loop .inv .1) (omega (arith, c .before .before .before .before .pre .0, c .before .before .before .before .pre .4, c .before .before .loop-test .taken)) _ (c .masked .ensures))
 
 returns : tie.Need-returns Inv-loop μ-loop
 returns c = fill-end _ _ _ _ _ _ _ _ _ (c .before .loop .inv) (c .loop-test .left)
@@ -56,11 +56,11 @@ fill-spec =
     Inv-loop
     μ-loop
     loop-holds
-    mul-gather
-    add-gather
-    gather-requires
-    mul-word
-    element-copy-out-word
+    mul-masked
+    add-masked
+    mul-masked-2
+    element-copy-out-masked
+    masked-requires
     mul-set
     element-write-set
     add-i

@@ -6,8 +6,8 @@ use lib.ListN.{length}
 use Rattle.policy.specs.AsLists.{asLists}
 use Rattle.policy.specs.NodeLists.{nodeCount}
 use Rattle.loaded.specs.Loading.{Flags}
-use Rattle.loaded.proofs.Trees.{in-reach}
-use Rattle.loaded.proofs.Writing.{Writing, kind-small, writing-start, writing-turn, writing-end}
+use Rattle.loaded.proofs.Trees.{in-lists, in-reach}
+use Rattle.loaded.proofs.Writing.{Writing, kind-small, star-keeps, writing-start, writing-turn, writing-end}
 use Rattle.loaded.proofs.pack.pack_nodes.Statement.{statement}
 use Rattle.loaded.proofs.pack.pack_nodes.Tie as tie
 
@@ -20,8 +20,9 @@ abbrev μ-loop : tie.MeasureT-loop
 loop-holds : tie.Need-loop-holds Inv-loop μ-loop
 loop-holds c = writing-start _ _ _ _ _ _
 
-shared-slice-read-keeps-slot : tie.Need-shared-slice-read-keeps-slot Inv-loop μ-loop
-shared-slice-read-keeps-slot c = let h = in-reach _ (c .before .before .before .before .before .before .pre .0 .formed) _ (c .before .loop-test .taken) in omega arith
+node-at-requires : tie.Need-node-at-requires Inv-loop μ-loop
+unfolding nodeCount
+node-at-requires c κs = in-lists _ (c .before .before .before .before .before .pre .0 .formed) _ (c .loop-test .taken)
 
 mul-keeps-slot : tie.Need-mul-keeps-slot Inv-loop μ-loop
 mul-keeps-slot c = let h = in-reach _ (c .before .before .before .before .before .before .pre .0 .formed) _ (c .before .loop-test .taken) in omega arith
@@ -96,7 +97,7 @@ loop-less c = search needs
 
 loop-again : tie.Need-loop-again Inv-loop μ-loop
 unfolding nodeCount
-loop-again c = writing-turn _ _ _ _ _ _ _ _ (c .before .before .before .before .before .before .before .before .before .before .before .before .before .loop .inv) (c .before .before .before .before .before .before .before .before .before .before .before .before .before .before .before .before .before .pre .0 .formed) (c .before .before .before .before .before .before .before .before .before .before .before .before .before .before .before .before .before .pre .1) (c .before .before .before .before .before .before .before .before .before .before .before .before .loop-test .taken) _ (c .before .before .before .before .before .before .before .before .keeps-slot .ensures .0) (c .before .before .before .before .before .before .before .before .keeps-slot .ensures .1) _ (c .packed-node .ensures)
+loop-again c = writing-turn _ _ _ _ _ _ _ _ (c .before .before .before .before .before .before .before .before .before .before .before .before .before .loop .inv) (c .before .before .before .before .before .before .before .before .before .before .before .before .before .before .before .before .before .pre .0 .formed) (c .before .before .before .before .before .before .before .before .before .before .before .before .before .before .before .before .before .pre .1) (c .before .before .before .before .before .before .before .before .before .before .before .before .loop-test .taken) _ (c .before .before .before .before .before .before .before .before .keeps-slot .ensures .0) (star-keeps (c .before .before .before .before .before .before .before .before .before .before .before .node-at .ensures) (c .before .before .before .before .before .before .before .before .keeps-slot .ensures .1)) _ (c .packed-node .ensures)
 
 returns : tie.Need-returns Inv-loop μ-loop
 unfolding nodeCount
@@ -109,7 +110,7 @@ pack-nodes-spec =
     Inv-loop
     μ-loop
     loop-holds
-    shared-slice-read-keeps-slot
+    node-at-requires
     mul-keeps-slot
     element-copy-out-keeps-slot
     mul-keeps-slot-2
