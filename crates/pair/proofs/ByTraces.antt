@@ -7,10 +7,9 @@ use mathlib.Core.Logic.{_⊎_, inl, inr, ⊎-elim, _↔_}
 use mathlib.Core.Path.{_≡_, refl, sym, _∙_, ap, subst}
 use native.Mathlib.Nat.{zero-lt-suc, le-of-suc-le-suc}
 use native.Mathlib.Omega.{arith}
-use lib.Dec.{T, eqb}
+use lib.Dec.{T}
 use lib.Pow.{pow-pos}
 use lib.ListN.{length, getD}
-use borrow.Author.Tests.{eqb-true, eq-eqb}
 use Rattle.packet.specs.Sizes.{product}
 use Rattle.packet.proofs.Tests.{T-true, true-T, T-false}
 use Rattle.packet_set.specs.Bits.{bit}
@@ -25,17 +24,10 @@ use Rattle.pair.specs.Pair.{outputAt, nextAt, bothZero, inOneOutput, pai
 use Rattle.pair.specs.Rules.{accepted}
 use Rattle.pair.specs.Evidence.{evidenceAnswer, InTable, RowRules}
 use Rattle.pair.specs.ByTraces.{Outputs, ReachesDup, IsNext, OnlyOutputs, RowByTraces, OnlyDups, NextStands, NextZero, RulesByTraces, SameRows}
-use Rattle.pair.proofs.Sides.{at-each, onBoth-true, true-onBoth}
-use Rattle.pair.proofs.Lawful.{EvaluablePair}
+use Rattle.pair.proofs.Sides.{at-each}
+use Rattle.pair.proofs.Lawful.{EvaluablePair, zero-sides}
 use Rattle.pair.proofs.Traces.{one-side, side-one}
 use Rattle.pair.proofs.Evidence.{evidence-iff}
-
-zero-sides : (sizes : List ℕ) (ps : Pair Labelled) (m : Pair ℕ) → (bothZero sizes ps m ≡ true) ↔ ((s : Side) → at s m ≡ 0)
-unfolding bothZero
-zero-sides sizes ps m = (
-  λ e s. eqb-true (at s m) 0 (onBoth-true (λ s. eqb (at s m) 0) e s),
-  λ f. true-onBoth (λ s. eqb (at s m) 0) (λ s. eq-eqb (at s m) 0 (f s)),
-)
 
 module _ (sizes : List ℕ) (ps : Pair Labelled) (ok : EvaluablePair sizes ps) where
   abbrev S : System
