@@ -1,113 +1,109 @@
--- Document 01, "Pairs to hold against it": P1 to P11 from document 01's own texts, its edges, and further pairs, as one table.
-use Prim.Native.Nat.{ℕ, zero, suc}
+-- Document 01, "Pairs to hold against it": P1 to P11 from document 01's own texts, its edges, and further pairs, as one table of calls.
+-- A line is a call with every list lent to it, and the answer and the lists that are stated; `outcome` is what the calls promise.
+use Prim.Native.Nat.{ℕ, zero, suc, _-_}
 use Prim.Native.Char.{code}
 use Prim.Native.String.{String, [] as noText, _∷_ as _thenText_}
 use mathlib.Core.List.{List, [], _∷_, _++_}
-use mathlib.Core.Option.{Option, some}
-use lib.ListN.{replicate}
-use Rattle.packet.specs.declared.Refusal.{Refusal}
+use lib.ListN.{length, replicate}
 use Rattle.packet.specs.Refusals.{refusal}
+use Rattle.packet.specs.Packets.{numberOf}
 use Rattle.policy.specs.NodeLists.{NodeLists}
+use Rattle.policy.specs.NodesOfTree.{nodesOf}
+use Rattle.turning.specs.Turning.{valuesTests, valuesAnswer, valuesLeft, numberTests, numberAnswer}
+use Rattle.turning.specs.declared.Values.{Values}
+use Rattle.turning.specs.declared.Values.the-variants.{Written, Refused as ValuesRefused}
+use Rattle.turning.specs.declared.Number.{Number}
+use Rattle.turning.specs.declared.Number.the-variants.{Packet, Refused as NumberRefused}
 use Rattle.legality.specs.Answers.{policyLegality, pairLegality}
 use Rattle.legality.specs.declared.PairAnswer.{PairAnswer}
 use Rattle.legality.specs.declared.PairAnswer.the-variants.{Legal, Refused as PairRefused}
 use Rattle.legality.specs.declared.PolicyAnswer.{PolicyAnswer}
 use Rattle.legality.specs.declared.PolicyAnswer.the-variants.{Legal as LegalAlone, Refused as AloneRefused}
-use Rattle.policy.specs.NodesOfTree.{nodesOf}
-use Rattle.pair.specs.Sides.{left, right, policies}
-use Rattle.pair.specs.Search.{SearchAnswer, equal, different, rowsFull, Columns, searchAnswer, refusalOf, heldColumns}
-use Rattle.pair.specs.Rules.{Checked, accepted, ruleD}
-use Rattle.pair.specs.Evidence.{evidenceAnswer}
 use Rattle.grammar.specs.Tokens.{fieldNames}
-use Rattle.grammar.specs.Answer.{textTree, answerTo}
+use Rattle.grammar.specs.Answer.{textTree, answerTo, leftBy, shortest}
 use Rattle.grammar.specs.declared.Answer.{Answer}
 use Rattle.grammar.specs.declared.Answer.the-variants.{Nodes, Refused as Unread}
+use Rattle.pair.specs.Search.{Columns}
+use Rattle.lent.specs.Lent.{workAfter}
+use Rattle.verdict.specs.declared.Verdict.{Verdict}
+use Rattle.verdict.specs.declared.Verdict.the-variants.{Equal, Left, Right, Full, Refused}
+use Rattle.search.specs.Call.{Lent, lent, searchVerdict, searchLeaves}
+use Rattle.texts.specs.Call.{textNodes, textsVerdict, textsLeaves}
+use Rattle.evidence.specs.Calls.{evidenceTests, evidenceCall}
+use Rattle.evidence.specs.declared.Evidence.{Evidence}
+use Rattle.evidence.specs.declared.Evidence.the-variants.{Accepted, RuleA, RuleB, RuleC, RuleD, Refused as NotChecked}
+use Rattle.traces.specs.Checking as following
+use Rattle.traces.specs.Checking.{traceCall}
+use Rattle.traces.specs.declared.TraceChecked.{TraceChecked}
+use Rattle.traces.specs.declared.TraceChecked.the-variants.{Left as OnlyLeft, Right as OnlyRight, Both, Neither, Refused as NotFollowed}
+
+-- the public calls on lists, each with what it is handed and lent
+pub data Call : Type 0 where
+  searchTexts : (sizes left right : List ℕ) → Lent → Call
+  search : (sizes : List ℕ) (left right : NodeLists) → Lent → Call
+  checkRows : (sizes : List ℕ) (left right : NodeLists) (packets lefts rights work : List ℕ) → Call
+  checkTrace : (sizes : List ℕ) (left right : NodeLists) (entering : ℕ) (packets work : List ℕ) → Call
+  bothLegal : (sizes : List ℕ) (left right : NodeLists) → Call
+  oneLegal : (sizes : List ℕ) (policy : NodeLists) → Call
+  read : (text kind first second : List ℕ) → Call
+  valuesOf : (sizes : List ℕ) (number : ℕ) (values : List ℕ) → Call
+  numberFor : (sizes values : List ℕ) → Call
+
+-- an answer, and every lent list that the call may write
+pub data Outcome : Type 0 where
+  searched : Verdict → Lent → Outcome
+  judged : Evidence → List ℕ → Outcome
+  followed : TraceChecked → List ℕ → Outcome
+  legality : PairAnswer → Outcome
+  legalityOfOne : PolicyAnswer → Outcome
+  readAs : Answer → NodeLists → Outcome
+  turned : Values → List ℕ → Outcome
+  numbered : Number → Outcome
+
+abbrev pub lists : List ℕ → List ℕ → List ℕ → NodeLists
+lists kind first second = record { kind = kind; first = first; second = second }
+
+-- what the reader leaves in its three lists
+abbrev nodesLeft : List ℕ → Answer → NodeLists → NodeLists
+nodesLeft text r old =
+    lists
+    (leftBy r (nodesOf (textTree fieldNames text) .kind) (old .kind))
+    (leftBy r (nodesOf (textTree fieldNames text) .first) (old .first))
+    (leftBy r (nodesOf (textTree fieldNames text) .second) (old .second))
+
+-- the right sides of the calls' promises
+unfoldable pub outcome : Call → Outcome
+outcome (searchTexts sizes l r x) = searched (textsVerdict sizes l r x) (textsLeaves sizes l r x)
+outcome (search sizes l r x) = searched (searchVerdict sizes l r x) (searchLeaves sizes l r x)
+outcome (checkRows sizes l r packets lefts rights work) =
+    judged (evidenceCall sizes l r packets lefts rights (length work)) (workAfter (evidenceTests sizes l r packets lefts rights (length work)) work)
+outcome (checkTrace sizes l r entering packets work) =
+    followed (traceCall sizes l r entering packets (length work)) (workAfter (following.lentTests sizes l r (length work)) work)
+outcome (bothLegal sizes l r) = legality (pairLegality sizes l r)
+outcome (oneLegal sizes policy) = legalityOfOne (policyLegality sizes policy)
+outcome (read text kind first second) =
+    let r = answerTo fieldNames text (shortest kind first second) in
+    readAs r (nodesLeft text r (lists kind first second))
+outcome (valuesOf sizes number values) = turned (valuesAnswer (valuesTests sizes number (length values))) (valuesLeft sizes number values)
+outcome (numberFor sizes values) = numbered (numberAnswer (numberTests sizes values) (numberOf sizes values))
+
+pub record Case : Type 0 where
+  pub call : Call
+  pub stated : Outcome
+
+abbrev gives : Call → Outcome → Case
+gives call stated = record { call = call; stated = stated }
+
+-- ---- policies
 
 -- the bytes of an ASCII text
 unfoldable pub bytes : String → List ℕ
 bytes noText = []
 bytes (_thenText_ c s) = code c ∷ bytes s
 
--- a policy as a text, or as node lists written out: kind, first, second
-pub data Source : Type 0 where
-  reading : List ℕ → Source
-  lists : List ℕ → List ℕ → List ℕ → Source
-
 -- a text policy is the nodes that the section Text gives it
-unfoldable pub nodes : Source → NodeLists
-nodes (reading text) = nodesOf (textTree fieldNames text)
-nodes (lists kind first second) = record { kind = kind; first = first; second = second }
-
--- what is asked of two policies: the search's answer with so many rows lent; the refusal that it is; what the row lists then hold; the evidence
--- checker's answer to a table; whether both policies are legal; whether the left one is; the reader's answer to the left text, with lists of so
--- many entries lent
-pub data Question : Type 0 where
-  search refusals rowLists : ℕ → Question
-  evidence : List ℕ → List ℕ → List ℕ → Question
-  bothLegal leftLegal : Question
-  reads : ℕ → Question
-
-pub data Outcome : Type 0 where
-  answered : SearchAnswer → Outcome
-  refusedWith : Option Refusal → Outcome
-  held : Columns → Outcome
-  judged : Checked → Outcome
-  legality : PairAnswer → Outcome
-  leftLegality : PolicyAnswer → Outcome
-  readAs : Answer → Outcome
-
--- Two policies with the sizes of the fields, a question, and what is stated.
-pub record Case : Type 0 where
-  pub sizes : List ℕ
-  pub left : Source
-  pub right : Source
-  pub question : Question
-  pub stated : Outcome
-
--- as the program: 4,096 rows and as long a trace
-unfoldable pub lent : ℕ
-lent = 4096
-
-unfoldable pub answerToText : ℕ → Source → Answer
-answerToText room (reading text) = answerTo fieldNames text room
-answerToText room (lists kind first second) = Nodes 0
-
--- what is asked, of two policies that can be read
-unfoldable pub asked : Case → Outcome
-asked c =
-    elim (c .question) [
-      | search rows ↦ answered (searchAnswer (c .sizes) (policies (nodes (c .left)) (nodes (c .right))) rows lent)
-      | refusals rows ↦ refusedWith (refusalOf (searchAnswer (c .sizes) (policies (nodes (c .left)) (nodes (c .right))) rows lent))
-      | rowLists rows ↦ held (heldColumns (c .sizes) (policies (nodes (c .left)) (nodes (c .right))) rows)
-      | evidence packets lefts rights ↦ judged (evidenceAnswer (c .sizes) (policies (nodes (c .left)) (nodes (c .right))) packets lefts rights)
-      | bothLegal ↦ legality (pairLegality (c .sizes) (nodes (c .left)) (nodes (c .right)))
-      | leftLegal ↦ leftLegality (policyLegality (c .sizes) (nodes (c .left)))
-      | reads room ↦ readAs (answerToText room (c .left))
-    ]
-
--- a text that is refused with lists of 512 entries lent is refused before anything is asked
-unfoldable pub whereRead : Answer → Outcome → Outcome
-whereRead (Nodes n) o = o
-whereRead (Unread r) o = readAs (Unread r)
-
-unfoldable pub outcome : Case → Outcome
-outcome c = whereRead (answerToText 512 (c .left)) (whereRead (answerToText 512 (c .right)) (asked c))
-
-abbrev of : List ℕ → Source → Source → Question → Outcome → Case
-of sizes l r question stated = record { sizes = sizes; left = l; right = r; question = question; stated = stated }
-
--- two texts
-unfoldable pub given : List ℕ → String → String → Question → Outcome → Case
-given sizes l r = of sizes (reading (bytes l)) (reading (bytes r))
-
-abbrev columns : List ℕ → List ℕ → List ℕ → List ℕ → Outcome
-columns packets lefts rights parents = held (record { packets = packets; lefts = lefts; rights = rights; parents = parents })
-
-abbrev P2 : Question → Outcome → Case
-P2 = given (2 ∷ []) "f0=0;dup" "dup;f0=0"
-
-abbrev P5 : Question → Outcome → Case
-P5 = given (1 ∷ []) "dup*" "id+dup;dup*"
+abbrev nodes : String → NodeLists
+nodes text = textNodes (bytes text)
 
 -- n + 1 dups in a sum
 unfoldable pub dups : ℕ → List ℕ
@@ -119,7 +115,7 @@ unfoldable pub nested : ℕ → List ℕ
 nested n = replicate n 40 ++ bytes "id" ++ replicate n 41
 
 -- every kind in lists, of the policy ((f0=0;f0!=1)+drop);dup;(f0<-1;id)*
-abbrev everyKind : Source
+abbrev everyKind : NodeLists
 everyKind =
     lists
     (2 ∷ 3 ∷ 7 ∷ 0 ∷ 6 ∷ 5 ∷ 7 ∷ 4 ∷ 1 ∷ 7 ∷ 8 ∷ 7 ∷ [])
@@ -127,70 +123,159 @@ everyKind =
     (0 ∷ 1 ∷ 1 ∷ 0 ∷ 3 ∷ 0 ∷ 5 ∷ 1 ∷ 0 ∷ 8 ∷ 0 ∷ 10 ∷ [])
 
 -- a sequence whose second dup is node 0 and whose first is node 1
-abbrev turned : Source
-turned = lists (5 ∷ 5 ∷ 7 ∷ []) (0 ∷ 0 ∷ 1 ∷ []) (0 ∷ 0 ∷ 0 ∷ [])
+abbrev turnedRound : NodeLists
+turnedRound = lists (5 ∷ 5 ∷ 7 ∷ []) (0 ∷ 0 ∷ 1 ∷ []) (0 ∷ 0 ∷ 0 ∷ [])
 
 -- ⊤, legal whatever the sizes
-abbrev pass : Source
+abbrev pass : NodeLists
 pass = lists (1 ∷ []) (0 ∷ []) (0 ∷ [])
 
--- a refusal of causes 4 to 9: number, side and place
-abbrev refuses : Source → Source → ℕ → ℕ → ℕ → Case
-refuses l r number side place = of (2 ∷ 3 ∷ []) l r bothLegal (legality (PairRefused (refusal number side place)))
+-- ---- lent lists: 9 in each entry, so that what a call writes and what it keeps can be told apart
 
--- a refusal of causes 14 to 17: number and place
+unfoldable pub nines : ℕ → List ℕ
+nines n = replicate n 9
+
+-- the shortest work list that serves
+unfoldable pub words : ℕ
+words = 16384
+
+-- so many rows and so long a trace lent
+unfoldable pub lending : ℕ → ℕ → Lent
+lending rows trace = lent (nines rows) (nines rows) (nines rows) (nines rows) (nines trace) (nines words)
+
+-- a list of n entries that holds xs first and 9 beyond
+unfoldable pub front : List ℕ → ℕ → List ℕ
+front xs n = xs ++ nines (n - length xs)
+
+-- the lists of `lending` after a search: rows and trace in front, the work list all 0
+unfoldable pub holding : ℕ → ℕ → Columns → List ℕ → Lent
+holding rows trace c t =
+    lent (front (c .packets) rows) (front (c .lefts) rows) (front (c .rights) rows) (front (c .parents) rows) (front t trace) (replicate words 0)
+
+abbrev columns : List ℕ → List ℕ → List ℕ → List ℕ → Columns
+columns packets lefts rights parents = record { packets = packets; lefts = lefts; rights = rights; parents = parents }
+
+-- ---- lines
+
+-- a search of node lists with so many rows and so long a trace lent: the verdict, the rows and the trace that the lists then hold
+abbrev finds : List ℕ → NodeLists → NodeLists → ℕ → ℕ → Verdict → Columns → List ℕ → Case
+finds sizes l r rows trace verdict held t = gives (search sizes l r (lending rows trace)) (searched verdict (holding rows trace held t))
+
+-- the same of two texts: of the call on texts and of the call on their nodes
+unfoldable pub compares : List ℕ → String → String → ℕ → ℕ → Verdict → Columns → List ℕ → List Case
+compares sizes l r rows trace verdict held t =
+    gives (searchTexts sizes (bytes l) (bytes r) (lending rows trace)) (searched verdict (holding rows trace held t))
+    ∷ finds sizes (nodes l) (nodes r) rows trace verdict held t
+    ∷ []
+
+-- a table in three columns: the evidence checker's answer, the work list then all 0
+abbrev judges : List ℕ → NodeLists → NodeLists → List ℕ → List ℕ → List ℕ → Evidence → Case
+judges sizes l r packets lefts rights answer = gives (checkRows sizes l r packets lefts rights (nines words)) (judged answer (replicate words 0))
+
+-- a trace from an entering packet: the trace checker's answer, the work list then all 0
+abbrev follows : List ℕ → NodeLists → NodeLists → ℕ → List ℕ → TraceChecked → Case
+follows sizes l r entering packets answer = gives (checkTrace sizes l r entering packets (nines words)) (followed answer (replicate words 0))
+
+-- a refusal of causes 4 to 9: number, side and place
+abbrev refuses : NodeLists → NodeLists → ℕ → ℕ → ℕ → Case
+refuses l r number side place = gives (bothLegal (2 ∷ 3 ∷ []) l r) (legality (PairRefused (refusal number side place)))
+
+-- a refusal of causes 14 to 17 with lists of so many entries lent, which it leaves as found: number and place
 abbrev unread : List ℕ → ℕ → ℕ → ℕ → Case
-unread text room number place = of (1 ∷ []) (reading text) pass (reads room) (readAs (Unread (refusal number 0 place)))
+unread text room number place =
+    gives (read text (nines room) (nines room) (nines room)) (readAs (Unread (refusal number 0 place)) (lists (nines room) (nines room) (nines room)))
+
+abbrev P2-left : NodeLists
+P2-left = nodes "f0=0;dup"
+
+abbrev P2-right : NodeLists
+P2-right = nodes "dup;f0=0"
+
+abbrev P2-rows : Columns
+P2-rows = columns (0 ∷ 1 ∷ 0 ∷ 1 ∷ []) (1 ∷ 1 ∷ 2 ∷ 0 ∷ []) (1 ∷ 1 ∷ 2 ∷ 2 ∷ []) (0 ∷ 1 ∷ 0 ∷ 1 ∷ [])
+
+abbrev P5 : ℕ → Verdict → Columns → List Case
+P5 rows verdict held = compares (1 ∷ []) "dup*" "id+dup;dup*" rows 2 verdict held []
+
+-- the starting rows of 1, 2 and 3 packets
+abbrev starts1 : Columns
+starts1 = columns (0 ∷ []) (1 ∷ []) (1 ∷ []) (0 ∷ [])
+
+abbrev starts2 : Columns
+starts2 = columns (0 ∷ 1 ∷ []) (1 ∷ 1 ∷ []) (1 ∷ 1 ∷ []) (0 ∷ 1 ∷ [])
+
+abbrev starts3 : Columns
+starts3 = columns (0 ∷ 1 ∷ 2 ∷ []) (1 ∷ 1 ∷ 1 ∷ []) (1 ∷ 1 ∷ 1 ∷ []) (0 ∷ 1 ∷ 2 ∷ [])
 
 unfoldable pub cases : List Case
 cases =
     -- P1
-    given (2 ∷ []) "drop" "id" (search lent) (answered (different right 0 (0 ∷ [])))
+    compares (2 ∷ []) "drop" "id" 5 3 (Right 1 0) starts2 (0 ∷ [])
     -- P2
-    ∷ P2 (search lent) (answered (equal 4))
-    ∷ P2 (rowLists lent) (columns (0 ∷ 1 ∷ 0 ∷ 1 ∷ []) (1 ∷ 1 ∷ 2 ∷ 0 ∷ []) (1 ∷ 1 ∷ 2 ∷ 2 ∷ []) (0 ∷ 1 ∷ 0 ∷ 1 ∷ []))
-    ∷ P2 (evidence (0 ∷ 1 ∷ 0 ∷ 1 ∷ []) (1 ∷ 1 ∷ 2 ∷ 0 ∷ []) (1 ∷ 1 ∷ 2 ∷ 2 ∷ [])) (judged accepted)
+    ++ compares (2 ∷ []) "f0=0;dup" "dup;f0=0" 5 3 (Equal 4) P2-rows []
+    ++ judges (2 ∷ []) P2-left P2-right (0 ∷ 1 ∷ 0 ∷ 1 ∷ []) (1 ∷ 1 ∷ 2 ∷ 0 ∷ []) (1 ∷ 1 ∷ 2 ∷ 2 ∷ []) Accepted
     -- P3 and P4
-    ∷ given (2 ∷ []) "f0=0+f0=1" "id" (search lent) (answered (equal 2))
-    ∷ given (3 ∷ []) "f0=0+f0=1" "id" (search lent) (answered (different right 2 (2 ∷ [])))
+    ∷ compares (2 ∷ []) "f0=0+f0=1" "id" 5 3 (Equal 2) starts2 []
+    ++ compares (3 ∷ []) "f0=0+f0=1" "id" 5 3 (Right 1 2) starts3 (2 ∷ [])
     -- P5
-    ∷ P5 (search lent) (answered (equal 3))
-    ∷ P5 (rowLists lent) (columns (0 ∷ 0 ∷ 0 ∷ []) (1 ∷ 2 ∷ 2 ∷ []) (1 ∷ 2 ∷ 4 ∷ []) (0 ∷ 0 ∷ 1 ∷ []))
+    ++ P5 5 (Equal 3) (columns (0 ∷ 0 ∷ 0 ∷ []) (1 ∷ 2 ∷ 2 ∷ []) (1 ∷ 2 ∷ 4 ∷ []) (0 ∷ 0 ∷ 1 ∷ []))
     -- P6
-    ∷ P5 (search 2) (answered (rowsFull 2))
-    ∷ P5 (refusals 2) (refusedWith (some (refusal 11 0 2)))
-    ∷ P5 (rowLists 2) (columns (0 ∷ 0 ∷ []) (1 ∷ 2 ∷ []) (1 ∷ 2 ∷ []) (0 ∷ 0 ∷ []))
-    ∷ P5 (search 3) (answered (equal 3))
-    -- P7
-    ∷ given (1 ∷ []) "dup" "dup;dup" (search lent) (answered (different left 0 (0 ∷ 0 ∷ [])))
+    ++ P5 2 (Full (refusal 11 0 2)) (columns (0 ∷ 0 ∷ []) (1 ∷ 2 ∷ []) (1 ∷ 2 ∷ []) (0 ∷ 0 ∷ []))
+    ++ P5 3 (Equal 3) (columns (0 ∷ 0 ∷ 0 ∷ []) (1 ∷ 2 ∷ 2 ∷ []) (1 ∷ 2 ∷ 4 ∷ []) (0 ∷ 0 ∷ 1 ∷ []))
+    -- P7; with a trace list of 1 it is 12
+    ++ compares (1 ∷ []) "dup" "dup;dup" 5 3 (Left 2 0) (columns (0 ∷ 0 ∷ []) (1 ∷ 2 ∷ []) (1 ∷ 2 ∷ []) (0 ∷ 0 ∷ [])) (0 ∷ 0 ∷ [])
+    ++ compares (1 ∷ []) "dup" "dup;dup" 5 1 (Refused (refusal 12 0 2)) (columns (0 ∷ 0 ∷ []) (1 ∷ 2 ∷ []) (1 ∷ 2 ∷ []) (0 ∷ 0 ∷ [])) []
     -- P8
-    ∷ given (2 ∷ []) "f0<-1;f0=1" "f0<-1" (search lent) (answered (equal 2))
+    ++ compares (2 ∷ []) "f0<-1;f0=1" "f0<-1" 5 3 (Equal 2) starts2 []
     -- P9
-    ∷ given (2 ∷ []) "f0<-0+f0<-1" "id" (search lent) (answered (different left 0 (1 ∷ [])))
+    ++ compares (2 ∷ []) "f0<-0+f0<-1" "id" 5 3 (Left 1 0) starts2 (1 ∷ [])
     -- P10
-    ∷ given (1 ∷ []) "dup;drop" "drop" (search lent) (answered (equal 2))
+    ++ compares (1 ∷ []) "dup;drop" "drop" 5 3 (Equal 2) (columns (0 ∷ 0 ∷ []) (1 ∷ 2 ∷ []) (1 ∷ 0 ∷ []) (0 ∷ 0 ∷ [])) []
     -- P11
-    ∷ P2 (evidence (0 ∷ 1 ∷ 0 ∷ []) (1 ∷ 1 ∷ 2 ∷ []) (1 ∷ 1 ∷ 2 ∷ [])) (judged (ruleD 1 1))
+    ++ judges (2 ∷ []) P2-left P2-right (0 ∷ 1 ∷ 0 ∷ []) (1 ∷ 1 ∷ 2 ∷ []) (1 ∷ 1 ∷ 2 ∷ []) (RuleD 1 1)
     -- sizes 32, 32 pass and 5, 205 give 3 at field 1
-    ∷ of (32 ∷ 32 ∷ []) pass pass bothLegal (legality (Legal 0 0))
-    ∷ of (5 ∷ 205 ∷ []) pass pass bothLegal (legality (PairRefused (refusal 3 0 1)))
+    ∷ gives (bothLegal (32 ∷ 32 ∷ []) pass pass) (legality (Legal 0 0))
+    ∷ gives (bothLegal (5 ∷ 205 ∷ []) pass pass) (legality (PairRefused (refusal 3 0 1)))
+    ∷ gives (search (5 ∷ 205 ∷ []) pass pass (lending 5 3)) (searched (Refused (refusal 3 0 1)) (lending 5 3))
     -- 31 dups pass, 32 don't: the 32nd dup is node 61
-    ∷ of (1 ∷ []) (reading (dups 30)) (reading (dups 30)) bothLegal (legality (Legal 31 31))
-    ∷ of (1 ∷ []) (reading (dups 30)) (reading (dups 31)) bothLegal (legality (PairRefused (refusal 9 2 61)))
+    ∷ gives (bothLegal (1 ∷ []) (textNodes (dups 30)) (textNodes (dups 30))) (legality (Legal 31 31))
+    ∷ gives (bothLegal (1 ∷ []) (textNodes (dups 30)) (textNodes (dups 31))) (legality (PairRefused (refusal 9 2 61)))
     -- 64 parentheses pass, 65 don't
-    ∷ of (1 ∷ []) (reading (nested 64)) pass (reads 1) (readAs (Nodes 1))
-    ∷ unread (nested 65) 1 15 64
+    ∷ gives (read (nested 64) (nines 2) (nines 2) (nines 2)) (readAs (Nodes 1) (lists (1 ∷ 9 ∷ []) (0 ∷ 9 ∷ []) (0 ∷ 9 ∷ [])))
+    ∷ unread (nested 65) 2 15 64
+    -- the trace checker, on P7 and P1: left, right, both, neither; a trace of length 0 is neither
+    ∷ follows (1 ∷ []) (nodes "dup") (nodes "dup;dup") 0 (0 ∷ 0 ∷ []) OnlyLeft
+    ∷ follows (1 ∷ []) (nodes "dup") (nodes "dup;dup") 0 (0 ∷ 0 ∷ 0 ∷ []) OnlyRight
+    ∷ follows (2 ∷ []) P2-left P2-right 0 (0 ∷ 0 ∷ []) Both
+    ∷ follows (2 ∷ []) P2-left P2-right 1 (1 ∷ 1 ∷ []) Neither
+    ∷ follows (2 ∷ []) (nodes "id") (nodes "id") 0 [] Neither
+    -- 13: the entering packet at place 0, the second of the trace at place 2, before "length 0 is neither"
+    ∷ follows (2 ∷ []) P2-left P2-right 2 [] (NotFollowed (refusal 13 0 0))
+    ∷ follows (2 ∷ []) P2-left P2-right 0 (0 ∷ 2 ∷ []) (NotFollowed (refusal 13 0 2))
+    -- packet 4 of sizes 2 and 3 is (1, 1), field 0 counting slowest; 13 turning: the number, a value's field, a list of another length
+    ∷ gives (valuesOf (2 ∷ 3 ∷ []) 4 (nines 2)) (turned Written (1 ∷ 1 ∷ []))
+    ∷ gives (numberFor (2 ∷ 3 ∷ []) (1 ∷ 1 ∷ [])) (numbered (Packet 4))
+    ∷ gives (valuesOf (2 ∷ 3 ∷ []) 6 (nines 2)) (turned (ValuesRefused (refusal 13 0 0)) (nines 2))
+    ∷ gives (valuesOf (2 ∷ 3 ∷ []) 6 (nines 1)) (turned (ValuesRefused (refusal 13 0 2)) (nines 1))
+    ∷ gives (numberFor (2 ∷ 3 ∷ []) (1 ∷ 3 ∷ [])) (numbered (NumberRefused (refusal 13 0 1)))
+    -- 10: a work list one word short, row lists unequal; nothing is written
+    ∷ gives (checkRows (2 ∷ []) P2-left P2-right (0 ∷ 1 ∷ []) (1 ∷ 1 ∷ []) (1 ∷ 1 ∷ []) (nines 16383)) (judged (NotChecked (refusal 10 0 0)) (nines 16383))
+    ∷ gives (checkTrace (1 ∷ []) pass pass 0 (0 ∷ []) (nines 16383)) (followed (NotFollowed (refusal 10 0 0)) (nines 16383))
+    ∷ gives (search (1 ∷ []) pass pass (lent (nines 2) (nines 2) (nines 2) (nines 3) (nines 2) (nines words))) (searched (Refused (refusal 10 0 0)) (lent (nines 2) (nines 2) (nines 2) (nines 3) (nines 2) (nines words)))
+    -- the other rules on P2's table: (a) a mask of a bit that is no dup's; (b) packet 1 has no starting row; (c) P1's outputs differ at row 0
+    ∷ judges (2 ∷ []) P2-left P2-right (0 ∷ 1 ∷ []) (1 ∷ 1 ∷ []) (1 ∷ 4 ∷ []) (RuleA 1)
+    ∷ judges (2 ∷ []) P2-left P2-right (0 ∷ 0 ∷ []) (1 ∷ 2 ∷ []) (1 ∷ 2 ∷ []) (RuleB 1)
+    ∷ judges (2 ∷ []) (nodes "drop") (nodes "id") (0 ∷ 1 ∷ []) (1 ∷ 1 ∷ []) (1 ∷ 1 ∷ []) (RuleC 0)
     -- further pairs: `!=` in a text; a test of field 1; every kind; the order of a row's successors; dups numbered in node order; two telling packets
-    ∷ given (2 ∷ []) "f0!=0" "f0=1" (search lent) (answered (equal 2))
-    ∷ given (2 ∷ 3 ∷ []) "f1=2" "f0=1" (search lent) (answered (different left 2 (2 ∷ [])))
-    ∷ of (2 ∷ []) everyKind (reading (bytes "f0=0;dup;(id+f0<-1)")) (search lent) (answered (equal 3))
-    ∷ of (2 ∷ []) everyKind (reading (bytes "f0=0;dup;(id+f0<-1)")) bothLegal (legality (Legal 1 1))
-    ∷ given (2 ∷ []) "f0<-0;dup+f0<-1;dup" "f0<-0;dup+f0<-1;dup" (rowLists lent)
-    (columns (0 ∷ 1 ∷ 0 ∷ 1 ∷ []) (1 ∷ 1 ∷ 2 ∷ 4 ∷ []) (1 ∷ 1 ∷ 2 ∷ 4 ∷ []) (0 ∷ 1 ∷ 0 ∷ 0 ∷ []))
-    ∷ of (1 ∷ []) turned turned (rowLists lent) (columns (0 ∷ 0 ∷ 0 ∷ []) (1 ∷ 4 ∷ 2 ∷ []) (1 ∷ 4 ∷ 2 ∷ []) (0 ∷ 0 ∷ 1 ∷ []))
-    ∷ given (2 ∷ []) "drop" "f0<-0+f0<-1" (search lent) (answered (different right 0 (0 ∷ [])))
+    ∷ compares (2 ∷ []) "f0!=0" "f0=1" 5 3 (Equal 2) starts2 []
+    ++ compares (2 ∷ 3 ∷ []) "f1=2" "f0=1" 6 3 (Left 1 2) (columns (0 ∷ 1 ∷ 2 ∷ 3 ∷ 4 ∷ 5 ∷ []) (1 ∷ 1 ∷ 1 ∷ 1 ∷ 1 ∷ 1 ∷ []) (1 ∷ 1 ∷ 1 ∷ 1 ∷ 1 ∷ 1 ∷ []) (0 ∷ 1 ∷ 2 ∷ 3 ∷ 4 ∷ 5 ∷ [])) (2 ∷ [])
+    ++ finds (2 ∷ []) everyKind (nodes "f0=0;dup;(id+f0<-1)") 5 3 (Equal 3) (columns (0 ∷ 1 ∷ 0 ∷ []) (1 ∷ 1 ∷ 2 ∷ []) (1 ∷ 1 ∷ 2 ∷ []) (0 ∷ 1 ∷ 0 ∷ [])) []
+    ∷ gives (bothLegal (2 ∷ []) everyKind (nodes "f0=0;dup;(id+f0<-1)")) (legality (Legal 1 1))
+    ∷ compares (2 ∷ []) "f0<-0;dup+f0<-1;dup" "f0<-0;dup+f0<-1;dup" 5 3 (Equal 4) (columns (0 ∷ 1 ∷ 0 ∷ 1 ∷ []) (1 ∷ 1 ∷ 2 ∷ 4 ∷ []) (1 ∷ 1 ∷ 2 ∷ 4 ∷ []) (0 ∷ 1 ∷ 0 ∷ 0 ∷ [])) []
+    ++ finds (1 ∷ []) turnedRound turnedRound 5 3 (Equal 3) (columns (0 ∷ 0 ∷ 0 ∷ []) (1 ∷ 4 ∷ 2 ∷ []) (1 ∷ 4 ∷ 2 ∷ []) (0 ∷ 0 ∷ 1 ∷ [])) []
+    ∷ compares (2 ∷ []) "drop" "f0<-0+f0<-1" 5 3 (Right 1 0) starts2 (0 ∷ [])
     -- causes 4 to 9: lists unequal, empty, over 512
-    ∷ refuses pass (lists (1 ∷ []) [] (0 ∷ [])) 4 2 0
+    ++ refuses pass (lists (1 ∷ []) [] (0 ∷ [])) 4 2 0
     ∷ refuses (lists [] [] []) pass 4 1 0
     ∷ refuses pass (lists (replicate 513 1) (replicate 513 0) (replicate 513 0)) 4 2 0
     -- of two causes the earlier, of two sides the left, of two nodes the lower
@@ -209,8 +294,8 @@ cases =
     ∷ refuses (lists (1 ∷ 1 ∷ []) (0 ∷ 0 ∷ []) (0 ∷ 0 ∷ [])) pass 8 1 0
     ∷ refuses (lists (1 ∷ 8 ∷ 6 ∷ []) (0 ∷ 0 ∷ 1 ∷ []) (0 ∷ 0 ∷ 1 ∷ [])) pass 8 1 1
     -- one policy alone: its dups, or a refusal with side 0
-    ∷ of (2 ∷ []) everyKind pass leftLegal (leftLegality (LegalAlone 1))
-    ∷ of (2 ∷ []) (lists (5 ∷ []) (0 ∷ []) (7 ∷ [])) pass leftLegal (leftLegality (AloneRefused (refusal 6 0 0)))
+    ∷ gives (oneLegal (2 ∷ []) everyKind) (legalityOfOne (LegalAlone 1))
+    ∷ gives (oneLegal (2 ∷ []) (lists (5 ∷ []) (0 ∷ []) (7 ∷ []))) (legalityOfOne (AloneRefused (refusal 6 0 0)))
     -- causes 14 to 17: each over the whole text before the next
     ∷ unread (bytes "f0 ! = 0") 9 14 3
     ∷ unread (bytes "id+;00") 9 14 4

@@ -5,7 +5,8 @@ ghost use mathlib.Core.Path.{_≡_};
 ghost use Prim.Native.Nat.{_-_, _≤_, min};
 ghost use lib.ListN.{length, take};
 ghost use Rattle.printing.specs.Wrote.{Wrote};
-ghost use Rattle.netkat.specs.Reading.{Grown};
+ghost use Rattle.libc.specs.Io.{Moved};
+ghost use Rattle.netkat.specs.Reading.{AfterRead, ReadOnce, ReadAll};
 
 // How much of the input is kept, and whether there may be more.
 struct Kept {
@@ -25,36 +26,45 @@ fn least(a: usize, b: usize) -> usize
 // Keeps what there is room for behind the first bytes.
 fn keep(input: &mut [u8], len: usize, chunk: &[u8]) -> usize
     requires { ⌜ len ≤ length (now input) ⌝ }
-    ensures { λ r. ⌜ Wrote (now (input .entry)) (now (input .exit)) len r (take (min (length (now (input .entry)) - len) (length (now (chunk .entry)))) (now (chunk .entry))) ⌝ }
+    ensures { λ r. ⌜ Wrote (now (input .entry)) (now (input .exit)) len r (take (length (now (input .entry)) - len) (now (chunk .entry))) ⌝ }
 {
     let n = least(input.len() - len, chunk.len());
     printing::bytes(input, len, &chunk[..n])
 }
 
-// One read. After a read that fails nothing is kept: half an input must not get a verdict, and an empty one is malformed.
-fn read_some(input: &mut [u8], len: usize) -> Kept
-    requires { ⌜ len ≤ length (now input) ⌝ }
-    ensures { λ r. ⌜ Grown (now (input .entry)) len (r .len) (now (input .exit)) ⌝ }
+// What happens to the bytes of one read, which answered `got`. After a read that fails nothing is kept: half an input must not
+// get a verdict, and an empty one is malformed.
+fn take_in(input: &mut [u8], len: usize, chunk: &[u8], got: isize) -> Kept
+    requires { ⌜ (len ≤ length (now input)) × Moved (length (now chunk)) got ⌝ }
+    ensures { λ r. ⌜ AfterRead (now (input .entry)) len (now (chunk .entry)) got (r .len) (r .more) (now (input .exit)) ⌝ }
 {
-    let mut chunk = io::buffer();
-    let got = libc::read(STDIN_FILENO, &mut chunk);
     if got < 0 {
         return Kept {
             len: 0,
             more: false,
         };
     }
-    let n = io::count(got, &chunk);
+    let n = io::count(got, chunk);
     Kept {
         len: keep(input, len, &chunk[..n]),
         more: 0 < n,
     }
 }
 
+// One read.
+fn read_some(input: &mut [u8], len: usize) -> Kept
+    requires { ⌜ len ≤ length (now input) ⌝ }
+    ensures { λ r. ⌜ ReadOnce (now (input .entry)) len (r .len) (r .more) (now (input .exit)) ⌝ }
+{
+    let mut chunk = io::buffer();
+    let got = libc::read(STDIN_FILENO, &mut chunk);
+    take_in(input, len, &chunk, got)
+}
+
 // Reads to the end of the input and keeps the first bytes. A proved loop has to end, and nothing says that an input
 // does: the turns are more than any run uses up.
 fn read_all(input: &mut [u8]) -> usize
-    ensures { λ r. ⌜ r ≤ length (now (input .exit)) ⌝ }
+    ensures { λ r. ⌜ (r ≤ length (now (input .exit))) × ReadAll (now (input .entry)) r (now (input .exit)) ⌝ }
 {
     let mut len = 0;
     let mut turns = u64::MAX;

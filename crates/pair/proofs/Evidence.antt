@@ -5,9 +5,9 @@ use mathlib.Core.List.{List, [], _∷_, map}
 use mathlib.Core.Logic.{inl, inr, ⊎-elim, _↔_}
 use mathlib.Core.Path.{_≡_, refl, ap, subst}
 use native.Mathlib.Nat.{not-suc-le-zero, le-of-suc-le-suc}
-use lib.Dec.{eqb, ltb}
+use lib.Dec.{ltb}
 use lib.ListN.{length, getD, length-map}
-use borrow.Author.Tests.{eqb-true, eq-eqb, ltb-true, lt-ltb}
+use borrow.Author.Tests.{ltb-true, lt-ltb}
 use Rattle.packet.specs.Sizes.{product}
 use Rattle.packet.proofs.Tests.{xor-same, xor-false}
 use Rattle.policy.specs.Meaning.{SameTracesBelow}
@@ -26,7 +26,7 @@ use Rattle.pair.specs.Search.{equal, columnsOf, searchAnswer, heldColumn
 use Rattle.pair.specs.Rules.{accepted, Present, RuleA, RuleB, RuleC, RuleD, KeepsRules, Judged}
 use Rattle.pair.specs.Evidence.{tableOf, evidenceAnswer, InTable, RowRules}
 use Rattle.pair.proofs.Sides.{onBoth-true, true-onBoth}
-use Rattle.pair.proofs.Lawful.{EvaluablePair, lawful}
+use Rattle.pair.proofs.Lawful.{EvaluablePair, zero-sides, lawful}
 use Rattle.pair.proofs.Traces.{silent-iff}
 use Rattle.pair.proofs.Verdicts.{Searched, is-equal, searched}
 use Rattle.pair.proofs.Rules.{judged, accepted-iff, accepted-silent, accepted-contains, listed-keeps}
@@ -81,15 +81,12 @@ module _ (sizes : List ℕ) (ps : Pair Labelled) (ok : EvaluablePair sizes ps) w
     statesAt i = record { left = getD lefts i 0; right = getD rights i 0 }
 
     zero-both : (m : Pair ℕ) → (bothZero sizes ps m ≡ true) ↔ ((m .left ≡ 0) × (m .right ≡ 0))
-    unfolding bothZero at
-    zero-both m = (
-      λ e. (eqb-true (m .left) 0 (onBoth-true (λ s. eqb (at s m) 0) e left), eqb-true (m .right) 0 (onBoth-true (λ s. eqb (at s m) 0) e right)),
-      λ z. true-onBoth (λ s. eqb (at s m) 0) (zero z),
-    )
+    unfolding at
+    zero-both m = (λ e. let z = zero-sides sizes ps m .0 e in (z left, z right), λ z. zero-sides sizes ps m .1 (zero z))
       where
-        zero : (m .left ≡ 0) × (m .right ≡ 0) → (s : Side) → eqb (at s m) 0 ≡ true
-        zero z left = eq-eqb (m .left) 0 (z .0)
-        zero z right = eq-eqb (m .right) 0 (z .1)
+        zero : (m .left ≡ 0) × (m .right ≡ 0) → (s : Side) → at s m ≡ 0
+        zero z left = z .0
+        zero z right = z .1
 
     bits-both : (m : Pair ℕ) → (bitsOfDups sizes ps m ≡ true) ↔ ((m .left < 2 ^ suc (ps .left .dups)) × (m .right < 2 ^ suc (ps .right .dups)))
     unfolding bitsOfDups at onlyBits

@@ -3,7 +3,8 @@ use Prim.Native.Nat.{ℕ, suc, _^_, _<_}
 use mathlib.Core.Bool.{Bool, true, false, xor, not, Bool·beq}
 use mathlib.Core.List.{List}
 use mathlib.Core.Path.{_≡_, refl, sym, _∙_, ap, ap₂, subst}
-use lib.Dec.{ltb}
+use mathlib.Core.Logic.{_↔_}
+use lib.Dec.{ltb, eqb}
 use borrow.Author.Tests.{eqb-true, eq-eqb, lt-ltb}
 use Rattle.policy.specs.NodeLists.{NodeLists}
 use Rattle.policy.specs.Legality.{Legal}
@@ -31,6 +32,13 @@ legal-pair sizes l r a b right = policy-evaluable sizes r b
 xor-none : {a b : Bool} → a ≡ false → b ≡ false → xor a b ≡ false
 unfolding xor
 xor-none p q = ap₂ (λ a b. not (Bool·beq a b)) p q
+
+pub zero-sides : (sizes : List ℕ) (ps : Pair Labelled) (m : Pair ℕ) → (bothZero sizes ps m ≡ true) ↔ ((s : Side) → at s m ≡ 0)
+unfolding bothZero
+zero-sides sizes ps m = (
+  λ e s. eqb-true (at s m) 0 (onBoth-true (λ s. eqb (at s m) 0) e s),
+  λ f. true-onBoth (λ s. eqb (at s m) 0) (λ s. eq-eqb (at s m) 0 (f s)),
+)
 
 module _ (sizes : List ℕ) (ps : Pair Labelled) (ok : EvaluablePair sizes ps) where
   -- a state 0 has no output and stays 0
@@ -64,7 +72,7 @@ module _ (sizes : List ℕ) (ps : Pair Labelled) (ok : EvaluablePair sizes ps) w
       }
     where
       zero : (m : Pair ℕ) → bothZero sizes ps m ≡ true → (s : Side) → at s m ≡ 0
-      zero m d s = eqb-true (at s m) 0 (onBoth-true _ d s)
+      zero m d = zero-sides sizes ps m .0 d
 
       no-bit : (s : Side) (β : ℕ) (m : Pair ℕ) (γ : ℕ) → bothZero sizes ps m ≡ true → bit (outputAt sizes ps s β m) γ ≡ false
       no-bit s β m γ d = ap (λ n. bit n γ) (zero-output s β m (zero m d s)) ∙ bit-of-zero γ

@@ -6,3 +6,4 @@ pub mod TraceCheck
 pub mod Lowest
 pub mod Rules
 pub mod Evidence
+pub mod ByTraces

@@ -29,7 +29,7 @@ word-of n [] f = end
 word-of n (γ ∷ t) f = then (f γ (List·Memᴰ·head refl)) (word-of n t (λ δ m. f δ (List·Memᴰ·tail m)))
 
 -- one side of the two passes, the left one if it does
-one-side : (test : Side → Bool) → xor (test left) (test right) ≡ true → T (test (cond (test left) left right)) × (T (test (other (cond (test left) left right))) → ⊥)
+pub one-side : (test : Side → Bool) → xor (test left) (test right) ≡ true → T (test (cond (test left) left right)) × (T (test (other (cond (test left) left right))) → ⊥)
 unfolding xor other
 one-side test e = go (test left) (test right) refl refl e
   where
@@ -39,7 +39,7 @@ one-side test e = go (test left) (test right) refl refl e
     go false true p q r = (true-T q, λ t. subst T p t)
     go false false p q r = clash refl (sym r)
 
-side-one : (test : Side → Bool) (s : Side) → T (test s) → (T (test (other s)) → ⊥) → xor (test left) (test right) ≡ true
+pub side-one : (test : Side → Bool) (s : Side) → T (test s) → (T (test (other s)) → ⊥) → xor (test left) (test right) ≡ true
 unfolding xor other
 side-one test left t f = ap₂ xor (T-true (test left) t) (T-false (test right) f)
 side-one test right t f = ap₂ xor (T-false (test left) f) (T-true (test right) t)

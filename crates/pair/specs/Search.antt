@@ -3,11 +3,8 @@ use Prim.Native.Nat.{ℕ, pred, _<_}
 use mathlib.Core.Bool.{cond}
 use mathlib.Core.List.{List, map}
 use mathlib.Core.Logic.{_↔_}
-use mathlib.Core.Option.{Option, none, some}
 use lib.Dec.{ltb}
 use lib.ListN.{length, getD}
-use Rattle.packet.specs.declared.Refusal.{Refusal}
-use Rattle.packet.specs.Refusals.{refusal}
 use Rattle.packet.specs.Sizes.{product}
 use Rattle.packet_set.specs.Bits.{bit}
 use Rattle.system.specs.System.{Row}
@@ -22,13 +19,6 @@ pub data SearchAnswer : Type 0 where
   different : Side → ℕ → List ℕ → SearchAnswer
   rowsFull : ℕ → SearchAnswer
   traceShort : ℕ → SearchAnswer
-
--- document 01's refusal of an answer: 11 with the rows lent, 12 with the length needed
-unfoldable pub refusalOf : SearchAnswer → Option Refusal
-refusalOf (equal count) = none
-refusalOf (different s α trace) = none
-refusalOf (rowsFull rows) = some (refusal 11 0 rows)
-refusalOf (traceShort needed) = some (refusal 12 0 needed)
 
 -- the four row lists
 pub record Columns : Type 0 where

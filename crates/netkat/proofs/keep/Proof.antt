@@ -2,7 +2,7 @@
 use native.Mathlib.Omega.{arith}
 use mathlib.Core.Path.{sym}
 use lib.Seq.{length-take-le}
-use Rattle.netkat.proofs.Growing.{wrote-so-many}
+use Rattle.netkat.proofs.Growing.{wrote-room}
 use borrow.Author.Needs.{needs}
 use Rattle.netkat.proofs.keep.Statement.{statement}
 use Rattle.netkat.proofs.keep.Tie as tie
@@ -23,7 +23,7 @@ same-length : tie.Need-same-length
 same-length c = search needs
 
 returns : tie.Need-returns
-returns c = wrote-so-many (c .before .before .before .before .before .before .before .before .args .chunk .now) (c .before .before .before .before .before .least .ensures .2) (c .before .before .bytes .ensures)
+returns c = wrote-room (c .before .before .before .before .before .before .before .before .args .chunk .now) _ (c .before .before .before .before .before .least .ensures .2) (c .before .before .bytes .ensures)
 
 pub keep-spec : {M : Type 1} → statement M
 keep-spec =

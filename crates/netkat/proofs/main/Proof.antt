@@ -15,7 +15,7 @@ array-share-prefix-input : tie.Need-array-share-prefix-input
 array-share-prefix-input c = search needs
 
 slice-aggregate-answer : tie.Need-slice-aggregate-answer
-slice-aggregate-answer c = front-length _ _ (c .before .before .read-all .ensures)
+slice-aggregate-answer c = front-length _ _ (c .before .before .read-all .ensures .0)
 
 answer-requires : tie.Need-answer-requires
 answer-requires c κs = search needs

@@ -1,6 +1,7 @@
 -- `read_some` meets its contract.
-use Rattle.netkat.proofs.Growing.{bytes-kept}
 use borrow.Author.Needs.{needs}
+use mathlib.Core.Path.{sym}
+use Rattle.netkat.proofs.Growing.{moved-on}
 use Rattle.netkat.proofs.read_some.Statement.{statement}
 use Rattle.netkat.proofs.read_some.Tie as tie
 
@@ -13,29 +14,17 @@ slice-aggregate-read c = search needs
 read-requires : tie.Need-read-requires
 read-requires c κs = search needs
 
-returns : tie.Need-returns
-returns c = search needs
+slice-aggregate-take-in : tie.Need-slice-aggregate-take-in
+slice-aggregate-take-in c = search needs
 
-slice-aggregate-count : tie.Need-slice-aggregate-count
-slice-aggregate-count c = search needs
-
-count-requires : tie.Need-count-requires
-count-requires c κs = search needs
-
-array-share-prefix-chunk : tie.Need-array-share-prefix-chunk
-array-share-prefix-chunk c = search needs
-
-slice-aggregate-keep : tie.Need-slice-aggregate-keep
-slice-aggregate-keep c = search needs
-
-keep-requires : tie.Need-keep-requires
-keep-requires c κs = search needs
+take-in-requires : tie.Need-take-in-requires
+take-in-requires c κs = (c .before .before .before .before .before .before .before .pre, moved-on (c .before .before .before .read .result) (sym (c .before .before .before .before .before .buffer .ensures)) (c .before .before .before .read .kept .1 .0) (c .before .before .before .read .ensures))
 
 same-length : tie.Need-same-length
 same-length c = search needs
 
-returns-2 : tie.Need-returns-2
-returns-2 c = bytes-kept (c .before .before .before .before .before .before .before .before .before .before .before .before .before .pre) (c .before .before .keep .ensures)
+returns : tie.Need-returns
+returns c = record { chunk = _; got = _; after = c .before .before .take-in .ensures }
 
 pub read-some-spec : {M : Type 1} → statement M
 read-some-spec =
@@ -44,11 +33,7 @@ read-some-spec =
     buffer-requires
     slice-aggregate-read
     read-requires
-    returns
-    slice-aggregate-count
-    count-requires
-    array-share-prefix-chunk
-    slice-aggregate-keep
-    keep-requires
+    slice-aggregate-take-in
+    take-in-requires
     same-length
-    returns-2)
+    returns)
