@@ -8,7 +8,7 @@ use index::Appended;
 use index::Mask;
 use loaded::Nodes;
 use loaded::Tests;
-use packet::Counted;
+use packet::Tested;
 use round::Handled;
 use verdict::Ended;
 use verdict::Stop;
@@ -164,7 +164,7 @@ pub fn search(
         parents.len(),
         work.len(),
     );
-    match lent::lent_tests(
+    let found = legality::front(
         sizes,
         left_kind,
         left_first,
@@ -173,9 +173,12 @@ pub fn search(
         right_first,
         right_second,
         lists,
-    ) {
-        Counted::Refused(r) => Verdict::Refused(r),
-        Counted::Packets(count) => search_accepted(
+    );
+    let tested = found.tested;
+    let count = found.packets;
+    match tested {
+        Tested::Refused(r) => Verdict::Refused(r),
+        Tested::Passed => search_accepted(
             sizes,
             count,
             left_kind,
