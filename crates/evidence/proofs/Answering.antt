@@ -15,7 +15,7 @@ use Rattle.packet.specs.declared.Tested.{Tested}
 use Rattle.packet.specs.declared.Tested.the-variants.{Passed, Refused}
 use Rattle.packet.proofs.Tests.{or-false}
 use Rattle.packet.proofs.Stages.{refusedAt-passed, atPlace-none}
-use Rattle.policy.specs.NodeLists.{NodeLists, nodeCount, dupsBelow, policyOf}
+use Rattle.policy.specs.NodeLists.{NodeLists, policyOf}
 use Rattle.policy.specs.Order.{pairTests}
 use Rattle.policy.specs.Meaning.{SameTracesBelow}
 use Rattle.legality.specs.declared.PairTested.{PairTested}
@@ -228,9 +228,6 @@ module _ (sizes : List ℕ) (L R : NodeLists) where
               numbered = n .2;
               long = n .3;
             }
-
-        pub dups : (q .«left_dups» ≡ dupsBelow L (nodeCount L)) × (q .«right_dups» ≡ dupsBelow R (nodeCount R))
-        dups = (front .left-dups passed, front .right-dups passed)
 
         pub table-answered : (answer : Evidence) (work′ : List ℕ) → TableChecked sizes L R packets lefts rights work answer work′ → CheckedRows sizes L R packets lefts rights work answer work′
         unfolding evidenceOf workAfter
