@@ -7,8 +7,8 @@ use Rattle.packet.specs.Packets.{valueAt, changed, valuesOf, numberOf}
 use Rattle.packet.specs.Sizes.{product, badCount, zeroSize, productOver, fieldsStage, productStage}
 use Rattle.packet.specs.Refusals.{refusal, refusedAt, atPlace, firstOf}
 use Rattle.policy.specs.NodeLists.{nodeCount, nodeOf, nodeAt, children, one, isDup, dupsBelow, grow, treeAt, policyOf}
-use Rattle.policy.specs.Legality.{badLengths, badKind, badField, used, wrongEntries, badEntries, someNotBelow, badChild, occurrences, timesChild, notOnce, maxDups, tooManyDups, cause, policiesStage}
-use Rattle.policy.specs.Tests.{sided, policyTests, pairTests}
+use Rattle.policy.specs.Legality.{badLengths, badKind, badField, used, wrongEntries, badEntries, someNotBelow, badChild, occurrences, timesChild, notOnce, maxDups, tooManyDups}
+use Rattle.policy.specs.Order.{order, inOrder, causes, sided, cause, policiesStage, stagesOf, policyTests, pairTests}
 use Rattle.legality.specs.Answers.{policyAnswer, pairAnswer, policyLegality, pairLegality}
 use Rattle.policy.specs.Visits.{labels}
 use Rattle.policy.specs.NodesOfTree.{entry, actionEntry, treeSize, entriesFrom, listsOf, nodesOf}
@@ -29,5 +29,5 @@ use Rattle.grammar.specs.Answer.{badPlace, openAfter, deepPlace, stopPlace, tre
 use Rattle.cases.specs.Cases.{Case, bytes, nodes, lent, answerToText, asked, whereRead, outcome, given, dups, nested, cases}
 
 pub all-as-stated : map outcome cases ≡ map (λ (c : Case). c .stated) cases
-unfolding xor lowest orAt valueAt changed valuesOf numberOf product nodeCount nodeOf nodeAt one isDup dupsBelow grow treeAt policyOf entry actionEntry treeSize entriesFrom listsOf nodesOf bit maskOf anyBelow setOf union takes image rounds single unionOver labels rightSpine orElse followedBy remainder flow enter ofMarked outputSet enteredSet next outputMask nextMask starts sameRow listed append appendNext lowestTelling turn handle runFrom run climbing climb path entering verdict answer held at onBoth outputAt nextAt sameStates bothZero inOneOutput bitsOfDups lastOf sideOf reported searchAnswer refusalOf columnsOf heldColumns andThen brokenAt present breaksA breaksB breaksD checkRow checkRows checkRules evidenceAnswer lent outcome given dups nested cases bytes nodes answerToText asked whereRead policyTests pairTests policyAnswer pairAnswer policyLegality pairLegality sided isBlank isLetter isDigit inWord fieldNames sameWord allDigits decimal leadingZero isNumber numberToken fieldToken fieldNamed wordToken singleMark doubleMark beginsDouble markToken wordOf frontToken isBad restOfToken placedFrom tokensFrom tokens constantPolicy fieldAction nothing joinSequence joinSum upTo whole start close step finish readOn badPlace openAfter deepPlace stopPlace treeRead tooMany answered reading textTree tested answerTo badCount zeroSize productOver fieldsStage productStage refusal refusedAt atPlace firstOf children badLengths badKind badField used wrongEntries badEntries someNotBelow badChild occurrences timesChild notOnce maxDups tooManyDups cause policiesStage onlyBits
+unfolding xor lowest orAt valueAt changed valuesOf numberOf product nodeCount nodeOf nodeAt one isDup dupsBelow grow treeAt policyOf entry actionEntry treeSize entriesFrom listsOf nodesOf bit maskOf anyBelow setOf union takes image rounds single unionOver labels rightSpine orElse followedBy remainder flow enter ofMarked outputSet enteredSet next outputMask nextMask starts sameRow listed append appendNext lowestTelling turn handle runFrom run climbing climb path entering verdict answer held at onBoth outputAt nextAt sameStates bothZero inOneOutput bitsOfDups lastOf sideOf reported searchAnswer refusalOf columnsOf heldColumns andThen brokenAt present breaksA breaksB breaksD checkRow checkRows checkRules evidenceAnswer lent outcome given dups nested cases bytes nodes answerToText asked whereRead policyTests pairTests policyAnswer pairAnswer policyLegality pairLegality sided isBlank isLetter isDigit inWord fieldNames sameWord allDigits decimal leadingZero isNumber numberToken fieldToken fieldNamed wordToken singleMark doubleMark beginsDouble markToken wordOf frontToken isBad restOfToken placedFrom tokensFrom tokens constantPolicy fieldAction nothing joinSequence joinSum upTo whole start close step finish readOn badPlace openAfter deepPlace stopPlace treeRead tooMany answered reading textTree tested answerTo badCount zeroSize productOver fieldsStage productStage refusal refusedAt atPlace firstOf children badLengths badKind badField used wrongEntries badEntries someNotBelow badChild occurrences timesChild notOnce maxDups tooManyDups order inOrder causes cause policiesStage stagesOf onlyBits
 all-as-stated = refl

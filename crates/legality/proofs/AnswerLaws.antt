@@ -9,7 +9,7 @@ use lib.ListN.{length}
 use borrow.Author.Tests.{ne-eqb, lt-ltb, le-ltb}
 use Rattle.packet.specs.Lowest.{lowest, optionOf}
 use Rattle.packet.specs.Refusals.{refusal, refusedAt, atZero, firstOf}
-use Rattle.packet.specs.Sizes.{fieldsStage, productStage, product, CountOf, LegalSizes}
+use Rattle.packet.specs.Sizes.{fieldsStage, productStage, CountOf, LegalSizes}
 use Rattle.packet.specs.declared.Counted.{Counted}
 use Rattle.packet.specs.declared.Refusal.{Refusal}
 use Rattle.packet.specs.declared.Tested.{Tested}
@@ -18,7 +18,6 @@ use Rattle.packet.proofs.Lowest.{lowest-none}
 use Rattle.packet.proofs.Stages.{firstOf-last, firstOf-refused, firstOf-next, firstOf-nested, firstOf-passed, refusedAt-passed, atPlace-none, refused≢passed}
 use Rattle.legality.specs.declared.PolicyAnswer.{PolicyAnswer}
 use Rattle.legality.specs.declared.PolicyAnswer.the-variants.{Legal as LegalPolicy, Refused as PolicyRefused}
-use Rattle.legality.specs.declared.PairAnswer.{PairAnswer}
 use Rattle.legality.specs.declared.PairAnswer.the-variants.{Legal as LegalPair, Refused as PairRefused}
 use Rattle.legality.specs.declared.PolicyTested.{PolicyTested}
 use Rattle.legality.specs.declared.PairTested.{PairTested}
@@ -27,7 +26,6 @@ use Rattle.policy.specs.AsLists.{asLists}
 use Rattle.policy.specs.Each.{Each}
 use Rattle.policy.specs.NodeLists.{NodeLists, nodeCount, dupsBelow}
 use Rattle.policy.specs.Legality.{badLengths, badKind, badEntries, badChild, notOnce, Legal}
-use Rattle.policy.specs.declared.order.Stages.{Stages}
 use Rattle.policy.specs.Order.{inOrder, Cause, causes, Sided, sided, cause, policiesStage, stagesOf, pairOf, policyTests, pairTests, oneOr, placeAmong, causePlace}
 use Rattle.node_causes.specs.Lengths.{SameLengths}
 use Rattle.tree_causes.specs.Counting.{CountableChildren, DupCountOf}
@@ -332,18 +330,14 @@ module _ (sizes : List ℕ) (L R : NodeLists) {q : PairTested} (f : FrontOf size
 
 -- ---- what a legal answer says
 
-answered : (t : Tested) (d e : ℕ) → policyAnswer t d ≡ LegalPolicy e → (t ≡ Passed) × (e ≡ d)
+answered : (t : Tested) (d e : ℕ) → policyAnswer t d ≡ LegalPolicy e → t ≡ Passed
 unfolding policyAnswer
-answered Passed d e q = (refl, sym (ap dupsOf q))
-  where
-    dupsOf : PolicyAnswer → ℕ
-    dupsOf (LegalPolicy m) = m
-    dupsOf (PolicyRefused r) = 0
+answered Passed d e q = refl
 answered (Refused r) d e q = let z : _≡_ {A = ℕ} 0 1 = cc in absurd (zero≢one z)
 
 pub legal-answer : (sizes : List ℕ) (L : NodeLists) (d : ℕ) → policyLegality sizes L ≡ LegalPolicy d
     → LegalSizes sizes × Legal sizes L × (productStage sizes ≡ Passed)
 unfolding policyLegality policyTests Each sided
 legal-answer sizes L d q =
-    let h = passing _ _ _ _ _ (answered _ _ d q .0) in
+    let h = passing _ _ _ _ _ (answered _ _ d q) in
     (sizes-legal _ _ _ _ _ h, policies-legal _ _ _ _ _ h .0, h .product)

@@ -155,10 +155,10 @@ pub fn front(
     ensures { λ r. ⌜ FrontOf (now (sizes .entry)) (asLists (now («left_kind» .entry)) (now («left_first» .entry)) (now («left_second» .entry))) (asLists (now («right_kind» .entry)) (now («right_first» .entry)) (now («right_second» .entry))) lists r ⌝ }
 {
     let fields = packet::fields_stage(sizes);
-    let counted = packet::packet_count(sizes);
+    let count = packet::packet_count(sizes);
     let left = policy_stage(sizes, 1, left_kind, left_first, left_second);
     let right = policy_stage(sizes, 2, right_kind, right_first, right_second);
-    let product = counted.tested;
+    let product = count.tested;
     let left_says = left.tested;
     let right_says = right.tested;
     let policies = earlier(left_says, right_says);
@@ -172,7 +172,7 @@ pub fn front(
     });
     PairTested {
         tested,
-        packets: counted.packets,
+        packets: count.packets,
         left_dups: left.dups,
         right_dups: right.dups,
     }

@@ -10,8 +10,7 @@ use native.Mathlib.Omega.{arith}
 use lib.Dec.{ltb, eqb}
 use lib.ListN.{length}
 use borrow.Author.Tests.{eqb-true, eqb-false, ltb-false, not-false, eq-eqb, ne-eqb, le-ltb}
-use Rattle.packet.specs.Lowest.{lowest}
-use Rattle.packet.specs.Refusals.{refusedAt, atZero, atPlace, firstOf}
+use Rattle.packet.specs.Refusals.{refusedAt, atPlace, firstOf}
 use Rattle.packet.specs.declared.Tested.{Tested}
 use Rattle.packet.specs.declared.Tested.the-variants.{Passed}
 use Rattle.packet.proofs.Lowest.{lowest-none, none-lowest}

@@ -13,7 +13,7 @@ pub struct Stages {
     pub packets: Tested,
 }
 
-// Inner: the first stage that refuses, in the order of causes; `order` of `specs/Order.antt`, line by line.
+// Inner: the first stage that refuses, in the order of causes: `order` of `specs/Order.antt`, from its last line up.
 pub fn in_order(stages: Stages) -> Tested
     ensures { λ r. ⌜ r ≡ inOrder stages ⌝ }
 {
