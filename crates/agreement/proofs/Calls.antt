@@ -9,8 +9,7 @@ use lib.Seq.{take-append-seam}
 use Rattle.packet.specs.declared.Tested.{Tested}
 use Rattle.packet.specs.declared.Tested.the-variants.{Passed, Refused as Stopped}
 use Rattle.packet.specs.Sizes.{product}
-use Rattle.packet.proofs.Stages.{firstOf-next, firstOf-passed, firstOf-last}
-use Rattle.policy.specs.Tests.{pairTests}
+use Rattle.policy.specs.Order.{pairTests}
 use Rattle.policy.specs.NodeLists.{NodeLists}
 use Rattle.system.specs.RowOrder.{held}
 use Rattle.pair.specs.Sides.{Side, left, right, policies}
@@ -19,7 +18,7 @@ use Rattle.pair.specs.Search.{SearchAnswer, columnsOf, heldColumns}
 use Rattle.pair.specs.TraceCheck.{only}
 use Rattle.pair.proofs.Lawful.{legal-pair}
 use Rattle.pair.proofs.Verdicts.{equal-same}
-use Rattle.lent.specs.Lent.{lentTests}
+use Rattle.lent.proofs.Testing.{lent-pair}
 use Rattle.packet.specs.Written.{written}
 use Rattle.verdict.specs.declared.Verdict.{Verdict}
 use Rattle.verdict.specs.declared.Verdict.the-variants.{Equal}
@@ -54,12 +53,8 @@ passed-telling (Stopped r) a right n α e = let z : _≡_ {A = ℕ} 0 1 = cc in 
 
 module _ (sizes : List ℕ) (L R : NodeLists) (x y : Lent) where
   pair-passed : searchTests sizes L R x ≡ Passed → pairTests sizes L R ≡ Passed
-  unfolding searchTests lentTests pairTests
-  pair-passed e =
-      let f = firstOf-passed _ _ e in
-      let p = firstOf-passed _ _ (f .1) in
-      let q = firstOf-passed _ _ (p .1) in
-      firstOf-next _ _ (f .0) ∙ firstOf-next _ _ (p .0) ∙ firstOf-last _ ∙ q .0
+  unfolding searchTests
+  pair-passed e = lent-pair sizes L R _ e
 
   left-as : searchTests sizes L R x ≡ Passed → {verdict : Verdict} → Searched sizes L R x verdict y → y ≡ filled (rowsHere sizes L R x) (answerHere sizes L R x) x
   unfolding searchLeaves lentAfter

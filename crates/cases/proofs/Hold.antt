@@ -8,9 +8,9 @@ use Rattle.packet.specs.Sizes.{product, badCount, zeroSize, productOver, fields
 use Rattle.packet.specs.Refusals.{refusal, refusedAt, atPlace, firstOf}
 use Rattle.packet.specs.Written.{written}
 use Rattle.policy.specs.NodeLists.{nodeCount, nodeOf, nodeAt, children, one, isDup, dupsBelow, grow, treeAt, policyOf}
-use Rattle.policy.specs.Legality.{badLengths, badKind, badField, used, wrongEntries, badEntries, someNotBelow, badChild, occurrences, timesChild, notOnce, maxDups, tooManyDups, cause, policiesStage}
-use Rattle.policy.specs.Tests.{sided, policyTests, pairTests}
-use Rattle.turning.specs.Turning.{lengthTests, valuesTests, valuesAnswer, keptUnless, valuesLeft, badValue, numberTests, numberAnswer}
+use Rattle.policy.specs.Legality.{badLengths, badKind, badField, used, wrongEntries, badEntries, someNotBelow, badChild, occurrences, timesChild, notOnce, maxDups, tooManyDups}
+use Rattle.policy.specs.Order.{order, inOrder, causes, sided, cause, policiesStage, stagesOf, policyTests, pairTests}
+use Rattle.turning.specs.Turning.{lengthTest, numberStage, valuesTests, valuesAnswer, keptUnless, valuesLeft, badValue, valuesStage, numberTests, numberAnswer}
 use Rattle.legality.specs.Answers.{policyAnswer, pairAnswer, policyLegality, pairLegality}
 use Rattle.policy.specs.Visits.{labels}
 use Rattle.policy.specs.NodesOfTree.{entry, actionEntry, treeSize, entriesFrom, listsOf, nodesOf}
@@ -40,5 +40,5 @@ use Rattle.texts.specs.Call.{textNodes, textStage, textsTests, textsVerdict, te
 use Rattle.cases.specs.Cases.{Case, outcome, bytes, dups, nested, nines, words, lending, front, holding, compares, cases}
 
 pub all-as-stated : map (λ (c : Case). outcome (c .call)) cases ≡ map (λ (c : Case). c .stated) cases
-unfolding xor lowest orAt valueAt changed valuesOf numberOf product nodeCount nodeOf nodeAt one isDup dupsBelow grow treeAt policyOf entry actionEntry treeSize entriesFrom listsOf nodesOf bit maskOf anyBelow setOf union takes image rounds single unionOver labels rightSpine orElse followedBy remainder flow enter ofMarked outputSet enteredSet next outputMask nextMask runs hasTrace starts sameRow listed append appendNext lowestTelling turn handle runFrom run climbing climb path entering verdict answer held at onBoth outputAt nextAt sameStates bothZero inOneOutput bitsOfDups lastOf sideOf reported searchAnswer columnsOf heldColumns andThen brokenAt present breaksA breaksB breaksD checkRow checkRows checkRules evidenceAnswer answerOf sideHas traceAnswer misfit rowsMisfit listsStage lentTests workAfter verdictOf traceAfter filled verdictAfter lentAfter searchTests searchVerdict searchLeaves checking.reported evidenceOf evidenceTests evidenceCall badPacket packetsStage checkedAs checkedUnless following.lentTests traceTests traceCall policyTests pairTests policyAnswer pairAnswer policyLegality pairLegality lengthTests valuesTests valuesAnswer keptUnless valuesLeft badValue numberTests numberAnswer sided isBlank isLetter isDigit inWord fieldNames sameWord allDigits decimal leadingZero isNumber numberToken fieldToken fieldNamed wordToken singleMark doubleMark beginsDouble markToken wordOf frontToken isBad restOfToken placedFrom tokensFrom tokens constantPolicy fieldAction nothing joinSequence joinSum upTo whole start close step finish readOn badPlace openAfter deepPlace stopPlace treeRead tooMany answered reading textTree tested answerTo leftBy shortest textNodes textStage textsTests textsVerdict textsLeaves badCount zeroSize productOver fieldsStage productStage refusal refusedAt atPlace firstOf written children badLengths badKind badField used wrongEntries badEntries someNotBelow badChild occurrences timesChild notOnce maxDups tooManyDups cause policiesStage onlyBits outcome bytes dups nested nines words lending front holding compares cases
+unfolding xor lowest orAt valueAt changed valuesOf numberOf product nodeCount nodeOf nodeAt one isDup dupsBelow grow treeAt policyOf entry actionEntry treeSize entriesFrom listsOf nodesOf bit maskOf anyBelow setOf union takes image rounds single unionOver labels rightSpine orElse followedBy remainder flow enter ofMarked outputSet enteredSet next outputMask nextMask runs hasTrace starts sameRow listed append appendNext lowestTelling turn handle runFrom run climbing climb path entering verdict answer held at onBoth outputAt nextAt sameStates bothZero inOneOutput bitsOfDups lastOf sideOf reported searchAnswer columnsOf heldColumns andThen brokenAt present breaksA breaksB breaksD checkRow checkRows checkRules evidenceAnswer answerOf sideHas traceAnswer misfit rowsMisfit listsStage lentTests workAfter verdictOf traceAfter filled verdictAfter lentAfter searchTests searchVerdict searchLeaves checking.reported evidenceOf evidenceTests evidenceCall badPacket packetsStage checkedAs checkedUnless following.lentTests traceTests traceCall policyTests pairTests policyAnswer pairAnswer policyLegality pairLegality lengthTest numberStage valuesStage valuesTests valuesAnswer keptUnless valuesLeft badValue numberTests numberAnswer sided isBlank isLetter isDigit inWord fieldNames sameWord allDigits decimal leadingZero isNumber numberToken fieldToken fieldNamed wordToken singleMark doubleMark beginsDouble markToken wordOf frontToken isBad restOfToken placedFrom tokensFrom tokens constantPolicy fieldAction nothing joinSequence joinSum upTo whole start close step finish readOn badPlace openAfter deepPlace stopPlace treeRead tooMany answered reading textTree tested answerTo leftBy shortest textNodes textStage textsTests textsVerdict textsLeaves badCount zeroSize productOver fieldsStage productStage refusal refusedAt atPlace firstOf written children badLengths badKind badField used wrongEntries badEntries someNotBelow badChild occurrences timesChild notOnce maxDups tooManyDups cause policiesStage onlyBits outcome bytes dups nested nines words lending front holding compares cases order inOrder causes stagesOf
 all-as-stated = refl

@@ -1,6 +1,6 @@
 -- What a search on two texts leaves is what the program prints. Assumes nothing.
 use Prim.Native.Nat.{ℕ, _≤_}
-use mathlib.Core.List.{List, [], _∷_, _++_}
+use mathlib.Core.List.{List, _++_}
 use mathlib.Core.Path.{_≡_, refl, sym, ap, ap₂, _∙_, subst}
 use native.Mathlib.Omega.{arith}
 use lib.ListN.{length, getD, take, drop, length-append, length-drop, length-map, length-take, length-replicate}
@@ -8,11 +8,10 @@ use Rattle.packet.specs.declared.Refusal.{Refusal}
 use Rattle.packet.specs.declared.Tested.{Tested}
 use Rattle.packet.specs.declared.Tested.the-variants.{Passed, Refused as Stopped}
 use Rattle.packet.specs.Refusals.{refusal}
-use Rattle.packet.proofs.Stages.{firstOf-passed}
-use Rattle.policy.specs.Tests.{sided}
+use Rattle.policy.specs.Order.{sided}
 use Rattle.policy.specs.Each.{Each}
 use Rattle.policy.specs.Legality.{Legal}
-use Rattle.policy.proofs.LegalityLaws.{stage-passes}
+use Rattle.policy.proofs.OrderLaws.{passing, policies-legal}
 use Rattle.system.specs.RowOrder.{held}
 use Rattle.pair.specs.Sides.{Side, left, right, Pair, Labelled, policies}
 use Rattle.pair.specs.Pair.{pairSystem}
@@ -40,14 +39,7 @@ take-few n l = omega (arith, length-take n l)
 module _ (sizes left-text right-text : List ℕ) (x : Lent) where
   legal : textsTests sizes left-text right-text x ≡ Passed → Legal sizes (textNodes left-text) × Legal sizes (textNodes right-text)
   unfolding textsTests Each sided
-  legal e =
-      let a = firstOf-passed _ _ e in
-      let b = firstOf-passed _ _ (a .1) in
-      let c = firstOf-passed _ _ (b .1) in
-      let d = firstOf-passed _ _ (c .1) in
-      let f = firstOf-passed _ _ (d .1) in
-      let g = stage-passes sizes (sided 1 (textNodes left-text) ∷ sided 2 (textNodes right-text) ∷ []) .0 (f .0) in
-      (g .0, g .1 .0)
+  legal e = let g = policies-legal _ _ _ _ _ (passing _ _ _ _ _ e) in (g .0, g .1 .0)
 
   -- an equal answer counts the rows held
   rows-held : textsTests sizes left-text right-text x ≡ Passed → (n : ℕ) → textsAnswer sizes left-text right-text x ≡ equal n

@@ -2,7 +2,6 @@
 // its length, then a state and a packet. It writes the packets of the output, and each packet with the state next there.
 use legality::PolicyAnswer;
 use marks::Next;
-use packet::Counted;
 use packet_set::Lowest;
 use packet_set::PacketSet;
 use spans::Span;
@@ -46,9 +45,8 @@ fn step(sizes: &[u16], kind: &[u8], first: &[u16], second: &[u16], state: u32, p
         io::write_all(1, b"refused\n");
         return;
     };
-    let Counted::Packets(count) = packet::packet_count(sizes) else {
-        return;
-    };
+    let counted = packet::packet_count(sizes);
+    let count = counted.packets;
     if count <= packet {
         io::write_all(1, b"no packet\n");
         return;

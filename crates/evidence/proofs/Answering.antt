@@ -10,25 +10,16 @@ use mathlib.Core.Path.{_≡_, refl, sym, _∙_, ap, ap₂, subst}
 use lib.ListN.{length, take, length-take, length-map}
 use borrow.Author.Tests.{eqb-true, eq-eqb, ltb-false, le-ltb, not-false}
 use Rattle.packet.specs.Refusals.{refusedAt, atPlace}
-use Rattle.packet.specs.Sizes.{fieldsStage, packetCount}
-use Rattle.packet.specs.declared.Counted.the-variants.{Packets, Refused as NotCounted}
 use Rattle.packet.specs.declared.Refusal.{Refusal}
 use Rattle.packet.specs.declared.Tested.{Tested}
 use Rattle.packet.specs.declared.Tested.the-variants.{Passed, Refused}
-use Rattle.packet.proofs.Legal.{passed-legal}
-use Rattle.packet.proofs.Sizes.{count-packets, count-refused}
 use Rattle.packet.proofs.Tests.{or-false}
-use Rattle.packet.proofs.Stages.{firstOf-last, firstOf-refused, firstOf-next, firstOf-passed, refusedAt-passed, atPlace-none}
-use Rattle.legality.specs.declared.PairAnswer.{PairAnswer}
-use Rattle.legality.specs.declared.PairAnswer.the-variants.{Legal as LegalPair, Refused as PairRefused}
-use Rattle.policy.specs.Each.{Each}
-use Rattle.policy.specs.NodeLists.{NodeLists, nodeCount, dupsBelow, policyOf}
-use Rattle.policy.specs.Legality.{policiesStage}
-use Rattle.policy.specs.Tests.{sided, pairTests}
-use Rattle.legality.specs.Answers.{pairAnswer, pairStage}
+use Rattle.packet.proofs.Stages.{refusedAt-passed, atPlace-none}
+use Rattle.policy.specs.NodeLists.{NodeLists, policyOf}
+use Rattle.policy.specs.Order.{pairTests}
 use Rattle.policy.specs.Meaning.{SameTracesBelow}
-use Rattle.legality.proofs.AnswerLaws.{legal-pair-stage}
-use Rattle.policy.proofs.LegalityLaws.{stage-passes}
+use Rattle.legality.specs.declared.PairTested.{PairTested}
+use Rattle.legality.specs.Answers.{FrontOf}
 use Rattle.system.specs.System.{System}
 use Rattle.system.specs.RowOrder.{Entry, finished, turn, run, full, equal as allHandled, held}
 use Rattle.system.proofs.Answers.{full-iff, answer-finished, held-stopped}
@@ -40,7 +31,8 @@ use Rattle.pair.specs.Rules.{Checked, accepted, ruleA, ruleB, ruleC, ruleD, Jud
 use Rattle.pair.specs.Evidence.{tableOf, evidenceAnswer, RowRules}
 use Rattle.pair.proofs.Lawful.{EvaluablePair, legal-pair}
 use Rattle.pair.proofs.Evidence.{evidence-judged, accepted-same, evidence-iff, search-accepted, row-order-accepted}
-use Rattle.lent.specs.Lent.{misfit, rowsMisfit, listsStage, lentTests, workAfter}
+use Rattle.lent.specs.Lent.{misfit, rowsMisfit, listsStage, workAfter}
+use Rattle.lent.proofs.Testing.{front-tests, tests-passed, pair-lent, lent-pair}
 use Rattle.evidence.specs.declared.Evidence.{Evidence}
 use Rattle.evidence.specs.declared.Evidence.the-variants.{Accepted, RuleA, RuleB, RuleC, RuleD, Refused as NotChecked}
 use Rattle.evidence.specs.Calls.{reported, evidenceOf, evidenceTests, evidenceCall, HoldRowOrder, CheckedRows}
@@ -92,48 +84,19 @@ lists-passed a b c work e =
     let z = or-false _ _ (y .1) in
     (eqb-true b a (not-false _ (y .0)), eqb-true c a (not-false _ (z .0)), ltb-false 65535 a (z .1), ltb-false work 16384 (x .1))
 
--- ---- causes 4 to 9
-
-pair-legal : (t : Tested) (d e m n : ℕ) → pairAnswer t d e ≡ LegalPair m n → t ≡ Passed
-unfolding pairAnswer
-pair-legal Passed d e m n q = refl
-pair-legal (Refused r) d e m n q = absurd (true≢false (cc))
-
-refusalIn : PairAnswer → Refusal → Refusal
-refusalIn (LegalPair m n) r = r
-refusalIn (PairRefused q) r = q
-
-pair-refused : (t : Tested) (d e : ℕ) (r : Refusal) → pairAnswer t d e ≡ PairRefused r → t ≡ Refused r
-unfolding pairAnswer refusalIn
-pair-refused Passed d e r q = absurd (true≢false (cc))
-pair-refused (Refused p) d e r q = ap (λ (a : PairAnswer). Refused (refusalIn a r)) q
-
 module _ (sizes : List ℕ) (L R : NodeLists) where
-  -- the policies are legal
-  both-legal : policiesStage sizes (sided 1 L ∷ sided 2 R ∷ []) ≡ Passed → EvaluablePair sizes (policies L R)
-  unfolding Each sided
-  both-legal e = let g = stage-passes sizes (sided 1 L ∷ sided 2 R ∷ []) .0 e in legal-pair sizes L R (g .0) (g .1 .0)
-
-  pub pair-dups : (dl dr : ℕ) → pairStage sizes L R ≡ LegalPair dl dr → (dl ≡ dupsBelow L (nodeCount L)) × (dr ≡ dupsBelow R (nodeCount R))
-  pair-dups dl dr e = let g = legal-pair-stage sizes L R dl dr e in (g .2, g .3)
-
   pair-evaluable : pairTests sizes L R ≡ Passed → EvaluablePair sizes (policies L R)
-  unfolding pairTests
-  pair-evaluable e = both-legal (firstOf-passed _ _ (firstOf-passed _ _ (firstOf-passed _ _ e .1) .1) .0)
+  pair-evaluable e = let h = tests-passed sizes L R Passed (pair-lent sizes L R Passed e refl) in legal-pair sizes L R (h .left-legal) (h .right-legal)
 
   module _ (packets lefts rights : List ℕ) where
     -- two policies and their sizes that no cause refuses, and lists that fit
     tests-pass : (words : ℕ) → pairTests sizes L R ≡ Passed → listsStage (length packets ∷ length lefts ∷ length rights ∷ []) words ≡ Passed → evidenceTests sizes L R packets lefts rights words ≡ Passed
-    unfolding pairTests evidenceTests lentTests
-    tests-pass words e l =
-        let f = firstOf-passed _ _ e in
-        let p = firstOf-passed _ _ (f .1) in
-        let q = firstOf-passed _ _ (p .1) in
-        firstOf-next _ _ (f .0) ∙ firstOf-next _ _ (p .0) ∙ firstOf-next _ _ (q .0) ∙ firstOf-last _ ∙ l
+    unfolding evidenceTests
+    tests-pass words e l = pair-lent sizes L R _ e l
 
     evaluable : (words : ℕ) → evidenceTests sizes L R packets lefts rights words ≡ Passed → EvaluablePair sizes (policies L R)
-    unfolding evidenceTests lentTests
-    evaluable words e = both-legal (firstOf-passed _ _ (firstOf-passed _ _ (firstOf-passed _ _ e .1) .1) .0)
+    unfolding evidenceTests
+    evaluable words e = pair-evaluable (lent-pair sizes L R _ e)
 
     -- accepted exactly when no cause refuses and the four row rules hold
     pub call-accepted : (words : ℕ) → (evidenceCall sizes L R packets lefts rights words ≡ Accepted)
@@ -243,45 +206,29 @@ module _ (sizes : List ℕ) (L R : NodeLists) where
         is : answer ≡ evidenceCall sizes L R packets lefts rights (length work)
         is = f ∙ ap (λ (u : Tested). evidenceOf u (evidenceAnswer sizes (policies L R) packets lefts rights)) (sym e)
 
-    refused : (r : Refusal) → evidenceTests sizes L R packets lefts rights (length work) ≡ Refused r → CheckedRows sizes L R packets lefts rights work (NotChecked r) work
-    unfolding evidenceOf workAfter
-    refused r e = checked-rows (Refused r) e (NotChecked r) refl work refl
+    -- the tests as they were made
+    module _ {said : Tested} (lists : said ≡ listsStage (length packets ∷ length lefts ∷ length rights ∷ []) (length work)) {q : PairTested} (front : FrontOf sizes L R said q) where
+      tests-are : q .tested ≡ evidenceTests sizes L R packets lefts rights (length work)
+      unfolding evidenceTests
+      tests-are = front-tests sizes L R _ lists front
 
-    pub fields-refused : (r : Refusal) → fieldsStage sizes ≡ Refused r → CheckedRows sizes L R packets lefts rights work (NotChecked r) work
-    unfolding evidenceTests lentTests
-    fields-refused r e = refused r (firstOf-refused _ _ r e)
+      pub refused : (r : Refusal) → q .tested ≡ Refused r → CheckedRows sizes L R packets lefts rights work (NotChecked r) work
+      unfolding evidenceOf workAfter
+      refused r e = checked-rows (Refused r) (sym tests-are ∙ e) (NotChecked r) refl work refl
 
-    module _ (fields : fieldsStage sizes ≡ Passed) where
-      pub product-refused : (r : Refusal) → packetCount sizes ≡ NotCounted r → CheckedRows sizes L R packets lefts rights work (NotChecked r) work
-      unfolding evidenceTests lentTests
-      product-refused r e = refused r (firstOf-next _ _ fields ∙ firstOf-refused _ _ r (count-refused sizes r e))
+      module _ (passed : q .tested ≡ Passed) where
+        pub lent : Lent sizes L R packets lefts rights (q .packets) work
+        unfolding evidenceTests
+        lent =
+            let h = tests-passed sizes L R _ (sym tests-are ∙ passed) in
+            let n = lists-passed _ _ _ _ (h .passed) in
+            record {
+              allowed = record { legal = h .legal-sizes; left-legal = h .left-legal; right-legal = h .right-legal; packet-count = front .packets passed };
+              table = record { left = n .0; right = n .1 };
+              numbered = n .2;
+              long = n .3;
+            }
 
-      module _ (count : ℕ) (counted : packetCount sizes ≡ Packets count) where
-        pub policies-refused : (r : Refusal) → pairStage sizes L R ≡ PairRefused r → CheckedRows sizes L R packets lefts rights work (NotChecked r) work
-        unfolding evidenceTests lentTests pairStage
-        policies-refused r e = refused r (firstOf-next _ _ fields ∙ firstOf-next _ _ (count-packets sizes count counted .0) ∙ firstOf-refused _ _ r (pair-refused _ _ _ r e))
-
-        module _ (dl dr : ℕ) (legal : pairStage sizes L R ≡ LegalPair dl dr) where
-          lists-tests : evidenceTests sizes L R packets lefts rights (length work) ≡ listsStage (length packets ∷ length lefts ∷ length rights ∷ []) (length work)
-          unfolding evidenceTests lentTests pairStage
-          lists-tests = firstOf-next _ _ fields ∙ firstOf-next _ _ (count-packets sizes count counted .0) ∙ firstOf-next _ _ (pair-legal _ _ _ dl dr legal) ∙ firstOf-last _
-
-          pub lists-refused : (r : Refusal) → listsStage (length packets ∷ length lefts ∷ length rights ∷ []) (length work) ≡ Refused r → CheckedRows sizes L R packets lefts rights work (NotChecked r) work
-          lists-refused r e = refused r (lists-tests ∙ e)
-
-          module _ (lists : listsStage (length packets ∷ length lefts ∷ length rights ∷ []) (length work) ≡ Passed) where
-            pub lent : Lent sizes L R packets lefts rights count work
-            lent =
-                let c = count-packets sizes count counted in
-                let g = legal-pair-stage sizes L R dl dr legal in
-                let n = lists-passed _ _ _ _ lists in
-                record {
-                  allowed = record { legal = passed-legal sizes fields (c .0); left-legal = g .0; right-legal = g .1; packet-count = c .1 };
-                  table = record { left = n .0; right = n .1 };
-                  numbered = n .2;
-                  long = n .3;
-                }
-
-            pub table-answered : (answer : Evidence) (work′ : List ℕ) → TableChecked sizes L R packets lefts rights work answer work′ → CheckedRows sizes L R packets lefts rights work answer work′
-            unfolding evidenceOf workAfter
-            table-answered answer work′ t = checked-rows Passed (lists-tests ∙ lists) answer (t .answers) work′ (t .cleared)
+        pub table-answered : (answer : Evidence) (work′ : List ℕ) → TableChecked sizes L R packets lefts rights work answer work′ → CheckedRows sizes L R packets lefts rights work answer work′
+        unfolding evidenceOf workAfter
+        table-answered answer work′ t = checked-rows Passed (sym tests-are ∙ passed) answer (t .answers) work′ (t .cleared)

@@ -7,7 +7,7 @@ use lib.ListN.{length}
 use Rattle.packet.specs.declared.Tested.{Tested}
 use Rattle.packet.specs.declared.Tested.the-variants.{Passed, Refused}
 use Rattle.policy.specs.NodeLists.{NodeLists, policyOf}
-use Rattle.policy.specs.Tests.{pairTests}
+use Rattle.policy.specs.Order.{pairTests}
 use Rattle.policy.specs.Meaning.{SameTracesBelow}
 use Rattle.system.specs.RowOrder.{NeedsMore}
 use Rattle.pair.specs.Sides.{policies}

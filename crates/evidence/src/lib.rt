@@ -10,11 +10,9 @@ ghost use Rattle.evidence.specs.Steps.{Lent, Cleared, Vacant, Ready, Row
 use compare::Compared;
 use index::Mask;
 use index::POLICIES;
-use legality::PairAnswer;
 use loaded::Nodes;
 use loaded::Tests;
 use marks::Next;
-use packet::Counted;
 use packet::Refusal;
 use packet::Tested;
 use row_rules::Spot;
@@ -285,47 +283,36 @@ pub fn check(
 ) -> Evidence
     ensures { λ r. ⌜ CheckedRows (now (sizes .entry)) (asLists (now («left_kind» .entry)) (now («left_first» .entry)) (now («left_second» .entry))) (asLists (now («right_kind» .entry)) (now («right_first» .entry)) (now («right_second» .entry))) (now (packets .entry)) (now (lefts .entry)) (now (rights .entry)) (now (work .entry)) r (now (work .exit)) ⌝ }
 {
-    match packet::fields_stage(sizes) {
+    let lists = lent::evidence_lists(packets.len(), lefts.len(), rights.len(), work.len());
+    let found = legality::front(
+        sizes,
+        left_kind,
+        left_first,
+        left_second,
+        right_kind,
+        right_first,
+        right_second,
+        lists,
+    );
+    let tested = found.tested;
+    let count = found.packets;
+    match tested {
         Tested::Refused(r) => Evidence::Refused(r),
-        Tested::Passed => match packet::packet_count(sizes) {
-            Counted::Refused(r) => Evidence::Refused(r),
-            Counted::Packets(count) => match legality::pair_stage(
-                sizes,
-                left_kind,
-                left_first,
-                left_second,
-                right_kind,
-                right_first,
-                right_second,
-            ) {
-                PairAnswer::Refused(r) => Evidence::Refused(r),
-                PairAnswer::Legal(left_dups, right_dups) => {
-                    match lent::evidence_lists(
-                        packets.len(),
-                        lefts.len(),
-                        rights.len(),
-                        work.len(),
-                    ) {
-                        Tested::Refused(r) => Evidence::Refused(r),
-                        Tested::Passed => table_checked(
-                            sizes,
-                            left_kind,
-                            left_first,
-                            left_second,
-                            right_kind,
-                            right_first,
-                            right_second,
-                            packets,
-                            lefts,
-                            rights,
-                            count,
-                            left_dups,
-                            right_dups,
-                            work,
-                        ),
-                    }
-                }
-            },
-        },
+        Tested::Passed => table_checked(
+            sizes,
+            left_kind,
+            left_first,
+            left_second,
+            right_kind,
+            right_first,
+            right_second,
+            packets,
+            lefts,
+            rights,
+            count,
+            found.left_dups,
+            found.right_dups,
+            work,
+        ),
     }
 }

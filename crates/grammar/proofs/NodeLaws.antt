@@ -14,8 +14,8 @@ use Rattle.policy.specs.Tree.{Policy, sum, seq, star}
 use Rattle.policy.specs.Meaning.{Packets, Traces}
 use Rattle.policy.specs.NodeLists.{NodeLists, nodeCount, policyOf}
 use Rattle.policy.specs.NodesOfTree.{treeSize, nodesOf, unlabelled}
-use Rattle.policy.specs.Legality.{badLengths, badKind, badEntries, badChild, notOnce, tooManyDups, cause, policiesStage}
-use Rattle.policy.specs.Tests.{sided}
+use Rattle.policy.specs.Legality.{badLengths, badKind, badEntries, badChild, notOnce, tooManyDups}
+use Rattle.policy.specs.Order.{sided, cause, causes, policiesStage}
 use Rattle.policy.proofs.Congruence.{traces-unlabelled}
 use Rattle.policy.proofs.Nodes.{nodes-count, nodes-read-back, nodes-lengths, nodes-kinds, nodes-below, nodes-once}
 use Rattle.grammar.specs.declared.Answer.the-variants.{Nodes}
@@ -99,7 +99,7 @@ module _ (names : List (List ℕ)) (text : List ℕ) (room n : ℕ) (e : answerT
       (cause 6 (λ L. lowest (badEntries sizes L) (nodeCount L)) (sided side (nodesOf (textTree names text)) ∷ [])
       ∷ cause 9 (λ L. lowest (tooManyDups L) (nodeCount L)) (sided side (nodesOf (textTree names text)) ∷ [])
       ∷ [])
-  unfolding policiesStage sided atPlace
+  unfolding policiesStage causes sided atPlace
   six-or-nine sizes side =
       let L = nodesOf (textTree names text) in
       four-pass _ _ _ _ _ _

@@ -1,35 +1,37 @@
 -- How the answers on one and on two policies come from the causes, and what a legal answer says.
 use Prim.Native.Nat.{ℕ, pred, _<_, _≤_}
 use mathlib.Core.Bool.{Bool}
-use mathlib.Core.List.{List, [], _∷_, _++_}
+use mathlib.Core.List.{List, [], _∷_, _++_, map}
 use mathlib.Core.Option.{Option, none, some}
 use mathlib.Core.Path.{_≡_, refl, sym, ap, ap₂, _∙_}
 use native.Mathlib.Omega.{arith}
 use lib.ListN.{length}
-use borrow.Author.Tests.{lt-ltb, le-ltb}
+use borrow.Author.Tests.{ne-eqb, lt-ltb, le-ltb}
 use Rattle.packet.specs.Lowest.{lowest, optionOf}
 use Rattle.packet.specs.Refusals.{refusal, refusedAt, atZero, firstOf}
-use Rattle.packet.specs.Sizes.{fieldsStage, productStage, LegalSizes}
+use Rattle.packet.specs.Sizes.{fieldsStage, productStage, CountOf, LegalSizes}
+use Rattle.packet.specs.declared.Counted.{Counted}
 use Rattle.packet.specs.declared.Refusal.{Refusal}
 use Rattle.packet.specs.declared.Tested.{Tested}
 use Rattle.packet.specs.declared.Tested.the-variants.{Passed, Refused}
-use Rattle.packet.proofs.Legal.{passed-legal}
 use Rattle.packet.proofs.Lowest.{lowest-none}
-use Rattle.packet.proofs.Stages.{firstOf-last, firstOf-refused, firstOf-next, firstOf-passed, refusedAt-passed, atPlace-none}
+use Rattle.packet.proofs.Stages.{firstOf-last, firstOf-refused, firstOf-next, firstOf-nested, firstOf-passed, refusedAt-passed, atPlace-none, refused≢passed}
 use Rattle.legality.specs.declared.PolicyAnswer.{PolicyAnswer}
 use Rattle.legality.specs.declared.PolicyAnswer.the-variants.{Legal as LegalPolicy, Refused as PolicyRefused}
-use Rattle.legality.specs.declared.PairAnswer.{PairAnswer}
 use Rattle.legality.specs.declared.PairAnswer.the-variants.{Legal as LegalPair, Refused as PairRefused}
+use Rattle.legality.specs.declared.PolicyTested.{PolicyTested}
+use Rattle.legality.specs.declared.PairTested.{PairTested}
 use Rattle.tree_causes.specs.declared.DupCount.{DupCount}
 use Rattle.policy.specs.AsLists.{asLists}
 use Rattle.policy.specs.Each.{Each}
 use Rattle.policy.specs.NodeLists.{NodeLists, nodeCount, dupsBelow}
-use Rattle.policy.specs.Legality.{badLengths, badKind, badEntries, badChild, notOnce, Sided, cause, policiesStage, Legal}
+use Rattle.policy.specs.Legality.{badLengths, badKind, badEntries, badChild, notOnce, Legal}
+use Rattle.policy.specs.Order.{inOrder, Cause, causes, Sided, sided, cause, policiesStage, stagesOf, pairOf, policyTests, pairTests, oneOr, placeAmong, causePlace}
 use Rattle.node_causes.specs.Lengths.{SameLengths}
 use Rattle.tree_causes.specs.Counting.{CountableChildren, DupCountOf}
-use Rattle.policy.specs.Tests.{sided, policyTests, pairTests}
-use Rattle.legality.specs.Answers.{policyAnswer, pairAnswer, policyStage, pairStage, policyLegality, pairLegality, nodesStage, treeStage, earlierIf, earlier, both}
-use Rattle.policy.proofs.LegalityLaws.{Cause, causes, Lengths, lengths, stage-passes}
+use Rattle.legality.specs.Answers.{policyAnswer, pairAnswer, policyLegality, pairLegality, nodesStage, treeStage, TestedAs, PolicyTestedAs, earlierIf, earlier, earlierOf, FrontOf}
+use Rattle.policy.proofs.LegalityLaws.{Lengths, lengths}
+use Rattle.policy.proofs.OrderLaws.{passing, sizes-legal, policies-legal}
 
 -- ---- orders of tests within orders
 
@@ -38,11 +40,6 @@ unfolding firstOf
 firstOf-append [] us = refl
 firstOf-append (Passed ∷ ts) us = firstOf-append ts us
 firstOf-append (Refused r ∷ ts) us = refl
-
-pub firstOf-nested : (t : Tested) (ts : List Tested) → firstOf (t ∷ firstOf ts ∷ []) ≡ firstOf (t ∷ ts)
-unfolding firstOf
-firstOf-nested Passed ts = firstOf-last (firstOf ts)
-firstOf-nested (Refused r) ts = refl
 
 -- the first of two tests
 andThen : Tested → Tested → Tested
@@ -61,13 +58,11 @@ firstOf-two t u = firstOf-more t (u ∷ []) ∙ ap (andThen t) (firstOf-last u)
 
 -- the causes of one policy
 alone : ℕ → NodeLists → List Cause → List Tested
-alone side L [] = []
-alone side L (c ∷ cs) = refusedAt (c .0) side (c .1 L) ∷ alone side L cs
+alone side L cs = map (λ (c : Cause). refusedAt (c .0) side (c .1 L)) cs
 
 -- the causes of all policies
 together : List Sided → List Cause → List Tested
-together ps [] = []
-together ps (c ∷ cs) = cause (c .0) (c .1) ps ∷ together ps cs
+together ps cs = map (λ (c : Cause). cause (c .0) (c .1) ps) cs
 
 one-policy : (side : ℕ) (L : NodeLists) (cs : List Cause) → firstOf (together (sided side L ∷ []) cs) ≡ firstOf (alone side L cs)
 unfolding together alone cause sided
@@ -76,10 +71,10 @@ one-policy side L (c ∷ cs) =
     let t = refusedAt (c .0) side (c .1 L) in
     firstOf-more _ _ ∙ ap₂ andThen (firstOf-last t) (one-policy side L cs) ∙ sym (firstOf-more t _)
 
--- causes in rising order, all above n
+-- causes in the order of their places, all after place n
 Rising : ℕ → List Cause → Type 0
 Rising n [] = Unit
-Rising n (c ∷ cs) = (n < c .0) × Rising (c .0) cs
+Rising n (c ∷ cs) = (n < causePlace (c .0)) × Rising (causePlace (c .0)) cs
 
 numberOf : Tested → ℕ
 numberOf Passed = 0
@@ -88,42 +83,38 @@ numberOf (Refused r) = r .number
 zero≢one : _≡_ {A = ℕ} 0 1 → ⊥
 zero≢one z = omega arith
 
-passed≢refused : {r : Refusal} → Passed ≡ Refused r → ⊥
-passed≢refused {r} q = let z : _≡_ {A = ℕ} 0 1 = cc in zero≢one z
-
 -- a refusal comes from one of the causes
-later : (n : ℕ) (cs : List Cause) (side : ℕ) (L : NodeLists) → Rising n cs → (r : Refusal) → firstOf (alone side L cs) ≡ Refused r → n < r .number
+later : (n : ℕ) (cs : List Cause) (side : ℕ) (L : NodeLists) → Rising n cs → (r : Refusal) → firstOf (alone side L cs) ≡ Refused r → n < causePlace (r .number)
 unfolding alone Rising firstOf refusedAt refusal numberOf
-later n [] side L h r e = absurd (passed≢refused e)
-later n (c ∷ cs) side L h r e = go (c .1 L) e (later (c .0) cs side L (h .1) r)
+later n [] side L h r e = absurd (refused≢passed (sym e))
+later n (c ∷ cs) side L h r e = go (c .1 L) e (later (causePlace (c .0)) cs side L (h .1) r)
   where
-    go : (o : Option ℕ) → firstOf (refusedAt (c .0) side o ∷ alone side L cs) ≡ Refused r → (firstOf (alone side L cs) ≡ Refused r → c .0 < r .number) → n < r .number
+    go : (o : Option ℕ) → firstOf (refusedAt (c .0) side o ∷ alone side L cs) ≡ Refused r → (firstOf (alone side L cs) ≡ Refused r → causePlace (c .0) < causePlace (r .number))
+        → n < causePlace (r .number)
     go none f rec = omega (arith, rec f, h .0)
-    go (some i) f rec = let same : c .0 ≡ r .number = ap numberOf f in omega (arith, same, h .0)
-
--- of two refusals the one of the earlier cause
-earlierOf : Tested → Tested → Tested
-earlierOf Passed u = u
-earlierOf (Refused p) Passed = Refused p
-earlierOf (Refused p) (Refused q) = Refused (earlier p q)
+    go (some i) f rec = let same : causePlace (c .0) ≡ causePlace (r .number) = ap (λ (t : Tested). causePlace (numberOf t)) f in omega (arith, same, h .0)
 
 module _ (n a b : ℕ) where
-  left-first : (i : ℕ) (v : Tested) → ((r : Refusal) → v ≡ Refused r → n < r .number) → Refused (refusal n a i) ≡ earlierOf (Refused (refusal n a i)) v
-  unfolding earlierOf earlier earlierIf refusal
-  left-first i Passed h = refl
-  left-first i (Refused q) h = rw (le-ltb (q .number) n (omega (arith, h q refl)))
+  -- it refuses after the cause n or not at all
+  After : Tested → Type 0
+  After t = (r : Refusal) → t ≡ Refused r → causePlace n < causePlace (r .number)
 
-  right-first : (j : ℕ) (u : Tested) → ((r : Refusal) → u ≡ Refused r → n < r .number) → Refused (refusal n b j) ≡ earlierOf u (Refused (refusal n b j))
-  unfolding earlierOf earlier earlierIf refusal
+  left-first : (i : ℕ) (v : Tested) → After v → Refused (refusal n a i) ≡ earlierOf (Refused (refusal n a i)) v
+  unfolding earlierOf earlier earlierIf refusal After
+  left-first i Passed h = refl
+  left-first i (Refused q) h = rw (le-ltb (causePlace (q .number)) (causePlace n) (omega (arith, h q refl)))
+
+  right-first : (j : ℕ) (u : Tested) → After u → Refused (refusal n b j) ≡ earlierOf u (Refused (refusal n b j))
+  unfolding earlierOf earlier earlierIf refusal After
   right-first j Passed h = refl
-  right-first j (Refused p) h = rw (lt-ltb n (p .number) (h p refl))
+  right-first j (Refused p) h = rw (lt-ltb (causePlace n) (causePlace (p .number)) (h p refl))
 
   same-cause : (i j : ℕ) → Refused (refusal n a i) ≡ earlierOf (Refused (refusal n a i)) (Refused (refusal n b j))
   unfolding earlierOf earlier earlierIf refusal
-  same-cause i j = rw (le-ltb n n (omega arith))
+  same-cause i j = rw (le-ltb (causePlace n) (causePlace n) (omega arith))
 
   -- one cause before others
-  step : (x y : Option ℕ) (u v : Tested) → ((r : Refusal) → u ≡ Refused r → n < r .number) → ((r : Refusal) → v ≡ Refused r → n < r .number)
+  step : (x y : Option ℕ) (u v : Tested) → After u → After v
       → andThen (andThen (refusedAt n a x) (refusedAt n b y)) (earlierOf u v) ≡ earlierOf (andThen (refusedAt n a x) u) (andThen (refusedAt n b y) v)
   unfolding andThen refusedAt earlierOf
   step none none u v h k = refl
@@ -133,7 +124,7 @@ module _ (n a b : ℕ) where
 
 two-policies : (n a b : ℕ) (L R : NodeLists) (cs : List Cause) → Rising n cs
     → firstOf (together (sided a L ∷ sided b R ∷ []) cs) ≡ earlierOf (firstOf (alone a L cs)) (firstOf (alone b R cs))
-unfolding together alone Rising cause sided earlierOf firstOf
+unfolding together alone Rising cause sided earlierOf firstOf After
 two-policies n a b L R [] h = refl
 two-policies n a b L R (c ∷ cs) h =
     let t = refusedAt (c .0) a (c .1 L) in
@@ -141,16 +132,16 @@ two-policies n a b L R (c ∷ cs) h =
     let ts = alone a L cs in
     let us = alone b R cs in
     firstOf-more (firstOf (t ∷ u ∷ [])) (together (sided a L ∷ sided b R ∷ []) cs)
-    ∙ ap₂ andThen (firstOf-two t u) (two-policies (c .0) a b L R cs (h .1))
-    ∙ step (c .0) a b (c .1 L) (c .1 R) (firstOf ts) (firstOf us) (later (c .0) cs a L (h .1)) (later (c .0) cs b R (h .1))
+    ∙ ap₂ andThen (firstOf-two t u) (two-policies (causePlace (c .0)) a b L R cs (h .1))
+    ∙ step (c .0) a b (c .1 L) (c .1 R) (firstOf ts) (firstOf us) (later (causePlace (c .0)) cs a L (h .1)) (later (causePlace (c .0)) cs b R (h .1))
     ∙ ap₂ earlierOf (sym (firstOf-more t ts)) (sym (firstOf-more u us))
 
 stage-together : (sizes : List ℕ) (ps : List Sided) → policiesStage sizes ps ≡ firstOf (together ps (causes sizes))
-unfolding policiesStage together causes
+unfolding policiesStage together
 stage-together sizes ps = refl
 
 rising : (sizes : List ℕ) → Rising 0 (causes sizes)
-unfolding Rising causes
+unfolding Rising causes causePlace placeAmong oneOr
 rising sizes = (omega arith, (omega arith, (omega arith, (omega arith, (omega arith, (omega arith, tt))))))
 
 stage-two : (sizes : List ℕ) (a b : ℕ) (L R : NodeLists)
@@ -160,20 +151,36 @@ stage-two sizes a b L R =
     ∙ two-policies 0 a b L R (causes sizes) (rising sizes)
     ∙ sym (ap₂ earlierOf (stage-together sizes _ ∙ one-policy a L (causes sizes)) (stage-together sizes _ ∙ one-policy b R (causes sizes)))
 
-both-answers : (t u : Tested) (m n : ℕ) → both (policyAnswer t m) (policyAnswer u n) ≡ pairAnswer (earlierOf t u) m n
-unfolding both policyAnswer pairAnswer earlierOf
-both-answers Passed Passed m n = refl
-both-answers Passed (Refused q) m n = refl
-both-answers (Refused p) Passed m n = refl
-both-answers (Refused p) (Refused q) m n = refl
+pub left-passed : {l r : Tested} → l ≡ Passed → r ≡ earlierOf l r
+unfolding earlierOf
+left-passed {r = r} e = sym (ap (λ (t : Tested). earlierOf t r) e)
 
-pub right-earlier : {l r : PolicyAnswer} (p q : Refusal) → l ≡ PolicyRefused p → r ≡ PolicyRefused q → q .number < p .number → PairRefused q ≡ both l r
-unfolding both earlier earlierIf
-right-earlier p q e f h = sym (ap₂ both e f ∙ ap (λ (b : Bool). PairRefused (earlierIf b p q)) (lt-ltb (q .number) (p .number) h))
+module _ {l r : Tested} (p q : Refusal) (e : l ≡ Refused p) (f : r ≡ Refused q) where
+  -- m and n are the places of the causes
+  pub right-earlier : {m n : ℕ} → m ≡ causePlace (q .number) → n ≡ causePlace (p .number) → m < n → Refused q ≡ earlierOf l r
+  unfolding earlierOf earlier earlierIf
+  right-earlier a b h =
+      sym (ap₂ earlierOf e f ∙ ap (λ (x : Bool). Refused (earlierIf x p q)) (lt-ltb (causePlace (q .number)) (causePlace (p .number)) (omega (arith, a, b, h))))
 
-pub left-earlier : {l r : PolicyAnswer} (p q : Refusal) → l ≡ PolicyRefused p → r ≡ PolicyRefused q → p .number ≤ q .number → PairRefused p ≡ both l r
-unfolding both earlier earlierIf
-left-earlier p q e f h = sym (ap₂ both e f ∙ ap (λ (b : Bool). PairRefused (earlierIf b p q)) (le-ltb (q .number) (p .number) h))
+  pub left-earlier : {m n : ℕ} → m ≡ causePlace (q .number) → n ≡ causePlace (p .number) → n ≤ m → Refused p ≡ earlierOf l r
+  unfolding earlierOf earlier earlierIf
+  left-earlier a b h =
+      sym (ap₂ earlierOf e f ∙ ap (λ (x : Bool). Refused (earlierIf x p q)) (le-ltb (causePlace (q .number)) (causePlace (p .number)) (omega (arith, a, b, h))))
+
+both-passed : (t u : Tested) → earlierOf t u ≡ Passed → (t ≡ Passed) × (u ≡ Passed)
+unfolding earlierOf
+both-passed Passed u e = (refl, e)
+both-passed (Refused p) Passed e = absurd (refused≢passed e)
+both-passed (Refused p) (Refused q) e = absurd (refused≢passed e)
+
+pub place-of : (k n : ℕ) → n ≡ k → causePlace k ≡ causePlace n
+place-of k n e = sym (ap causePlace e)
+
+-- a number that is none of the list's
+pub no-place : (n : ℕ) → ((((((Unit {0} × (n ≡ 4 → ⊥)) × (n ≡ 5 → ⊥)) × (n ≡ 6 → ⊥)) × (n ≡ 7 → ⊥)) × (n ≡ 8 → ⊥)) × (n ≡ 9 → ⊥)) → 7 ≡ causePlace n
+unfolding causePlace causes placeAmong oneOr
+no-place n h =
+    rw (ne-eqb n 4 (h .0 .0 .0 .0 .0 .1), ne-eqb n 5 (h .0 .0 .0 .0 .1), ne-eqb n 6 (h .0 .0 .0 .1), ne-eqb n 7 (h .0 .0 .1), ne-eqb n 8 (h .0 .1), ne-eqb n 9 (h .1)) refl
 
 -- ---- one policy, by causes that need the ones before
 
@@ -218,18 +225,19 @@ module _ (sizes : List ℕ) (side : ℕ) (L : NodeLists) where
         (refusedAt-passed 7 side _ (firstOf-passed _ _ (firstOf-passed _ _ (firstOf-passed _ _ f .1) .1) .0));
   }
 
-  pub lengths-answer : (r : Refusal) → lengthsTest side L ≡ Refused r → PolicyRefused r ≡ policyStage sizes side L
-  unfolding policyStage policyAnswer
-  lengths-answer r e = sym (ap (λ (t : Tested). policyAnswer t (dupsBelow L (nodeCount L))) (lengths-refused r e))
+  -- the dups count only where the causes pass
+  refused-as : (r : Refusal) (n : ℕ) → policiesStage sizes (sided side L ∷ []) ≡ Refused r → PolicyTestedAs sizes side L (record { tested = Refused r; dups = n })
+  refused-as r n e = record { tested = sym e; counts = λ p. absurd (refused≢passed (sym e ∙ p)) }
 
-  pub nodes-answer : (r : Refusal) → lengthsTest side L ≡ Passed → nodesStage sizes side L ≡ Refused r → PolicyRefused r ≡ policyStage sizes side L
-  unfolding policyStage policyAnswer
-  nodes-answer r e f = sym (ap (λ (t : Tested). policyAnswer t (dupsBelow L (nodeCount L))) (nodes-refused r e f))
+  pub lengths-answer : (r : Refusal) (n : ℕ) → lengthsTest side L ≡ Refused r → PolicyTestedAs sizes side L (record { tested = Refused r; dups = n })
+  lengths-answer r n e = refused-as r n (lengths-refused r e)
 
-  pub tree-answer : {q : PolicyAnswer} → lengthsTest side L ≡ Passed → nodesStage sizes side L ≡ Passed → q ≡ policyAnswer (treeStage side L) (dupsBelow L (nodeCount L))
-      → q ≡ policyStage sizes side L
-  unfolding policyStage
-  tree-answer e f g = g ∙ sym (ap (λ (t : Tested). policyAnswer t (dupsBelow L (nodeCount L))) (nodes-passed e f))
+  pub nodes-answer : (r : Refusal) (n : ℕ) → lengthsTest side L ≡ Passed → nodesStage sizes side L ≡ Refused r → PolicyTestedAs sizes side L (record { tested = Refused r; dups = n })
+  nodes-answer r n e f = refused-as r n (nodes-refused r e f)
+
+  pub tree-answer : {q : PolicyTested} → lengthsTest side L ≡ Passed → nodesStage sizes side L ≡ Passed → TestedAs (treeStage side L) (dupsBelow L (nodeCount L)) q
+      → PolicyTestedAs sizes side L q
+  tree-answer e f g = let same = nodes-passed e f in record { tested = g .tested ∙ sym same; counts = λ p. g .counts (sym same ∙ p) }
 
 -- causes 5 to 7, cause by cause
 pub nodes-joined : (sizes kind first second : List ℕ) (side : ℕ) {k e b i r : Tested} {x y z : Option ℕ}
@@ -256,92 +264,80 @@ module _ (kind first second : List ℕ) (side : ℕ) {o n t : Tested} {x : Optio
       joined
       ∙ ap₂ (λ (o n : Tested). firstOf (o ∷ n ∷ [])) (once ∙ ap (refusedAt 8 side) once-at) (extra ∙ ap (refusedAt 9 side) (counted .place first second))
 
-  pub tree-refused : (m : ℕ) (r : Refusal) → t ≡ Refused r → PolicyRefused r ≡ policyAnswer (treeStage side (asLists kind first second)) m
-  unfolding policyAnswer
-  tree-refused m r e = sym (ap (λ (t : Tested). policyAnswer t m) (sym tree-joined ∙ e))
+  pub tree-as : TestedAs (treeStage side (asLists kind first second)) (dupsBelow (asLists kind first second) (length kind)) (record { tested = t; dups = d .count })
+  tree-as = record {
+    tested = tree-joined;
+    counts = λ p.
+        let passed = firstOf-passed _ _ (sym joined ∙ tree-joined ∙ p) in
+        counted .count (refusedAt-passed 9 side _ (sym extra ∙ firstOf-passed _ _ (passed .1) .0)) first second;
+  }
 
-  pub tree-passed : t ≡ Passed → LegalPolicy (d .count) ≡ policyAnswer (treeStage side (asLists kind first second)) (dupsBelow (asLists kind first second) (length kind))
-  unfolding policyAnswer
-  tree-passed e =
-      let none-over = refusedAt-passed 9 side _ (sym extra ∙ firstOf-passed _ _ (firstOf-passed _ _ (sym joined ∙ e) .1) .0) in
-      sym (ap₂ policyAnswer (sym tree-joined ∙ e) (sym (counted .count none-over first second)))
+-- ---- the calls
 
--- ---- the sizes before the policies
+-- the tests of one policy as they were made
+module _ (sizes : List ℕ) (L : NodeLists) {c : Counted} (counted : CountOf sizes c) {q : PolicyTested} (policy : PolicyTestedAs sizes 0 L q) {f t : Tested} (fields : f ≡ fieldsStage sizes)
+    (made : t ≡ inOrder (record { fields = f; product = c .tested; texts = Passed; policies = q .tested; lists = Passed; packets = Passed })) where
+  made-as : t ≡ policyTests sizes L
+  unfolding policyTests stagesOf
+  made-as = made ∙ rw (fields, counted .says, policy .tested) refl
 
-module _ (sizes : List ℕ) (rest : Tested) where
-  pub sizes-refused : (r : Refusal) → firstOf (fieldsStage sizes ∷ productStage sizes ∷ []) ≡ Refused r
-      → firstOf (fieldsStage sizes ∷ productStage sizes ∷ rest ∷ []) ≡ Refused r
-  sizes-refused r e = firstOf-append (fieldsStage sizes ∷ productStage sizes ∷ []) (rest ∷ []) ∙ firstOf-refused _ _ r e
+  pub policy-refused : (r : Refusal) → t ≡ Refused r → PolicyRefused r ≡ policyLegality sizes L
+  unfolding policyLegality policyAnswer
+  policy-refused r e = sym (ap (λ (u : Tested). policyAnswer u (dupsBelow L (nodeCount L))) (sym made-as ∙ e))
 
-  pub sizes-passed : firstOf (fieldsStage sizes ∷ productStage sizes ∷ []) ≡ Passed
-      → firstOf (fieldsStage sizes ∷ productStage sizes ∷ rest ∷ []) ≡ rest
-  sizes-passed e = firstOf-append (fieldsStage sizes ∷ productStage sizes ∷ []) (rest ∷ []) ∙ firstOf-next _ _ e ∙ firstOf-last _
+  pub policy-passed : t ≡ Passed → LegalPolicy (q .dups) ≡ policyLegality sizes L
+  unfolding policyLegality policyAnswer policyTests
+  policy-passed e =
+      let h = passing _ _ _ _ _ (sym made-as ∙ e) in
+      sym (ap₂ policyAnswer (sym made-as ∙ e) (sym (policy .counts (h .policies-pass))))
 
-module _ (sizes : List ℕ) (L : NodeLists) where
-  pub policy-sizes-refused : (r : Refusal) → firstOf (fieldsStage sizes ∷ productStage sizes ∷ []) ≡ Refused r → PolicyRefused r ≡ policyLegality sizes L
-  unfolding policyLegality policyTests policyAnswer
-  policy-sizes-refused r e = sym (ap (λ (t : Tested). policyAnswer t (dupsBelow L (nodeCount L))) (sizes-refused sizes _ r e))
+-- the tests of two policies as they were made
+module _ (sizes : List ℕ) (L R : NodeLists) (lists : Tested) {c : Counted} (counted : CountOf sizes c) {a b : PolicyTested} (left : PolicyTestedAs sizes 1 L a) (right : PolicyTestedAs sizes 2 R b)
+    {f p t : Tested} (fields : f ≡ fieldsStage sizes) (both : p ≡ earlierOf (a .tested) (b .tested))
+    (made : t ≡ inOrder (record { fields = f; product = c .tested; texts = Passed; policies = p; lists = lists; packets = Passed })) where
+  two-tested : p ≡ policiesStage sizes (pairOf L R)
+  two-tested = both ∙ ap₂ earlierOf (left .tested) (right .tested) ∙ sym (stage-two sizes 1 2 L R)
 
-  pub policy-sizes-passed : {q : PolicyAnswer} → firstOf (fieldsStage sizes ∷ productStage sizes ∷ []) ≡ Passed → q ≡ policyStage sizes 0 L → q ≡ policyLegality sizes L
-  unfolding policyLegality policyTests policyStage
-  policy-sizes-passed e f = f ∙ sym (ap (λ (t : Tested). policyAnswer t (dupsBelow L (nodeCount L))) (sizes-passed sizes _ e))
+  front-made : t ≡ inOrder (stagesOf sizes Passed (pairOf L R) lists Passed)
+  unfolding stagesOf
+  front-made = made ∙ rw (fields, counted .says, two-tested) refl
 
-module _ (sizes : List ℕ) (L R : NodeLists) where
-  pub pair-sizes-refused : (r : Refusal) → firstOf (fieldsStage sizes ∷ productStage sizes ∷ []) ≡ Refused r → PairRefused r ≡ pairLegality sizes L R
-  unfolding pairLegality pairTests pairAnswer
-  pair-sizes-refused r f =
-      sym (ap (λ (t : Tested). pairAnswer t (dupsBelow L (nodeCount L)) (dupsBelow R (nodeCount R))) (sizes-refused sizes _ r f))
+  pub is-front : FrontOf sizes L R lists (record { tested = t; packets = c .packets; «left_dups» = a .dups; «right_dups» = b .dups })
+  is-front = record {
+    tested = front-made;
+    packets = λ e. counted .counts (passing _ _ _ _ _ (sym front-made ∙ e) .product);
+    left-dups = λ e. left .counts (each-passed e .0);
+    right-dups = λ e. right .counts (each-passed e .1);
+  }
+    where
+      each-passed : t ≡ Passed → (policiesStage sizes (sided 1 L ∷ []) ≡ Passed) × (policiesStage sizes (sided 2 R ∷ []) ≡ Passed)
+      each-passed e = both-passed _ _ (sym (stage-two sizes 1 2 L R) ∙ passing _ _ _ _ _ (sym front-made ∙ e) .policies-pass)
 
-  pub pair-joined : {q : PairAnswer} {l r : PolicyAnswer} → l ≡ policyStage sizes 1 L → r ≡ policyStage sizes 2 R → q ≡ both l r → q ≡ pairStage sizes L R
-  unfolding policyStage pairStage
-  pair-joined l r q =
-      q
-      ∙ ap₂ both l r
-      ∙ both-answers (policiesStage sizes (sided 1 L ∷ [])) (policiesStage sizes (sided 2 R ∷ [])) _ _
-      ∙ sym (ap (λ (t : Tested). pairAnswer t (dupsBelow L (nodeCount L)) (dupsBelow R (nodeCount R))) (stage-two sizes 1 2 L R))
+module _ (sizes : List ℕ) (L R : NodeLists) {q : PairTested} (f : FrontOf sizes L R Passed q) {t : Tested} (is : t ≡ q .tested) where
+  tests-are : t ≡ pairTests sizes L R
+  unfolding pairTests
+  tests-are = is ∙ f .tested
 
-  pub pair-sizes-passed : {q : PairAnswer} → firstOf (fieldsStage sizes ∷ productStage sizes ∷ []) ≡ Passed → q ≡ pairStage sizes L R → q ≡ pairLegality sizes L R
-  unfolding pairLegality pairTests pairStage
-  pair-sizes-passed e f =
-      f ∙ sym (ap (λ (t : Tested). pairAnswer t (dupsBelow L (nodeCount L)) (dupsBelow R (nodeCount R))) (sizes-passed sizes _ e))
+  pub pair-refused : (r : Refusal) → t ≡ Refused r → PairRefused r ≡ pairLegality sizes L R
+  unfolding pairLegality pairAnswer
+  pair-refused r e = sym (ap (λ (u : Tested). pairAnswer u (dupsBelow L (nodeCount L)) (dupsBelow R (nodeCount R))) (sym tests-are ∙ e))
+
+  pub pair-passed : t ≡ Passed → LegalPair (q .«left_dups») (q .«right_dups») ≡ pairLegality sizes L R
+  unfolding pairLegality pairAnswer
+  pair-passed e =
+      ap₂ LegalPair (f .left-dups (sym is ∙ e)) (f .right-dups (sym is ∙ e))
+      ∙ sym (ap (λ (u : Tested). pairAnswer u (dupsBelow L (nodeCount L)) (dupsBelow R (nodeCount R))) (sym tests-are ∙ e))
 
 -- ---- what a legal answer says
 
-answered : (t : Tested) (d e : ℕ) → policyAnswer t d ≡ LegalPolicy e → (t ≡ Passed) × (e ≡ d)
+answered : (t : Tested) (d e : ℕ) → policyAnswer t d ≡ LegalPolicy e → t ≡ Passed
 unfolding policyAnswer
-answered Passed d e q = (refl, sym (ap dupsOf q))
-  where
-    dupsOf : PolicyAnswer → ℕ
-    dupsOf (LegalPolicy m) = m
-    dupsOf (PolicyRefused r) = 0
+answered Passed d e q = refl
 answered (Refused r) d e q = let z : _≡_ {A = ℕ} 0 1 = cc in absurd (zero≢one z)
 
 pub legal-answer : (sizes : List ℕ) (L : NodeLists) (d : ℕ) → policyLegality sizes L ≡ LegalPolicy d
-    → LegalSizes sizes × Legal sizes L × (d ≡ dupsBelow L (nodeCount L))
+    → LegalSizes sizes × Legal sizes L × (productStage sizes ≡ Passed)
 unfolding policyLegality policyTests Each sided
 legal-answer sizes L d q =
-    let a = answered _ _ d q in
-    let f = firstOf-passed _ _ (a .0) in
-    let p = firstOf-passed _ _ (f .1) in
-    (passed-legal sizes (f .0) (p .0), stage-passes sizes (sided 0 L ∷ []) .0 (firstOf-passed _ _ (p .1) .0) .0, a .1)
-
-pair-answered : (t : Tested) (d e m n : ℕ) → pairAnswer t d e ≡ LegalPair m n → (t ≡ Passed) × (m ≡ d) × (n ≡ e)
-unfolding pairAnswer
-pair-answered Passed d e m n q = (refl, sym (ap leftOf q), sym (ap rightOf q))
-  where
-    leftOf : PairAnswer → ℕ
-    leftOf (LegalPair m n) = m
-    leftOf (PairRefused r) = 0
-
-    rightOf : PairAnswer → ℕ
-    rightOf (LegalPair m n) = n
-    rightOf (PairRefused r) = 0
-pair-answered (Refused r) d e m n q = let z : _≡_ {A = ℕ} 0 1 = cc in absurd (zero≢one z)
-
-pub legal-pair-stage : (sizes : List ℕ) (L R : NodeLists) (m n : ℕ) → pairStage sizes L R ≡ LegalPair m n
-    → Legal sizes L × Legal sizes R × (m ≡ dupsBelow L (nodeCount L)) × (n ≡ dupsBelow R (nodeCount R))
-unfolding pairStage Each sided
-legal-pair-stage sizes L R m n q =
-    let a = pair-answered _ _ _ m n q in
-    let g = stage-passes sizes (sided 1 L ∷ sided 2 R ∷ []) .0 (a .0) in
-    (g .0, g .1 .0, a .1, a .2)
+    let h = passing _ _ _ _ _ (answered _ _ d q) in
+    (sizes-legal _ _ _ _ _ h, policies-legal _ _ _ _ _ h .0, h .product)

@@ -2,9 +2,11 @@
 use Prim.Native.Nat.{ℕ, pred}
 use mathlib.Core.Bool.{Bool, true, false}
 use mathlib.Core.List.{List, [], _∷_}
+use mathlib.Core.Path.{_≡_}
 use lib.Dec.{ltb}
 use Rattle.packet.specs.Lowest.{lowest}
 use Rattle.packet.specs.Refusals.{refusedAt, firstOf}
+use Rattle.packet.specs.Sizes.{product}
 use Rattle.packet.specs.declared.Refusal.{Refusal}
 use Rattle.packet.specs.declared.Tested.{Tested}
 use Rattle.packet.specs.declared.Tested.the-variants.{Passed, Refused}
@@ -12,9 +14,11 @@ use Rattle.legality.specs.declared.PolicyAnswer.{PolicyAnswer}
 use Rattle.legality.specs.declared.PolicyAnswer.the-variants.{Legal as LegalPolicy, Refused as PolicyRefused}
 use Rattle.legality.specs.declared.PairAnswer.{PairAnswer}
 use Rattle.legality.specs.declared.PairAnswer.the-variants.{Legal as LegalPair, Refused as PairRefused}
+use Rattle.legality.specs.declared.PolicyTested.{PolicyTested}
+use Rattle.legality.specs.declared.PairTested.{PairTested}
 use Rattle.policy.specs.NodeLists.{NodeLists, nodeCount, dupsBelow}
-use Rattle.policy.specs.Legality.{badKind, badEntries, badChild, notOnce, tooManyDups, policiesStage}
-use Rattle.policy.specs.Tests.{sided, policyTests, pairTests}
+use Rattle.policy.specs.Legality.{badKind, badEntries, badChild, notOnce, tooManyDups}
+use Rattle.policy.specs.Order.{inOrder, sided, policiesStage, stagesOf, pairOf, policyTests, pairTests, causePlace}
 
 -- each answer's number and values: a refusal's are its own, a legal policy has its number of dups
 unfoldable pub policyAnswer : Tested → ℕ → PolicyAnswer
@@ -24,13 +28,6 @@ policyAnswer (Refused r) dups = PolicyRefused r
 unfoldable pub pairAnswer : Tested → ℕ → ℕ → PairAnswer
 pairAnswer Passed left right = LegalPair left right
 pairAnswer (Refused r) left right = PairRefused r
-
--- the answers of the stage "policies" alone
-unfoldable pub policyStage : List ℕ → ℕ → NodeLists → PolicyAnswer
-policyStage sizes side L = policyAnswer (policiesStage sizes (sided side L ∷ [])) (dupsBelow L (nodeCount L))
-
-unfoldable pub pairStage : List ℕ → NodeLists → NodeLists → PairAnswer
-pairStage sizes L R = pairAnswer (policiesStage sizes (sided 1 L ∷ sided 2 R ∷ [])) (dupsBelow L (nodeCount L)) (dupsBelow R (nodeCount R))
 
 -- the answer on one policy
 unfoldable pub policyLegality : List ℕ → NodeLists → PolicyAnswer
@@ -57,17 +54,30 @@ treeStage side L =
     firstOf
     (refusedAt 8 side (lowest (notOnce L) (pred (nodeCount L))) ∷ refusedAt 9 side (lowest (tooManyDups L) (nodeCount L)) ∷ [])
 
--- of two refusals the one of the earlier cause, of the same cause the first
+-- what the causes of one policy are found to say, with its dups where they pass
+pub record TestedAs (says : Tested) (dups : ℕ) (r : PolicyTested) : Type 0 where
+  pub tested : r .tested ≡ says
+  pub counts : says ≡ Passed → r .dups ≡ dups
+
+abbrev pub PolicyTestedAs : List ℕ → ℕ → NodeLists → PolicyTested → Type 0
+PolicyTestedAs sizes side L = TestedAs (policiesStage sizes (sided side L ∷ [])) (dupsBelow L (nodeCount L))
+
+-- of two refusals the one whose cause comes first in the list, of the same cause the first
 unfoldable pub earlierIf : Bool → Refusal → Refusal → Refusal
 earlierIf true p q = q
 earlierIf false p q = p
 
 unfoldable pub earlier : Refusal → Refusal → Refusal
-earlier p q = earlierIf (ltb (q .number) (p .number)) p q
+earlier p q = earlierIf (ltb (causePlace (q .number)) (causePlace (p .number))) p q
 
--- the answer on two policies from the answers on each
-unfoldable pub both : PolicyAnswer → PolicyAnswer → PairAnswer
-both (LegalPolicy m) (LegalPolicy n) = LegalPair m n
-both (LegalPolicy m) (PolicyRefused q) = PairRefused q
-both (PolicyRefused p) (LegalPolicy n) = PairRefused p
-both (PolicyRefused p) (PolicyRefused q) = PairRefused (earlier p q)
+unfoldable pub earlierOf : Tested → Tested → Tested
+earlierOf Passed u = u
+earlierOf (Refused p) Passed = Refused p
+earlierOf (Refused p) (Refused q) = Refused (earlier p q)
+
+-- What a call on two policies is told: the first cause, `lists` being what stage "lists" says; N and the dups of each where none holds.
+pub record FrontOf (sizes : List ℕ) (L R : NodeLists) (lists : Tested) (r : PairTested) : Type 0 where
+  pub tested : r .tested ≡ inOrder (stagesOf sizes Passed (pairOf L R) lists Passed)
+  pub packets : r .tested ≡ Passed → r .packets ≡ product sizes
+  pub left-dups : r .tested ≡ Passed → r .«left_dups» ≡ dupsBelow L (nodeCount L)
+  pub right-dups : r .tested ≡ Passed → r .«right_dups» ≡ dupsBelow R (nodeCount R)

@@ -1,17 +1,15 @@
 // Which node lists are legal: the causes of document 01 in their order, and the public calls that say so.
 ghost use mathlib.Core.Path.{_≡_};
-ghost use mathlib.Core.List.{[], _∷_};
 ghost use lib.ListN.{length};
-ghost use Rattle.packet.specs.Refusals.{firstOf};
-ghost use Rattle.packet.specs.Sizes.{fieldsStage, productStage};
 ghost use Rattle.policy.specs.AsLists.{asLists};
 ghost use Rattle.policy.specs.NodeLists.{dupsBelow};
+ghost use Rattle.policy.specs.Order.{causePlace};
 ghost use Rattle.node_causes.specs.Lengths.{SameLengths};
 ghost use Rattle.tree_causes.specs.Counting.{CountableChildren};
-ghost use Rattle.legality.specs.Answers.{nodesStage, treeStage, policyAnswer, policyStage, policyLegality, both, pairStage, pairLegality};
-use packet::Counted;
+ghost use Rattle.legality.specs.Answers.{nodesStage, treeStage, TestedAs, PolicyTestedAs, earlierOf, FrontOf, policyLegality, pairLegality};
 use packet::Refusal;
 use packet::Tested;
+use policy::order::Stages;
 
 // The answer on one policy: legal, with so many dups, or the first cause that refuses it.
 pub enum PolicyAnswer {
@@ -25,17 +23,18 @@ pub enum PairAnswer {
     Refused(Refusal),
 }
 
-// Causes 1 to 3.
-fn sizes_tested(sizes: &[u16]) -> Tested
-    ensures { λ r. ⌜ r ≡ firstOf (fieldsStage (now (sizes .entry)) ∷ productStage (now (sizes .entry)) ∷ []) ⌝ }
-{
-    match packet::fields_stage(sizes) {
-        Tested::Refused(r) => Tested::Refused(r),
-        Tested::Passed => match packet::packet_count(sizes) {
-            Counted::Refused(r) => Tested::Refused(r),
-            Counted::Packets(_) => Tested::Passed,
-        },
-    }
+// What the causes of one policy say, beside its number of dups, which counts where they pass.
+pub struct PolicyTested {
+    pub tested: Tested,
+    pub dups: u8,
+}
+
+// What the causes of a call on two policies say, beside N and the dups of each, which count where they pass.
+pub struct PairTested {
+    pub tested: Tested,
+    pub packets: u16,
+    pub left_dups: u8,
+    pub right_dups: u8,
 }
 
 // Causes 5 to 7 of one policy, which look at one node at a time.
@@ -54,34 +53,32 @@ fn nodes_tested(sizes: &[u16], side: u8, kind: &[u8], first: &[u16], second: &[u
 }
 
 // Causes 8 and 9 of one policy, which count; with the number of dups.
-fn tree_tested(side: u8, kind: &[u8], first: &[u16], second: &[u16]) -> PolicyAnswer
+fn tree_tested(side: u8, kind: &[u8], first: &[u16], second: &[u16]) -> PolicyTested
     requires { ⌜ CountableChildren (asLists (now kind) (now first) (now second)) ⌝ }
-    ensures { λ r. ⌜ r ≡ policyAnswer (treeStage side (asLists (now (kind .entry)) (now (first .entry)) (now (second .entry)))) (dupsBelow (asLists (now (kind .entry)) (now (first .entry)) (now (second .entry))) (length (now (kind .entry)))) ⌝ }
+    ensures { λ r. ⌜ TestedAs (treeStage side (asLists (now (kind .entry)) (now (first .entry)) (now (second .entry)))) (dupsBelow (asLists (now (kind .entry)) (now (first .entry)) (now (second .entry))) (length (now (kind .entry)))) r ⌝ }
 {
     let once = packet::refused_at(8, side, tree_causes::not_once(kind, first, second));
     let counted = tree_causes::dups(kind);
-    let count = counted.count;
+    let dups = counted.count;
     let extra = counted.extra;
-    match packet::first_of(once, packet::refused_at(9, side, extra)) {
-        Tested::Refused(r) => PolicyAnswer::Refused(r),
-        Tested::Passed => PolicyAnswer::Legal(count),
-    }
+    let tested = packet::first_of(once, packet::refused_at(9, side, extra));
+    PolicyTested { tested, dups }
 }
 
-// Inner: stage "policies" of one policy.
-pub fn policy_stage(
-    sizes: &[u16],
-    side: u8,
-    kind: &[u8],
-    first: &[u16],
-    second: &[u16],
-) -> PolicyAnswer
-    ensures { λ r. ⌜ r ≡ policyStage (now (sizes .entry)) side (asLists (now (kind .entry)) (now (first .entry)) (now (second .entry))) ⌝ }
+// Stage "policies" of one policy.
+fn policy_stage(sizes: &[u16], side: u8, kind: &[u8], first: &[u16], second: &[u16]) -> PolicyTested
+    ensures { λ r. ⌜ PolicyTestedAs (now (sizes .entry)) side (asLists (now (kind .entry)) (now (first .entry)) (now (second .entry))) r ⌝ }
 {
     match packet::refused_at(4, side, node_causes::bad_lengths(kind, first, second)) {
-        Tested::Refused(r) => PolicyAnswer::Refused(r),
+        Tested::Refused(r) => PolicyTested {
+            tested: Tested::Refused(r),
+            dups: 0,
+        },
         Tested::Passed => match nodes_tested(sizes, side, kind, first, second) {
-            Tested::Refused(r) => PolicyAnswer::Refused(r),
+            Tested::Refused(r) => PolicyTested {
+                tested: Tested::Refused(r),
+                dups: 0,
+            },
             Tested::Passed => tree_tested(side, kind, first, second),
         },
     }
@@ -91,35 +88,61 @@ pub fn policy_stage(
 pub fn policy_legality(sizes: &[u16], kind: &[u8], first: &[u16], second: &[u16]) -> PolicyAnswer
     ensures { λ r. ⌜ r ≡ policyLegality (now (sizes .entry)) (asLists (now (kind .entry)) (now (first .entry)) (now (second .entry))) ⌝ }
 {
-    match sizes_tested(sizes) {
+    let fields = packet::fields_stage(sizes);
+    let counted = packet::packet_count(sizes);
+    let policy = policy_stage(sizes, 0, kind, first, second);
+    let product = counted.tested;
+    let policies = policy.tested;
+    let tested = policy::order::in_order(Stages {
+        fields,
+        product,
+        texts: Tested::Passed,
+        policies,
+        lists: Tested::Passed,
+        packets: Tested::Passed,
+    });
+    match tested {
         Tested::Refused(r) => PolicyAnswer::Refused(r),
-        Tested::Passed => policy_stage(sizes, 0, kind, first, second),
+        Tested::Passed => PolicyAnswer::Legal(policy.dups),
     }
 }
 
-// The answer on two policies from the answers on each: the cause of the lower number, of equal ones the left.
-fn both_tested(left: PolicyAnswer, right: PolicyAnswer) -> PairAnswer
-    ensures { λ r. ⌜ r ≡ both left right ⌝ }
+// The place of a policy's cause in the list, from 1 on.
+fn cause_place(number: u8) -> u8
+    ensures { λ r. ⌜ r ≡ causePlace number ⌝ }
+{
+    match number {
+        4 => 1,
+        5 => 2,
+        6 => 3,
+        7 => 4,
+        8 => 5,
+        9 => 6,
+        _ => 7,
+    }
+}
+
+// Of what the two policies' causes say the one that comes first in the list, of the same cause the left.
+fn earlier(left: Tested, right: Tested) -> Tested
+    ensures { λ r. ⌜ r ≡ earlierOf left right ⌝ }
 {
     match left {
-        PolicyAnswer::Legal(m) => match right {
-            PolicyAnswer::Legal(n) => PairAnswer::Legal(m, n),
-            PolicyAnswer::Refused(q) => PairAnswer::Refused(q),
-        },
-        PolicyAnswer::Refused(p) => match right {
-            PolicyAnswer::Legal(_) => PairAnswer::Refused(p),
-            PolicyAnswer::Refused(q) => {
-                if q.number < p.number {
-                    return PairAnswer::Refused(q);
+        Tested::Passed => right,
+        Tested::Refused(p) => match right {
+            Tested::Passed => Tested::Refused(p),
+            Tested::Refused(q) => {
+                if cause_place(q.number) < cause_place(p.number) {
+                    return Tested::Refused(q);
                 }
-                PairAnswer::Refused(p)
+                Tested::Refused(p)
             }
         },
     }
 }
 
-// Inner: stage "policies" of a left and a right policy.
-pub fn pair_stage(
+// Inner: the causes of a call on two policies in their order, `lists` being what stage "lists" says. Every such call goes
+// through here.
+pub fn front(
     sizes: &[u16],
     left_kind: &[u8],
     left_first: &[u16],
@@ -127,13 +150,32 @@ pub fn pair_stage(
     right_kind: &[u8],
     right_first: &[u16],
     right_second: &[u16],
-) -> PairAnswer
-    ensures { λ r. ⌜ r ≡ pairStage (now (sizes .entry)) (asLists (now («left_kind» .entry)) (now («left_first» .entry)) (now («left_second» .entry))) (asLists (now («right_kind» .entry)) (now («right_first» .entry)) (now («right_second» .entry))) ⌝ }
+    lists: Tested,
+) -> PairTested
+    ensures { λ r. ⌜ FrontOf (now (sizes .entry)) (asLists (now («left_kind» .entry)) (now («left_first» .entry)) (now («left_second» .entry))) (asLists (now («right_kind» .entry)) (now («right_first» .entry)) (now («right_second» .entry))) lists r ⌝ }
 {
-    both_tested(
-        policy_stage(sizes, 1, left_kind, left_first, left_second),
-        policy_stage(sizes, 2, right_kind, right_first, right_second),
-    )
+    let fields = packet::fields_stage(sizes);
+    let count = packet::packet_count(sizes);
+    let left = policy_stage(sizes, 1, left_kind, left_first, left_second);
+    let right = policy_stage(sizes, 2, right_kind, right_first, right_second);
+    let product = count.tested;
+    let left_says = left.tested;
+    let right_says = right.tested;
+    let policies = earlier(left_says, right_says);
+    let tested = policy::order::in_order(Stages {
+        fields,
+        product,
+        texts: Tested::Passed,
+        policies,
+        lists,
+        packets: Tested::Passed,
+    });
+    PairTested {
+        tested,
+        packets: count.packets,
+        left_dups: left.dups,
+        right_dups: right.dups,
+    }
 }
 
 // Whether the lists are two legal policies over fields of these sizes: causes 1 to 9, sides 1 and 2.
@@ -148,16 +190,19 @@ pub fn pair_legality(
 ) -> PairAnswer
     ensures { λ r. ⌜ r ≡ pairLegality (now (sizes .entry)) (asLists (now («left_kind» .entry)) (now («left_first» .entry)) (now («left_second» .entry))) (asLists (now («right_kind» .entry)) (now («right_first» .entry)) (now («right_second» .entry))) ⌝ }
 {
-    match sizes_tested(sizes) {
+    let found = front(
+        sizes,
+        left_kind,
+        left_first,
+        left_second,
+        right_kind,
+        right_first,
+        right_second,
+        Tested::Passed,
+    );
+    let tested = found.tested;
+    match tested {
         Tested::Refused(r) => PairAnswer::Refused(r),
-        Tested::Passed => pair_stage(
-            sizes,
-            left_kind,
-            left_first,
-            left_second,
-            right_kind,
-            right_first,
-            right_second,
-        ),
+        Tested::Passed => PairAnswer::Legal(found.left_dups, found.right_dups),
     }
 }

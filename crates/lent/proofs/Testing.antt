@@ -1,44 +1,23 @@
--- Causes 1 to 10: how the tests go on, and what holds where they pass. Assumes nothing.
+-- Causes 1 to 10: the tests as they were made, and what holds where they pass. Assumes nothing.
 use Prim.Native.Nat.{ℕ, _≤_}
 use mathlib.Core.Bool.{Bool, true, false, true≢false, _||_, not}
 use mathlib.Core.List.{List, [], _∷_}
-use mathlib.Core.Path.{_≡_, refl, sym, ap, _∙_}
+use mathlib.Core.Path.{_≡_, refl, ap, _∙_}
 use lib.Dec.{eqb, ltb}
 use borrow.Author.Tests.{ltb-false, le-ltb, eqb-true, not-false}
-use Rattle.packet.specs.declared.Counted.the-variants.{Packets, Refused as NotCounted}
-use Rattle.packet.specs.declared.Refusal.{Refusal}
 use Rattle.packet.specs.declared.Tested.{Tested}
-use Rattle.packet.specs.declared.Tested.the-variants.{Passed, Refused}
+use Rattle.packet.specs.declared.Tested.the-variants.{Passed}
 use Rattle.packet.specs.Refusals.{refusedAt, atPlace, atZero}
-use Rattle.packet.specs.Sizes.{counted, fieldsStage, productStage, LegalSizes}
-use Rattle.packet.proofs.Legal.{passed-legal}
-use Rattle.packet.proofs.Stages.{firstOf-last, firstOf-refused, firstOf-next, firstOf-passed, refusedAt-passed, atPlace-none}
-use Rattle.legality.specs.declared.PairAnswer.the-variants.{Legal as LegalPair, Refused as PairRefused}
-use Rattle.policy.specs.Tests.{sided, pairTests}
-use Rattle.legality.specs.Answers.{pairAnswer, pairStage}
+use Rattle.packet.specs.Sizes.{LegalSizes}
+use Rattle.packet.proofs.Stages.{refusedAt-passed, atPlace-none}
+use Rattle.policy.specs.Order.{inOrder, sided, stagesOf, pairOf, pairTests}
+use Rattle.legality.specs.declared.PairTested.{PairTested}
+use Rattle.legality.specs.Answers.{FrontOf}
 use Rattle.policy.specs.Each.{Each}
 use Rattle.policy.specs.Legality.{Legal}
 use Rattle.policy.specs.NodeLists.{NodeLists}
-use Rattle.policy.proofs.LegalityLaws.{stage-passes}
+use Rattle.policy.proofs.OrderLaws.{passing, sizes-legal, policies-legal, still-passing}
 use Rattle.lent.specs.Lent.{misfit, rowsMisfit, listsStage, lentTests}
-
-pair-passed : (t : Tested) (d e m n : ℕ) → pairAnswer t d e ≡ LegalPair m n → t ≡ Passed
-unfolding pairAnswer
-pair-passed Passed d e m n q = refl
-pair-passed (Refused r) d e m n q = absurd (true≢false (cc))
-
-pair-refused : (t : Tested) (d e : ℕ) (r : Refusal) → pairAnswer t d e ≡ PairRefused r → t ≡ Refused r
-unfolding pairAnswer
-pair-refused Passed d e r q = absurd (true≢false (cc))
-pair-refused (Refused p) d e r q = cc
-
-pub refused-counted : (t : Tested) (n : ℕ) (r : Refusal) → t ≡ Refused r → NotCounted r ≡ counted t n
-unfolding counted
-refused-counted t n r e = sym (ap (λ (u : Tested). counted u n) e)
-
-pub passed-counted : (t : Tested) (n m : ℕ) → t ≡ Passed → m ≡ n → Packets m ≡ counted t n
-unfolding counted
-passed-counted t n m e q = ap Packets q ∙ sym (ap (λ (u : Tested). counted u n) e)
 
 -- ---- cause 10
 
@@ -52,23 +31,10 @@ lists-stage work e t = t ∙ ap (λ (w : Bool). refusedAt 10 0 (atZero (w || ltb
 -- ---- causes 1 to 10
 
 module _ (sizes : List ℕ) (L R : NodeLists) (lists : Tested) where
-  pub fields-refused : (r : Refusal) → fieldsStage sizes ≡ Refused r → lentTests sizes L R lists ≡ Refused r
+  -- the tests as they were made
+  pub front-tests : {said : Tested} {q : PairTested} → said ≡ lists → FrontOf sizes L R said q → q .tested ≡ lentTests sizes L R lists
   unfolding lentTests
-  fields-refused r e = firstOf-refused _ _ r e
-
-  module _ (f : fieldsStage sizes ≡ Passed) where
-    pub product-refused : (r : Refusal) → productStage sizes ≡ Refused r → lentTests sizes L R lists ≡ Refused r
-    unfolding lentTests
-    product-refused r e = firstOf-next _ _ f ∙ firstOf-refused _ _ r e
-
-    module _ (p : productStage sizes ≡ Passed) where
-      pub policies-refused : (r : Refusal) → pairStage sizes L R ≡ PairRefused r → lentTests sizes L R lists ≡ Refused r
-      unfolding lentTests pairStage
-      policies-refused r e = firstOf-next _ _ f ∙ firstOf-next _ _ p ∙ firstOf-refused _ _ r (pair-refused _ _ _ r e)
-
-      pub lists-tested : (m n : ℕ) → pairStage sizes L R ≡ LegalPair m n → lentTests sizes L R lists ≡ lists
-      unfolding lentTests pairStage
-      lists-tested m n e = firstOf-next _ _ f ∙ firstOf-next _ _ p ∙ firstOf-next _ _ (pair-passed _ _ _ m n e) ∙ firstOf-last _
+  front-tests e f = f .tested ∙ ap (λ (l : Tested). inOrder (stagesOf sizes Passed (pairOf L R) l Passed)) e
 
   -- what holds where causes 1 to 9 pass
   pub record LegalCall : Type 0 where
@@ -80,20 +46,18 @@ module _ (sizes : List ℕ) (L R : NodeLists) (lists : Tested) where
   pub tests-passed : lentTests sizes L R lists ≡ Passed → LegalCall
   unfolding lentTests Each sided
   tests-passed e =
-      let f = firstOf-passed _ _ e in
-      let p = firstOf-passed _ _ (f .1) in
-      let q = firstOf-passed _ _ (p .1) in
-      let g = stage-passes sizes (sided 1 L ∷ sided 2 R ∷ []) .0 (q .0) in
-      record { legal-sizes = passed-legal sizes (f .0) (p .0); left-legal = g .0; right-legal = g .1 .0; passed = firstOf-passed _ _ (q .1) .0 }
+      let h = passing _ _ _ _ _ e in
+      let g = policies-legal _ _ _ _ _ h in
+      record { legal-sizes = sizes-legal _ _ _ _ _ h; left-legal = g .0; right-legal = g .1 .0; passed = h .lists-pass }
 
   -- two policies that causes 1 to 9 let pass, and lists that 10 lets pass
   pub pair-lent : pairTests sizes L R ≡ Passed → lists ≡ Passed → lentTests sizes L R lists ≡ Passed
   unfolding pairTests lentTests
-  pair-lent e h =
-      let f = firstOf-passed _ _ e in
-      let p = firstOf-passed _ _ (f .1) in
-      let q = firstOf-passed _ _ (p .1) in
-      firstOf-next _ _ (f .0) ∙ firstOf-next _ _ (p .0) ∙ firstOf-next _ _ (q .0) ∙ firstOf-last _ ∙ h
+  pair-lent e h = still-passing sizes (pairOf L R) _ _ _ e refl h refl
+
+  pub lent-pair : lentTests sizes L R lists ≡ Passed → pairTests sizes L R ≡ Passed
+  unfolding pairTests lentTests
+  lent-pair e = still-passing sizes (pairOf L R) _ _ _ e refl refl refl
 
 -- ---- stage "lists"
 

@@ -6,10 +6,8 @@ use lib.Dec.{eqb, ltb}
 use lib.ListN.{length, replicate}
 use Rattle.packet.specs.declared.Tested.{Tested}
 use Rattle.packet.specs.declared.Tested.the-variants.{Passed, Refused}
-use Rattle.packet.specs.Refusals.{refusedAt, atZero, firstOf}
-use Rattle.packet.specs.Sizes.{fieldsStage, productStage}
-use Rattle.policy.specs.Tests.{sided}
-use Rattle.policy.specs.Legality.{policiesStage}
+use Rattle.packet.specs.Refusals.{refusedAt, atZero}
+use Rattle.policy.specs.Order.{inOrder, stagesOf, pairOf}
 use Rattle.policy.specs.NodeLists.{NodeLists}
 
 -- a row list has another length than the first, or is over 65,535
@@ -28,9 +26,9 @@ rowsMisfit (n ∷ ms) = misfit n ms
 unfoldable pub listsStage : List ℕ → ℕ → Tested
 listsStage rows work = refusedAt 10 0 (atZero (rowsMisfit rows || ltb work 16384))
 
--- causes 1 to 10 in the order tested, the last stage being that of the lists
+-- causes 1 to 10 in the order tested; `lists` is what the stage of the lists says
 unfoldable pub lentTests : List ℕ → NodeLists → NodeLists → Tested → Tested
-lentTests sizes L R lists = firstOf (fieldsStage sizes ∷ productStage sizes ∷ policiesStage sizes (sided 1 L ∷ sided 2 R ∷ []) ∷ lists ∷ [])
+lentTests sizes L R lists = inOrder (stagesOf sizes Passed (pairOf L R) lists Passed)
 
 -- "past refusal 10 the work list is all 0 on return"; causes 1 to 10 leave it as it was
 unfoldable pub workAfter : Tested → List ℕ → List ℕ

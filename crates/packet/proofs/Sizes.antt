@@ -6,18 +6,15 @@ use native.Mathlib.Numerals.{add-one}
 use native.Mathlib.Omega.{arith}
 use mathlib.Core.Bool.{true≢false}
 use mathlib.Core.List.{List, [], _∷_}
-use mathlib.Core.Option.{Option, none}
+use mathlib.Core.Option.{none}
 use mathlib.Core.Path.{_≡_, refl, ap, ap₂, sym, _∙_, subst}
 use borrow.Author.Tests.{lt-ltb, le-ltb}
 use lib.ListN.{length, getD, take, drop}
 use lib.Seq.{take-all, drop-cons}
 use Rattle.packet.specs.Lowest.{lowest}
 use Rattle.packet.specs.Refusals.{refusedAt, refusal}
-use Rattle.packet.specs.declared.Refusal.{Refusal}
-use Rattle.packet.specs.declared.Tested.{Tested}
-use Rattle.packet.specs.declared.Tested.the-variants.{Passed, Refused as Stopped}
-use Rattle.packet.specs.declared.Counted.the-variants.{Packets, Refused}
-use Rattle.packet.specs.Sizes.{product, productOver, productStage, counted, packetCount}
+use Rattle.packet.specs.declared.Tested.the-variants.{Passed, Refused}
+use Rattle.packet.specs.Sizes.{product, productOver, productStage, CountOf}
 use Rattle.packet.proofs.Lowest.{lowest-more, lowest-found, lowest-none-whole}
 
 -- one field more
@@ -58,17 +55,20 @@ module _ (sizes : List ℕ) {i p x : ℕ} (r : Running sizes i p) (h : i < lengt
         passed = lowest-more (productOver sizes) i (r .passed) (le-ltb 1024 _ (subst (λ (n : ℕ). n ≤ 1024) more-is small));
       })
 
-  pub running-over : 1024 < p * x → packetCount sizes ≡ Refused (refusal 3 0 i)
-  unfolding productOver productStage counted packetCount refusedAt
-  running-over over =
-      ap (λ (o : Option ℕ). counted (refusedAt 3 0 o) (product sizes))
-      (lowest-found (productOver sizes) i (length sizes) (r .passed) (lt-ltb 1024 _ (subst (λ (n : ℕ). 1024 < n) more-is over)) h)
+  pub running-over : 1024 < p * x → (n : ℕ) → CountOf sizes (record { tested = Refused (refusal 3 0 i); packets = n })
+  unfolding productOver productStage refusedAt
+  running-over over n =
+      let stops = lowest-found (productOver sizes) i (length sizes) (r .passed) (lt-ltb 1024 _ (subst (λ (n : ℕ). 1024 < n) more-is over)) h in
+      let refuses : productStage sizes ≡ Refused (refusal 3 0 i) = ap (refusedAt 3 0) stops in
+      record { says = sym refuses; counts = λ e. let z : Refused (refusal 3 0 i) ≡ Passed = sym refuses ∙ e in absurd (true≢false (cc)) }
 
-pub running-all : (sizes : List ℕ) {i p : ℕ} → Running sizes i p → length sizes ≤ i → packetCount sizes ≡ Packets p
-unfolding productStage counted packetCount refusedAt
+pub running-all : (sizes : List ℕ) {i p : ℕ} → Running sizes i p → length sizes ≤ i → CountOf sizes (record { tested = Passed; packets = p })
+unfolding productStage refusedAt
 running-all sizes {i} {p} r end =
-    ap (λ (o : Option ℕ). counted (refusedAt 3 0 o) (product sizes)) (lowest-none-whole (productOver sizes) i (length sizes) (r .passed) (omega (arith, r .within)))
-    ∙ ap Packets (sym (r .is ∙ ap product (take-all i sizes end)))
+    record {
+      says = sym (ap (refusedAt 3 0) (lowest-none-whole (productOver sizes) i (length sizes) (r .passed) (omega (arith, r .within))));
+      counts = λ _. r .is ∙ ap product (take-all i sizes end);
+    }
 
 -- ---- from the last field down
 
@@ -76,23 +76,3 @@ running-all sizes {i} {p} r end =
 pub product-from : (sizes : List ℕ) (i : ℕ) → i < length sizes → product (drop i sizes) ≡ getD sizes i 0 * product (drop (suc i) sizes)
 unfolding product
 product-from sizes i h = ap product (drop-cons sizes i 0 h)
-
--- ---- a packet count is a stage that passed, and the product
-
-pub counted-packets : (t : Tested) (n m : ℕ) → counted t n ≡ Packets m → (t ≡ Passed) × (m ≡ n)
-unfolding counted
-counted-packets Passed n m e = (refl, cc)
-counted-packets (Stopped r) n m e = absurd (true≢false (cc))
-
-pub counted-refused : (t : Tested) (n : ℕ) (r : Refusal) → counted t n ≡ Refused r → t ≡ Stopped r
-unfolding counted
-counted-refused Passed n r e = absurd (true≢false (cc))
-counted-refused (Stopped q) n r e = cc
-
-pub count-packets : (sizes : List ℕ) (n : ℕ) → packetCount sizes ≡ Packets n → (productStage sizes ≡ Passed) × (n ≡ product sizes)
-unfolding packetCount
-count-packets sizes n e = counted-packets _ _ n e
-
-pub count-refused : (sizes : List ℕ) (r : Refusal) → packetCount sizes ≡ Refused r → productStage sizes ≡ Stopped r
-unfolding packetCount
-count-refused sizes r e = counted-refused _ _ r e

@@ -4,7 +4,7 @@ use Prim.Native.Nat.{ℕ, _<_, _≤_}
 use mathlib.Core.Bool.{Bool, true, false, _||_, true≢false}
 use mathlib.Core.List.{List, [], _∷_}
 use mathlib.Core.Option.{Option, none, some}
-use mathlib.Core.Path.{_≡_, refl, ap, ap₂}
+use mathlib.Core.Path.{_≡_, refl, ap, ap₂, _∙_}
 use borrow.Author.Tests.{eq-eqb, ne-eqb, lt-ltb, le-ltb}
 use lib.ListN.{length}
 use Rattle.packet.specs.declared.Refusal.{Refusal}
@@ -30,20 +30,30 @@ pub firstOf-next : (t : Tested) (ts : List Tested) → t ≡ Passed → firstOf 
 unfolding firstOf
 firstOf-next t ts e = ap (λ (u : Tested). firstOf (u ∷ ts)) e
 
+-- an order within an order
+pub firstOf-nested : (t : Tested) (ts : List Tested) → firstOf (t ∷ firstOf ts ∷ []) ≡ firstOf (t ∷ ts)
+unfolding firstOf
+firstOf-nested Passed ts = firstOf-last (firstOf ts)
+firstOf-nested (Refused r) ts = refl
+
+-- a test before tests that were joined
+pub before-tests : {r u : Tested} (t : Tested) (ts : List Tested) → r ≡ firstOf (t ∷ u ∷ []) → u ≡ firstOf ts → r ≡ firstOf (t ∷ ts)
+before-tests t ts e f = e ∙ ap (λ (u : Tested). firstOf (t ∷ u ∷ [])) f ∙ firstOf-nested t ts
+
 -- ---- an order that passes: each of its tests passes
 
-passed≢refused : {r : Refusal} → Refused r ≡ Passed → ⊥
-passed≢refused q = true≢false (cc)
+pub refused≢passed : {r : Refusal} → Refused r ≡ Passed → ⊥
+refused≢passed q = true≢false (cc)
 
 pub firstOf-passed : (t : Tested) (ts : List Tested) → firstOf (t ∷ ts) ≡ Passed → (t ≡ Passed) × (firstOf ts ≡ Passed)
 unfolding firstOf
 firstOf-passed Passed ts e = (refl, e)
-firstOf-passed (Refused r) ts e = absurd (passed≢refused e)
+firstOf-passed (Refused r) ts e = absurd (refused≢passed e)
 
 pub refusedAt-passed : (number side : ℕ) (o : Option ℕ) → refusedAt number side o ≡ Passed → o ≡ none
 unfolding refusedAt
 refusedAt-passed number side none e = refl
-refusedAt-passed number side (some i) e = absurd (passed≢refused e)
+refusedAt-passed number side (some i) e = absurd (refused≢passed e)
 
 pub atPlace-none : (place : ℕ) (b : Bool) → atPlace place b ≡ none → b ≡ false
 unfolding atPlace

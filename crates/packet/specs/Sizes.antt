@@ -2,12 +2,12 @@
 use Prim.Native.Nat.{ℕ, suc, _*_, _≤_, _<_}
 use mathlib.Core.Bool.{Bool, _||_}
 use mathlib.Core.List.{List, [], _∷_}
+use mathlib.Core.Path.{_≡_}
 use lib.Dec.{ltb, eqb}
 use lib.ListN.{length, getD, take}
 use Rattle.packet.specs.declared.Counted.{Counted}
-use Rattle.packet.specs.declared.Counted.the-variants.{Packets, Refused as NotCounted}
 use Rattle.packet.specs.declared.Tested.{Tested}
-use Rattle.packet.specs.declared.Tested.the-variants.{Passed, Refused}
+use Rattle.packet.specs.declared.Tested.the-variants.{Passed}
 use Rattle.packet.specs.Lowest.{lowest}
 use Rattle.packet.specs.Refusals.{refusedAt, atZero, firstOf}
 
@@ -36,13 +36,10 @@ fieldsStage sizes = firstOf (refusedAt 1 0 (atZero (badCount sizes)) ∷ refused
 unfoldable pub productStage : List ℕ → Tested
 productStage sizes = refusedAt 3 0 (lowest (productOver sizes) (length sizes))
 
--- the packet count where the stage passes
-unfoldable pub counted : Tested → ℕ → Counted
-counted Passed n = Packets n
-counted (Refused r) n = NotCounted r
-
-unfoldable pub packetCount : List ℕ → Counted
-packetCount sizes = counted (productStage sizes) (product sizes)
+-- the stage as it is tested, with the packet count where it passes
+pub record CountOf (sizes : List ℕ) (c : Counted) : Type 0 where
+  pub says : c .tested ≡ productStage sizes
+  pub counts : productStage sizes ≡ Passed → c .packets ≡ product sizes
 
 -- none of causes 1 to 3 holds
 pub record LegalSizes (sizes : List ℕ) : Type 0 where

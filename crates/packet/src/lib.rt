@@ -5,7 +5,7 @@ ghost use lib.ListN.{length};
 ghost use Rattle.packet.specs.Lowest.{lowest, optionOf};
 ghost use mathlib.Core.List.{[], _∷_};
 ghost use Rattle.packet.specs.Refusals.{refusedAt, firstOf};
-ghost use Rattle.packet.specs.Sizes.{zeroSize, fieldsStage, packetCount, LegalSizes};
+ghost use Rattle.packet.specs.Sizes.{zeroSize, fieldsStage, CountOf, LegalSizes};
 ghost use Rattle.packet.specs.Packets.{stride};
 
 // A numbered cause of document 01: its number, the side (0 none, 1 left, 2 right) and the place.
@@ -27,10 +27,10 @@ pub enum Place {
     Nowhere,
 }
 
-// The packet count N, or cause 3.
-pub enum Counted {
-    Packets(u16),
-    Refused(Refusal),
+// What stage "product" says, beside the packet count N, which counts where the stage passes.
+pub struct Counted {
+    pub tested: Tested,
+    pub packets: u16,
 }
 
 // Inner: a cause with the lowest place at which it holds.
@@ -91,22 +91,29 @@ fn wide(x: u16) -> u32
 
 // Inner: stage "product", cause 3, with the packet count where it passes.
 pub fn packet_count(sizes: &[u16]) -> Counted
-    ensures { λ r. ⌜ r ≡ packetCount (now (sizes .entry)) ⌝ }
+    ensures { λ r. ⌜ CountOf (now (sizes .entry)) r ⌝ }
 {
     let mut product: u32 = 1;
     let mut i = 0;
     while i < sizes.len() {
         product *= wide(sizes[i]);
         if 1024 < product {
-            return Counted::Refused(Refusal {
-                number: 3,
-                side: 0,
-                place: i as u64,
-            });
+            return Counted {
+                tested: Tested::Refused(Refusal {
+                    number: 3,
+                    side: 0,
+                    place: i as u64,
+                }),
+                packets: 0,
+            };
         }
         i += 1;
     }
-    Counted::Packets(product as u16)
+    let packets = product as u16;
+    Counted {
+        tested: Tested::Passed,
+        packets,
+    }
 }
 
 // Inner: how far apart two packets are that differ by one in the field alone.

@@ -10,14 +10,14 @@ use native.Mathlib.Omega.{arith}
 use lib.Dec.{ltb, eqb}
 use lib.ListN.{length}
 use borrow.Author.Tests.{eqb-true, eqb-false, ltb-false, not-false, eq-eqb, ne-eqb, le-ltb}
-use Rattle.packet.specs.Lowest.{lowest}
-use Rattle.packet.specs.Refusals.{refusedAt, atZero, atPlace, firstOf}
+use Rattle.packet.specs.Refusals.{refusedAt, atPlace, firstOf}
 use Rattle.packet.specs.declared.Tested.{Tested}
 use Rattle.packet.specs.declared.Tested.the-variants.{Passed}
 use Rattle.packet.proofs.Lowest.{lowest-none, none-lowest}
 use Rattle.packet.proofs.Stages.{firstOf-next, firstOf-passed, refusedAt-passed, atPlace-none}
 use Rattle.policy.specs.NodeLists.{NodeLists, nodeCount, nodeAt, children, dupsBelow}
-use Rattle.policy.specs.Legality.{badLengths, badKind, badEntries, badChild, notOnce, tooManyDups, maxDups, timesChild, Sided, cause, policiesStage, Legal}
+use Rattle.policy.specs.Legality.{badLengths, badKind, badEntries, badChild, notOnce, tooManyDups, maxDups, timesChild, Legal}
+use Rattle.policy.specs.Order.{Cause, causes, Sided, cause, policiesStage}
 use Rattle.policy.specs.Each.{Each}
 use Rattle.policy.proofs.EachLaws.{each-map, each-swap, or-false, below-each}
 use Rattle.policy.proofs.Trees.{ChildrenBelow}
@@ -78,20 +78,6 @@ module _ (L : NodeLists) where
   last-no-child below j zero h a = refl
   last-no-child below j (suc k) h a =
       omega (arith, last-no-child below j k (omega arith) (omega arith), no-child L below j k h (omega arith))
-
--- a cause's number, and its place in a policy
-abbrev pub Cause : Type 0
-Cause = ℕ × (NodeLists → Option ℕ)
-
-unfoldable pub causes : List ℕ → List Cause
-causes sizes =
-    (4, λ L. atZero (badLengths L))
-    ∷ (5, λ L. lowest (badKind L) (nodeCount L))
-    ∷ (6, λ L. lowest (badEntries sizes L) (nodeCount L))
-    ∷ (7, λ L. lowest (badChild L) (nodeCount L))
-    ∷ (8, λ L. lowest (notOnce L) (pred (nodeCount L)))
-    ∷ (9, λ L. lowest (tooManyDups L) (nodeCount L))
-    ∷ []
 
 -- none of causes 4 to 9 has a place
 NoCause : List ℕ → NodeLists → Type 0
@@ -161,7 +147,8 @@ module _ (sizes : List ℕ) (L : NodeLists) where
         ),
       )
 
-firstOf-each : (ts : List Tested) → (firstOf ts ≡ Passed) ↔ Each (λ t. t ≡ Passed) ts
+-- an order passes where each of its tests does
+pub firstOf-each : (ts : List Tested) → (firstOf ts ≡ Passed) ↔ Each (λ t. t ≡ Passed) ts
 unfolding firstOf Each
 firstOf-each [] = (λ e. tt, λ e. refl)
 firstOf-each (t ∷ ts) =

@@ -9,6 +9,7 @@ pub mod Numbered
 pub mod FoldLaws
 pub mod Readings
 pub mod LegalityLaws
+pub mod OrderLaws
 pub mod Postfix
 pub mod Nodes
 pub mod ReadLaws

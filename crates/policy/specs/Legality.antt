@@ -1,14 +1,10 @@
--- Causes 4 to 9 of document 01, over any list of policies.
+-- Causes 4 to 9 of document 01, each by itself; their order is in `Order`.
 use Prim.Native.Nat.{ℕ, zero, suc, pred, _+_, _≤_, _<_}
 use mathlib.Core.Bool.{Bool, false, not, _||_}
-use mathlib.Core.List.{List, [], _∷_, map}
-use mathlib.Core.Option.{Option}
+use mathlib.Core.List.{List, [], _∷_}
 use mathlib.Core.Path.{_≡_}
 use lib.Dec.{leb, ltb, eqb}
 use lib.ListN.{length, getD}
-use Rattle.packet.specs.Lowest.{lowest}
-use Rattle.packet.specs.Refusals.{refusedAt, atZero, firstOf}
-use Rattle.packet.specs.declared.Tested.{Tested}
 use Rattle.policy.specs.declared.FieldAction.{FieldAction}
 use Rattle.policy.specs.declared.FieldAction.the-variants.{Equals, Differs, Set}
 use Rattle.policy.specs.Tree.{Policy}
@@ -76,27 +72,6 @@ maxDups = 31
 -- cause 9: with node i there are too many dups
 unfoldable pub tooManyDups : NodeLists → ℕ → Bool
 tooManyDups L i = ltb maxDups (dupsBelow L (suc i))
-
--- a policy and the side that its refusals name
-pub record Sided : Type 0 where
-  pub side : ℕ
-  pub lists : NodeLists
-
--- one cause, tested on each policy in order
-unfoldable pub cause : ℕ → (NodeLists → Option ℕ) → List Sided → Tested
-cause number place policies = firstOf (map (λ (p : Sided). refusedAt number (p .side) (place (p .lists))) policies)
-
--- stage "policies": causes 4 to 9, each on every policy before the next
-unfoldable pub policiesStage : List ℕ → List Sided → Tested
-policiesStage sizes policies =
-    firstOf
-    (cause 4 (λ L. atZero (badLengths L)) policies
-    ∷ cause 5 (λ L. lowest (badKind L) (nodeCount L)) policies
-    ∷ cause 6 (λ L. lowest (badEntries sizes L) (nodeCount L)) policies
-    ∷ cause 7 (λ L. lowest (badChild L) (nodeCount L)) policies
-    ∷ cause 8 (λ L. lowest (notOnce L) (pred (nodeCount L))) policies
-    ∷ cause 9 (λ L. lowest (tooManyDups L) (nodeCount L)) policies
-    ∷ [])
 
 -- what evaluation asks of the lists; the tree of any node of well-formed lists serves as a policy
 pub record WellFormed (sizes : List ℕ) (L : NodeLists) : Type 0 where

@@ -2,7 +2,7 @@ pub mod Tree
 pub mod Meaning
 pub mod NodeLists
 pub mod Legality
-pub mod Tests
+pub mod Order
 pub mod NodesOfTree
 pub mod Each
 pub mod Visits

@@ -1,6 +1,7 @@
 // Policies as node lists (document 01, "Policies").
 
 pub mod lent;
+pub mod order;
 
 // A test or a change of one field, with the field's number and the value.
 pub enum FieldAction {

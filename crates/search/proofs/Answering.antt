@@ -8,11 +8,10 @@ use lib.Seq.{take-append-seam}
 use Rattle.packet.specs.declared.Refusal.{Refusal}
 use Rattle.packet.specs.declared.Tested.{Tested}
 use Rattle.packet.specs.declared.Tested.the-variants.{Passed, Refused as Stopped}
-use Rattle.packet.specs.declared.Counted.{Counted}
-use Rattle.packet.specs.declared.Counted.the-variants.{Packets, Refused as NotCounted}
 use Rattle.packet.specs.Refusals.{refusal}
-use Rattle.packet.specs.Sizes.{product, counted}
-use Rattle.packet.proofs.Sizes.{counted-packets, counted-refused}
+use Rattle.packet.specs.Sizes.{product}
+use Rattle.legality.specs.declared.PairTested.{PairTested}
+use Rattle.legality.specs.Answers.{FrontOf}
 use Rattle.policy.specs.NodeLists.{NodeLists}
 use Rattle.system.specs.RowOrder.{NeedsMore}
 use Rattle.pair.specs.Sides.{Side, left, right, policies}
@@ -21,10 +20,10 @@ use Rattle.pair.specs.Search.{SearchAnswer, equal, different, rowsFull, traceSh
 use Rattle.pair.proofs.Lawful.{EvaluablePair, legal-pair}
 use Rattle.pair.proofs.Verdicts as verdicts
 use Rattle.index.specs.Appending.{Lists, lists}
-use Rattle.lent.specs.Lent.{listsStage, rowsMisfit, lentTests}
+use Rattle.lent.specs.Lent.{listsStage, rowsMisfit}
 use Rattle.packet.specs.Written.{written}
 use Rattle.rows.proofs.Searching.{holds}
-use Rattle.lent.proofs.Testing.{tests-passed, lists-passed, row-list-fits, rows-few}
+use Rattle.lent.proofs.Testing.{front-tests, tests-passed, lists-passed, row-list-fits, rows-few}
 use Rattle.verdict.specs.declared.Stop.{Stop}
 use Rattle.verdict.specs.declared.Verdict.{Verdict}
 use Rattle.verdict.specs.declared.Verdict.the-variants.{Equal, Full, Refused}
@@ -86,16 +85,16 @@ refused-telling r right n α e = let z : _≡_ {A = ℕ} 0 1 = cc in zero≢one 
 -- ---- the tests
 
 -- the tests as they were made
-module _ (sizes : List ℕ) (L R : NodeLists) (x : Lent) {stage : Tested} (is : stage ≡ listsStage (length (x .packets) ∷ length (x .lefts) ∷ length (x .rights) ∷ length (x .parents) ∷ []) (length (x .work))) {found : Counted} (e : found ≡ counted (lentTests sizes L R stage) (product sizes)) where
-  tests-are : lentTests sizes L R stage ≡ searchTests sizes L R x
+module _ (sizes : List ℕ) (L R : NodeLists) (x : Lent) {said : Tested} (is : said ≡ listsStage (length (x .packets) ∷ length (x .lefts) ∷ length (x .rights) ∷ length (x .parents) ∷ []) (length (x .work))) {q : PairTested} (f : FrontOf sizes L R said q) where
+  tests-are : q .tested ≡ searchTests sizes L R x
   unfolding searchTests
-  tests-are = ap (lentTests sizes L R) is
+  tests-are = front-tests sizes L R _ is f
 
-  pub tests-refuse : (r : Refusal) → found ≡ NotCounted r → searchTests sizes L R x ≡ Stopped r
-  tests-refuse r f = sym tests-are ∙ counted-refused _ _ r (sym e ∙ f)
+  pub tests-refuse : (r : Refusal) → q .tested ≡ Stopped r → searchTests sizes L R x ≡ Stopped r
+  tests-refuse r e = sym tests-are ∙ e
 
-  pub tests-pass : (n : ℕ) → found ≡ Packets n → (searchTests sizes L R x ≡ Passed) × (n ≡ product sizes)
-  tests-pass n f = let h = counted-packets _ _ n (sym e ∙ f) in (sym tests-are ∙ h .0, h .1)
+  pub tests-pass : q .tested ≡ Passed → (searchTests sizes L R x ≡ Passed) × (q .packets ≡ product sizes)
+  tests-pass e = (sym tests-are ∙ e, f .packets e)
 
 module _ {sizes : List ℕ} {L R : NodeLists} {x : Lent} where
   -- ---- where no cause of 1 to 10 holds

@@ -12,7 +12,7 @@ use index::Mask;
 use index::POLICIES;
 use loaded::Nodes;
 use loaded::Tests;
-use packet::Counted;
+use packet::Tested;
 use round::Handled;
 use rows::Progress;
 use verdict::Ended;
@@ -268,7 +268,7 @@ pub fn search(
         parents.len(),
         work.len(),
     );
-    match lent::lent_tests(
+    let found = legality::front(
         sizes,
         left_kind,
         left_first,
@@ -277,9 +277,12 @@ pub fn search(
         right_first,
         right_second,
         lists,
-    ) {
-        Counted::Refused(r) => Verdict::Refused(r),
-        Counted::Packets(count) => search_accepted(
+    );
+    let tested = found.tested;
+    let count = found.packets;
+    match tested {
+        Tested::Refused(r) => Verdict::Refused(r),
+        Tested::Passed => search_accepted(
             sizes,
             count,
             left_kind,

@@ -9,10 +9,11 @@ use Rattle.packet.specs.declared.Refusal.{Refusal}
 use Rattle.packet.specs.declared.Tested.{Tested}
 use Rattle.packet.specs.declared.Tested.the-variants.{Passed, Refused as Stopped}
 use Rattle.packet.specs.Refusals.{firstOf}
-use Rattle.packet.specs.Sizes.{fieldsStage, productStage, product}
+use Rattle.packet.specs.Sizes.{fieldsStage, CountOf}
+use Rattle.packet.specs.declared.Counted.{Counted}
 use Rattle.packet.proofs.Stages.{firstOf-next, firstOf-last, firstOf-refused, firstOf-passed}
-use Rattle.policy.specs.Tests.{sided}
-use Rattle.policy.specs.Legality.{policiesStage}
+use Rattle.policy.specs.Order.{inOrder, causes, cause, policiesStage, stagesOf, pairOf}
+use Rattle.policy.proofs.OrderLaws as order
 use Rattle.policy.specs.Meaning.{Traces, numbered, SameTraces, SameTracesBelow}
 use Rattle.policy.specs.NodeLists.{NodeLists, policyOf}
 use Rattle.policy.specs.NodesOfTree.{treeSize}
@@ -102,13 +103,6 @@ refused-telling right n α e = zero≢one (let z : _≡_ {A = ℕ} 0 1 = cc in z
 refused-full : {r q : Refusal} → Refused r ≡ Full q → ⊥
 refused-full e = zero≢one (let z : _≡_ {A = ℕ} 0 1 = cc in z)
 
--- a refusal by the first two tests, whatever follows
-early : (a b : Tested) (ts : List Tested) (r : Refusal) → firstOf (a ∷ b ∷ []) ≡ Stopped r → firstOf (a ∷ b ∷ ts) ≡ Stopped r
-unfolding firstOf
-early Passed Passed ts r e = absurd (passed≢stopped e)
-early Passed (Stopped q) ts r e = e
-early (Stopped q) b ts r e = e
-
 module _ (sizes left-text right-text : List ℕ) (x : Lent) where
   refused-by : {r : Refusal} → textsTests sizes left-text right-text x ≡ Stopped r → TextsSearched sizes left-text right-text x (Refused r) x
   unfolding textsVerdict textsLeaves verdictAfter lentAfter
@@ -122,52 +116,47 @@ module _ (sizes left-text right-text : List ℕ) (x : Lent) where
         full-place = λ q f. absurd (refused-full f);
       }
 
-  -- causes 4 to 10
-  abbrev rest : List Tested
-  rest =
-      policiesStage sizes (sided 1 (textNodes left-text) ∷ sided 2 (textNodes right-text) ∷ [])
-      ∷ listsStage (length (x .packets) ∷ length (x .lefts) ∷ length (x .rights) ∷ length (x .parents) ∷ []) (length (x .work))
-      ∷ []
-
-  abbrev sizesTests : Tested
-  sizesTests = firstOf (fieldsStage sizes ∷ productStage sizes ∷ [])
-
-  pub sizes-refused : {r : Refusal} → sizesTests ≡ Stopped r → TextsSearched sizes left-text right-text x (Refused r) x
-  unfolding textsTests
-  sizes-refused {r} e = refused-by (early (fieldsStage sizes) (productStage sizes) (textStage left-text ∷ textStage right-text ∷ rest) r e)
-
-  after-sizes : {t : Tested} (ts : List Tested) → sizesTests ≡ Passed → firstOf ts ≡ t → firstOf (fieldsStage sizes ∷ productStage sizes ∷ ts) ≡ t
-  after-sizes ts e q =
-      let p = firstOf-passed (fieldsStage sizes) (productStage sizes ∷ []) e in
-      firstOf-next (fieldsStage sizes) (productStage sizes ∷ ts) (p .0) ∙ firstOf-next (productStage sizes) ts (firstOf-passed (productStage sizes) [] (p .1) .0) ∙ q
+  abbrev lists : Tested
+  lists = listsStage (length (x .packets) ∷ length (x .lefts) ∷ length (x .rights) ∷ length (x .parents) ∷ []) (length (x .work))
 
   abbrev textTests : Tested
   textTests = firstOf (textStage left-text ∷ textStage right-text ∷ [])
 
-  pub sizes-passed : {v : Verdict} {y : Lent} → sizesTests ≡ Passed → Ran textTests sizes (textNodes left-text) (textNodes right-text) x v y → TextsSearched sizes left-text right-text x v y
-  unfolding textsTests searchTests lentTests searchVerdict searchLeaves textsVerdict textsLeaves
-  sizes-passed {v} {y} e ran = go textTests refl
-    where
-      searched : textTests ≡ Passed → Searched sizes (textNodes left-text) (textNodes right-text) x v y → TextsSearched sizes left-text right-text x v y
-      searched q s =
-          let p = firstOf-passed (textStage left-text) (textStage right-text ∷ []) q in
-          let l : textStage left-text ≡ Passed = p .0 in
-          let r : textStage right-text ≡ Passed = firstOf-passed (textStage right-text) [] (p .1) .0 in
-          let same : textsTests sizes left-text right-text x ≡ searchTests sizes (textNodes left-text) (textNodes right-text) x =
-          after-sizes (textStage left-text ∷ textStage right-text ∷ rest) e (firstOf-next (textStage left-text) (textStage right-text ∷ rest) l ∙ firstOf-next (textStage right-text) rest r) ∙ sym (after-sizes rest e refl) in
-          record {
-            answers = s .answers ∙ sym (ap (λ (t : Tested). verdictAfter t (textsAnswer sizes left-text right-text x)) same);
-            leaves = s .leaves ∙ sym (ap (λ (t : Tested). lentAfter t (textsRows sizes left-text right-text x) (textsAnswer sizes left-text right-text x) x) same);
-            equal-same = λ rows f. texts-same sizes left-text right-text l r (s .equal-same rows f);
-            different-tells = λ sd n α f. (let t = s .different-tells sd n α f in record { long = t .long; tells = texts-tell sizes left-text right-text l r sd α (take n (y .trace)) (t .tells) });
-            full-exactly = λ f. s .full-exactly (sym same ∙ f);
-            full-place = s .full-place;
-          }
+  -- the tests of the sizes as they were made
+  module _ {c : Counted} (counted : CountOf sizes c) {f t : Tested} (fields : f ≡ fieldsStage sizes)
+      (made : t ≡ inOrder (record { fields = f; product = c .tested; texts = Passed; policies = Passed; lists = Passed; packets = Passed })) where
+    made-as : inOrder (stagesOf sizes Passed [] Passed Passed) ≡ t
+    unfolding stagesOf policiesStage causes cause firstOf
+    made-as = sym (made ∙ rw (fields, counted .says) refl)
 
-      go : (t : Tested) → textTests ≡ t → TextsSearched sizes left-text right-text x v y
-      go Passed q = searched q (ran .searched q)
-      go (Stopped r) q =
-          let p = ran .stopped r q in
-          subst (λ (z : Lent). TextsSearched sizes left-text right-text x v z) (sym (p .1))
-          (subst (λ (w : Verdict). TextsSearched sizes left-text right-text x w x) (sym (p .0))
-          (refused-by (after-sizes (textStage left-text ∷ textStage right-text ∷ rest) e (early (textStage left-text) (textStage right-text) rest r q))))
+    pub sizes-refused : {r : Refusal} → t ≡ Stopped r → TextsSearched sizes left-text right-text x (Refused r) x
+    unfolding textsTests
+    sizes-refused e = refused-by (order.sizes-refused sizes _ _ _ _ (made-as ∙ e))
+
+    pub sizes-passed : {v : Verdict} {y : Lent} → t ≡ Passed → Ran textTests sizes (textNodes left-text) (textNodes right-text) x v y → TextsSearched sizes left-text right-text x v y
+    unfolding textsTests searchTests lentTests searchVerdict searchLeaves textsVerdict textsLeaves
+    sizes-passed {v} {y} e ran = go textTests refl
+      where
+        searched : textTests ≡ Passed → Searched sizes (textNodes left-text) (textNodes right-text) x v y → TextsSearched sizes left-text right-text x v y
+        searched q s =
+            let p = firstOf-passed (textStage left-text) (textStage right-text ∷ []) q in
+            let l : textStage left-text ≡ Passed = p .0 in
+            let r : textStage right-text ≡ Passed = firstOf-passed (textStage right-text) [] (p .1) .0 in
+            let same : textsTests sizes left-text right-text x ≡ searchTests sizes (textNodes left-text) (textNodes right-text) x =
+            ap (λ (u : Tested). inOrder (stagesOf sizes u (pairOf (textNodes left-text) (textNodes right-text)) lists Passed)) q in
+            record {
+              answers = s .answers ∙ sym (ap (λ (t : Tested). verdictAfter t (textsAnswer sizes left-text right-text x)) same);
+              leaves = s .leaves ∙ sym (ap (λ (t : Tested). lentAfter t (textsRows sizes left-text right-text x) (textsAnswer sizes left-text right-text x) x) same);
+              equal-same = λ rows f. texts-same sizes left-text right-text l r (s .equal-same rows f);
+              different-tells = λ sd n α f. (let t = s .different-tells sd n α f in record { long = t .long; tells = texts-tell sizes left-text right-text l r sd α (take n (y .trace)) (t .tells) });
+              full-exactly = λ f. s .full-exactly (sym same ∙ f);
+              full-place = s .full-place;
+            }
+
+        go : (t : Tested) → textTests ≡ t → TextsSearched sizes left-text right-text x v y
+        go Passed q = searched q (ran .searched q)
+        go (Stopped r) q =
+            let p = ran .stopped r q in
+            subst (λ (z : Lent). TextsSearched sizes left-text right-text x v z) (sym (p .1))
+            (subst (λ (w : Verdict). TextsSearched sizes left-text right-text x w x) (sym (p .0))
+            (refused-by (order.texts-refused sizes _ _ _ _ (made-as ∙ e) q)))

@@ -8,9 +8,7 @@ use Rattle.packet.specs.declared.Refusal.{Refusal}
 use Rattle.packet.specs.declared.Tested.{Tested}
 use Rattle.packet.specs.declared.Tested.the-variants.{Passed, Refused as Stopped}
 use Rattle.packet.specs.Refusals.{refusal, firstOf}
-use Rattle.packet.specs.Sizes.{fieldsStage, productStage}
-use Rattle.policy.specs.Tests.{sided}
-use Rattle.policy.specs.Legality.{policiesStage}
+use Rattle.policy.specs.Order.{inOrder, stagesOf, pairOf}
 use Rattle.policy.specs.Meaning.{SameTracesBelow}
 use Rattle.policy.specs.NodeLists.{NodeLists, nodeCount, dupsBelow}
 use Rattle.policy.specs.NodesOfTree.{nodesOf}
@@ -45,14 +43,9 @@ module _ (sizes left right : List ℕ) (x : Lent) where
   -- causes 1 to 3; 14 to 17 on the left text, then on the right; 4 to 9; 10
   unfoldable pub textsTests : Tested
   textsTests =
-      firstOf
-      (fieldsStage sizes
-      ∷ productStage sizes
-      ∷ textStage left
-      ∷ textStage right
-      ∷ policiesStage sizes (sided 1 (textNodes left) ∷ sided 2 (textNodes right) ∷ [])
-      ∷ listsStage (length (x .packets) ∷ length (x .lefts) ∷ length (x .rights) ∷ length (x .parents) ∷ []) (length (x .work))
-      ∷ [])
+      inOrder
+      (stagesOf sizes (firstOf (textStage left ∷ textStage right ∷ [])) (pairOf (textNodes left) (textNodes right))
+      (listsStage (length (x .packets) ∷ length (x .lefts) ∷ length (x .rights) ∷ length (x .parents) ∷ []) (length (x .work))) Passed)
 
   -- the theory's answer and rows, as for the search on the texts' nodes
   abbrev pub textsAnswer : SearchAnswer

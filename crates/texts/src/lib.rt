@@ -1,29 +1,14 @@
 // The search on two texts (document 01, "Causes, in the order tested": a call on two texts).
-ghost use mathlib.Core.Path.{_≡_};
 ghost use mathlib.Core.List.{[], _∷_};
 ghost use Rattle.packet.specs.Refusals.{firstOf};
-ghost use Rattle.packet.specs.Sizes.{fieldsStage, productStage};
 ghost use Rattle.policy.specs.AsLists.{asLists};
 ghost use Rattle.search.specs.Call.{lent};
 ghost use Rattle.texts.specs.Call.{textNodes, textStage, Ran, TextsSearched};
 use grammar::Answer;
 use index::Mask;
-use packet::Counted;
 use packet::Tested;
+use policy::order::Stages;
 use verdict::Verdict;
-
-// Causes 1 to 3.
-fn sizes_stage(sizes: &[u16]) -> Tested
-    ensures { λ r. ⌜ r ≡ firstOf (fieldsStage (now (sizes .entry)) ∷ productStage (now (sizes .entry)) ∷ []) ⌝ }
-{
-    match packet::fields_stage(sizes) {
-        Tested::Refused(r) => Tested::Refused(r),
-        Tested::Passed => match packet::packet_count(sizes) {
-            Counted::Refused(r) => Tested::Refused(r),
-            Counted::Packets(_) => Tested::Passed,
-        },
-    }
-}
 
 // The right text is read, and the search is run on it and the left text's nodes.
 fn search_right(
@@ -99,7 +84,8 @@ fn search_left(
     }
 }
 
-// Whether two texts have the same traces from every packet. The row lists, the trace list and the work list are as for the search on node lists.
+// Whether two texts have the same traces from every packet. What comes before the texts is tested here, what comes after them by the
+// search on node lists. The row lists, the trace list and the work list are as for the search on node lists.
 pub fn search(
     sizes: &[u16],
     left: &[u8],
@@ -113,7 +99,18 @@ pub fn search(
 ) -> Verdict
     ensures { λ r. ⌜ TextsSearched (now (sizes .entry)) (now (left .entry)) (now (right .entry)) (lent (now (packets .entry)) (now (lefts .entry)) (now (rights .entry)) (now (parents .entry)) (now (trace .entry)) (now (work .entry))) r (lent (now (packets .exit)) (now (lefts .exit)) (now (rights .exit)) (now (parents .exit)) (now (trace .exit)) (now (work .exit))) ⌝ }
 {
-    match sizes_stage(sizes) {
+    let fields = packet::fields_stage(sizes);
+    let counted = packet::packet_count(sizes);
+    let product = counted.tested;
+    let tested = policy::order::in_order(Stages {
+        fields,
+        product,
+        texts: Tested::Passed,
+        policies: Tested::Passed,
+        lists: Tested::Passed,
+        packets: Tested::Passed,
+    });
+    match tested {
         Tested::Refused(r) => Verdict::Refused(r),
         Tested::Passed => search_left(
             sizes,

@@ -12,7 +12,7 @@ use Rattle.packet.specs.declared.Refusal.{Refusal}
 use Rattle.packet.specs.declared.Tested.{Tested}
 use Rattle.packet.specs.declared.Tested.the-variants.{Passed, Refused}
 use Rattle.packet.specs.Sizes.{product}
-use Rattle.policy.specs.Tests.{pairTests}
+use Rattle.policy.specs.Order.{pairTests}
 use Rattle.policy.specs.Legality.{Legal}
 use Rattle.policy.specs.NodeLists.{NodeLists}
 use Rattle.automaton.proofs.Laws.{traces-below}

@@ -1,28 +1,30 @@
 -- The order of the tests, and what holds where they pass. Assumes nothing.
 use Prim.Native.Nat.{ℕ, zero, suc, _<_, _≤_}
 use mathlib.Core.Bool.{false}
-use mathlib.Core.List.{List, []}
+use mathlib.Core.List.{List, [], _∷_}
 use mathlib.Core.Option.{Option, none, some}
 use mathlib.Core.Path.{_≡_, refl, sym, ap, _∙_}
 use native.Mathlib.Omega.{arith}
 use borrow.Author.Tests.{le-leb, lt-leb, leb-false}
 use lib.ListN.{length, getD}
-use Rattle.packet.specs.declared.Counted.{Counted}
 use Rattle.packet.specs.declared.Refusal.{Refusal}
 use Rattle.packet.specs.declared.Tested.{Tested}
 use Rattle.packet.specs.declared.Tested.the-variants.{Passed, Refused}
 use Rattle.packet.specs.Lowest.{lowest}
-use Rattle.packet.specs.Refusals.{refusedAt}
-use Rattle.packet.specs.Sizes.{product, counted, LegalSizes}
+use Rattle.packet.specs.Refusals.{refusedAt, firstOf}
+use Rattle.packet.specs.Sizes.{product, LegalSizes}
 use Rattle.packet.proofs.Lowest.{lowest-none, none-lowest, lowest-more, lowest-found}
 use Rattle.packet.proofs.Stages.{firstOf-last, firstOf-refused, firstOf-next, firstOf-passed, refusedAt-passed}
-use Rattle.policy.specs.Tests.{pairTests}
+use Rattle.policy.specs.Order.{pairOf, pairTests}
+use Rattle.policy.proofs.OrderLaws.{packets-last}
+use Rattle.legality.specs.declared.PairTested.{PairTested}
+use Rattle.legality.specs.Answers.{FrontOf}
 use Rattle.policy.specs.Legality.{Legal}
 use Rattle.policy.specs.NodeLists.{NodeLists}
 use Rattle.lent.specs.Lent as rows
 use Rattle.lent.specs.Lent.{listsStage}
 use Rattle.lent.proofs.Testing as rows-laws
-use Rattle.lent.proofs.Testing.{tests-passed, lists-passed, work-passes}
+use Rattle.lent.proofs.Testing.{front-tests, tests-passed, lists-passed, work-passes}
 use Rattle.traces.specs.Checking.{badPacket, packetsStage, lentTests, traceTests}
 
 -- ---- cause 13, as a loop over the trace finds it
@@ -68,9 +70,10 @@ module _ (N α : ℕ) (trace : List ℕ) where
 -- ---- causes 1 to 10
 
 module _ (sizes : List ℕ) (L R : NodeLists) (words : ℕ) where
-  pub tests-made : {stage : Tested} {found : Counted} → stage ≡ listsStage [] words → found ≡ counted (rows.lentTests sizes L R stage) (product sizes) → found ≡ counted (lentTests sizes L R words) (product sizes)
+  -- the tests as they were made
+  pub tests-made : {said : Tested} {q : PairTested} → said ≡ listsStage [] words → FrontOf sizes L R said q → q .tested ≡ lentTests sizes L R words
   unfolding lentTests
-  tests-made e f = f ∙ ap (λ (t : Tested). counted (rows.lentTests sizes L R t) (product sizes)) e
+  tests-made e f = front-tests sizes L R _ e f
 
   -- what holds where they pass
   pub record Lent : Type 0 where
@@ -93,14 +96,15 @@ module _ (sizes : List ℕ) (L R : NodeLists) (words : ℕ) where
   -- ---- then 13
 
   module _ (α : ℕ) (trace : List ℕ) where
+    then-packets : traceTests sizes L R α trace words ≡ firstOf (lentTests sizes L R words ∷ packetsStage (product sizes) α trace ∷ [])
+    unfolding traceTests lentTests rows.lentTests
+    then-packets = packets-last sizes Passed (pairOf L R) _ _
+
     pub trace-refused : (r : Refusal) → lentTests sizes L R words ≡ Refused r → traceTests sizes L R α trace words ≡ Refused r
-    unfolding traceTests
-    trace-refused r e = firstOf-refused _ _ r e
+    trace-refused r e = then-packets ∙ firstOf-refused _ _ r e
 
     pub trace-tested : lentTests sizes L R words ≡ Passed → traceTests sizes L R α trace words ≡ packetsStage (product sizes) α trace
-    unfolding traceTests
-    trace-tested e = firstOf-next _ _ e ∙ firstOf-last _
+    trace-tested e = then-packets ∙ firstOf-next _ _ e ∙ firstOf-last _
 
     pub trace-passed : traceTests sizes L R α trace words ≡ Passed → (lentTests sizes L R words ≡ Passed) × (packetsStage (product sizes) α trace ≡ Passed)
-    unfolding traceTests
-    trace-passed e = let f = firstOf-passed _ _ e in (f .0, firstOf-passed _ _ (f .1) .0)
+    trace-passed e = let f = firstOf-passed _ _ (sym then-packets ∙ e) in (f .0, firstOf-passed _ _ (f .1) .0)

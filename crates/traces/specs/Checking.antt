@@ -9,9 +9,10 @@ use lib.ListN.{length, getD}
 use Rattle.packet.specs.declared.Tested.{Tested}
 use Rattle.packet.specs.declared.Tested.the-variants.{Passed, Refused}
 use Rattle.packet.specs.Lowest.{lowest}
-use Rattle.packet.specs.Refusals.{refusedAt, firstOf}
+use Rattle.packet.specs.Refusals.{refusedAt}
 use Rattle.packet.specs.Sizes.{product, LegalSizes}
 use Rattle.policy.specs.Legality.{Legal}
+use Rattle.policy.specs.Order.{inOrder, stagesOf, pairOf}
 use Rattle.policy.specs.Meaning.{numbered, Traces}
 use Rattle.policy.specs.NodeLists.{NodeLists, nodeCount, dupsBelow, policyOf}
 use Rattle.automaton.specs.State.{hasTrace}
@@ -51,7 +52,7 @@ module _ (sizes : List ℕ) (L R : NodeLists) where
 
   -- the order of causes: 1 to 10, then 13
   unfoldable pub traceTests : ℕ → List ℕ → ℕ → Tested
-  traceTests α trace words = firstOf (lentTests words ∷ packetsStage (product sizes) α trace ∷ [])
+  traceTests α trace words = inOrder (stagesOf sizes Passed (pairOf L R) (listsStage [] words) (packetsStage (product sizes) α trace))
 
   -- the trace checker's answer
   unfoldable pub traceCall : ℕ → List ℕ → ℕ → TraceChecked

@@ -3,13 +3,11 @@ ghost use mathlib.Core.Path.{_≡_};
 ghost use Prim.Native.Nat.{suc};
 ghost use lib.ListN.{length};
 ghost use Rattle.packet.specs.Lowest.{lowest, optionOf};
-ghost use Rattle.packet.specs.Sizes.{counted, product};
 ghost use Rattle.policy.specs.AsLists.{asLists};
 ghost use Rattle.pair.specs.TraceCheck.{answerOf};
-ghost use Rattle.traces.specs.Checking.{badPacket, checkedAs, lentTests, Checked, FollowReady, Followed, LoadedReady, LoadedFollowed};
+ghost use Rattle.traces.specs.Checking.{badPacket, checkedAs, Checked, FollowReady, Followed, LoadedReady, LoadedFollowed};
 use loaded::Nodes;
 use loaded::Tests;
-use packet::Counted;
 use packet::Place;
 use packet::Refusal;
 use packet::Tested;
@@ -40,31 +38,6 @@ fn lowest_bad(count: u16, entering: u16, trace: &[u16]) -> Place
         i = place;
     }
     Place::Nowhere
-}
-
-// Causes 1 to 10; the packet count where all pass.
-fn lent_stage(
-    sizes: &[u16],
-    left_kind: &[u8],
-    left_first: &[u16],
-    left_second: &[u16],
-    right_kind: &[u8],
-    right_first: &[u16],
-    right_second: &[u16],
-    work: usize,
-) -> Counted
-    ensures { λ r. ⌜ r ≡ counted (lentTests (now (sizes .entry)) (asLists (now («left_kind» .entry)) (now («left_first» .entry)) (now («left_second» .entry))) (asLists (now («right_kind» .entry)) (now («right_first» .entry)) (now («right_second» .entry))) work) (product (now (sizes .entry))) ⌝ }
-{
-    lent::lent_tests(
-        sizes,
-        left_kind,
-        left_first,
-        left_second,
-        right_kind,
-        right_first,
-        right_second,
-        lent::work_list(work),
-    )
 }
 
 fn wide(x: u16) -> usize
@@ -172,7 +145,8 @@ pub fn check(
 ) -> TraceChecked
     ensures { λ r. ⌜ Checked (now (sizes .entry)) (asLists (now («left_kind» .entry)) (now («left_first» .entry)) (now («left_second» .entry))) (asLists (now («right_kind» .entry)) (now («right_first» .entry)) (now («right_second» .entry))) entering (now (trace .entry)) (now (work .entry)) r (now (work .exit)) ⌝ }
 {
-    match lent_stage(
+    let lists = lent::work_list(work.len());
+    let found = legality::front(
         sizes,
         left_kind,
         left_first,
@@ -180,10 +154,13 @@ pub fn check(
         right_kind,
         right_first,
         right_second,
-        work.len(),
-    ) {
-        Counted::Refused(r) => TraceChecked::Refused(r),
-        Counted::Packets(count) => {
+        lists,
+    );
+    let tested = found.tested;
+    let count = found.packets;
+    match tested {
+        Tested::Refused(r) => TraceChecked::Refused(r),
+        Tested::Passed => {
             lent::clear(work);
             match packet::refused_at(13, 0, lowest_bad(count, entering, trace)) {
                 Tested::Refused(r) => TraceChecked::Refused(r),

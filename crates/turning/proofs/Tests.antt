@@ -2,91 +2,91 @@
 -- Assumes nothing.
 use Prim.Native.Nat.{ℕ, suc, _<_, _≤_, suc-le-suc}
 use native.Mathlib.Omega.{arith}
-use mathlib.Core.Bool.{Bool, not}
+use mathlib.Core.Bool.{Bool}
 use mathlib.Core.List.{List, [], _∷_}
-use mathlib.Core.Option.{none}
-use mathlib.Core.Path.{_≡_, ap, _∙_, subst}
+use mathlib.Core.Option.{Option, none}
+use mathlib.Core.Path.{_≡_, refl, sym, ap, _∙_}
 use borrow.Author.Tests.{eq-eqb, ne-eqb, eqb-true, le-leb, lt-leb, leb-false, not-false}
-use lib.Dec.{eqb}
 use lib.ListN.{length, getD}
+use Rattle.packet.specs.declared.Counted.{Counted}
 use Rattle.packet.specs.declared.Refusal.{Refusal}
+use Rattle.packet.specs.declared.Tested.{Tested}
 use Rattle.packet.specs.declared.Tested.the-variants.{Passed, Refused}
 use Rattle.packet.specs.Lowest.{lowest}
-use Rattle.packet.specs.Refusals.{refusal, refusedAt, atPlace}
-use Rattle.packet.specs.Sizes.{fieldsStage, productStage, product, LegalSizes}
+use Rattle.packet.specs.Refusals.{refusal, refusedAt, atPlace, firstOf}
+use Rattle.packet.specs.Sizes.{fieldsStage, productStage, product, CountOf, LegalSizes}
 use Rattle.packet.specs.Packets.{Declared}
 use Rattle.packet.proofs.Lowest.{lowest-none}
-use Rattle.packet.proofs.Legal.{passed-legal}
 use Rattle.packet.proofs.Stages.{firstOf-last, firstOf-refused, firstOf-next, firstOf-passed, refusedAt-passed, atPlace-none}
-use Rattle.turning.specs.Turning.{lengthTests, valuesTests, badValue, numberTests}
+use Rattle.policy.specs.Order.{inOrder, causes, cause, policiesStage, stagesOf}
+use Rattle.policy.proofs.OrderLaws.{passing, sizes-legal, packets-counted}
+use Rattle.turning.specs.Turning.{lengthTest, numberStage, valuesTests, badValue, valuesStage, numberTests}
 
-module _ (sizes : List ℕ) (len : ℕ) where
-  pub fields-refused : (r : Refusal) → fieldsStage sizes ≡ Refused r → lengthTests sizes len ≡ Refused r
-  unfolding lengthTests
-  fields-refused r e = firstOf-refused _ _ r e
+-- ---- cause 13
 
-  pub product-refused : (r : Refusal) → fieldsStage sizes ≡ Passed → productStage sizes ≡ Refused r → lengthTests sizes len ≡ Refused r
-  unfolding lengthTests
-  product-refused r f e = firstOf-next _ _ f ∙ firstOf-refused _ _ r e
+module _ (k len : ℕ) where
+  pub length-refused : (len ≡ k → ⊥) → Refused (refusal 13 0 k) ≡ lengthTest k len
+  unfolding lengthTest refusedAt atPlace
+  length-refused d = rw (ne-eqb len k d) refl
 
-  sizes-passed : fieldsStage sizes ≡ Passed → productStage sizes ≡ Passed
-      → lengthTests sizes len ≡ refusedAt 13 0 (atPlace (length sizes) (not (eqb len (length sizes))))
-  unfolding lengthTests
-  sizes-passed f p = firstOf-next _ _ f ∙ firstOf-next _ _ p ∙ firstOf-last _
+  pub length-passed : len ≡ k → Passed ≡ lengthTest k len
+  unfolding lengthTest refusedAt atPlace
+  length-passed e = rw (eq-eqb len k e) refl
 
-  pub length-refused : fieldsStage sizes ≡ Passed → productStage sizes ≡ Passed → (len ≡ length sizes → ⊥)
-      → lengthTests sizes len ≡ Refused (refusal 13 0 (length sizes))
-  unfolding refusedAt atPlace
-  length-refused f p d =
-      sizes-passed f p ∙ ap (λ (b : Bool). refusedAt 13 0 (atPlace (length sizes) (not b))) (ne-eqb len (length sizes) d)
+  pub length-known : lengthTest k len ≡ Passed → len ≡ k
+  unfolding lengthTest
+  length-known e = eqb-true len k (not-false _ (atPlace-none k _ (refusedAt-passed 13 0 _ e)))
 
-  pub length-passed : fieldsStage sizes ≡ Passed → productStage sizes ≡ Passed → len ≡ length sizes → lengthTests sizes len ≡ Passed
-  unfolding refusedAt atPlace
-  length-passed f p e =
-      sizes-passed f p ∙ ap (λ (b : Bool). refusedAt 13 0 (atPlace (length sizes) (not b))) (eq-eqb len (length sizes) e)
+  module _ (count number : ℕ) where
+    pub number-length : {r : Refusal} → lengthTest k len ≡ Refused r → Refused r ≡ numberStage k count number len
+    unfolding numberStage
+    number-length e = sym (firstOf-refused _ _ _ e)
 
-  -- what holds where the sizes and the list's length pass
-  pub passed-sizes : lengthTests sizes len ≡ Passed → LegalSizes sizes
-  unfolding lengthTests
-  passed-sizes e =
-      let rest = firstOf-passed _ _ e in
-      passed-legal sizes (rest .0) (firstOf-passed _ _ (rest .1) .0)
+    pub number-refused : lengthTest k len ≡ Passed → count ≤ number → Refused (refusal 13 0 0) ≡ numberStage k count number len
+    unfolding numberStage refusedAt atPlace
+    number-refused e h = sym (firstOf-next _ _ e ∙ firstOf-last _ ∙ ap (λ (b : Bool). refusedAt 13 0 (atPlace 0 b)) (le-leb count number h))
 
-  pub passed-length : lengthTests sizes len ≡ Passed → len ≡ length sizes
-  unfolding lengthTests
-  passed-length e =
-      eqb-true len (length sizes)
-      (not-false _ (atPlace-none (length sizes) _ (refusedAt-passed 13 0 _ (firstOf-passed _ _ (firstOf-passed _ _ (firstOf-passed _ _ e .1) .1) .0))))
-
-module _ (sizes : List ℕ) (number len : ℕ) where
-  pub values-length-refused : (r : Refusal) → lengthTests sizes len ≡ Refused r → valuesTests sizes number len ≡ Refused r
-  unfolding valuesTests
-  values-length-refused r e = firstOf-refused _ _ r e
-
-  -- n is the packet count
-  pub values-refused : {n : ℕ} → lengthTests sizes len ≡ Passed → n ≡ product sizes → n ≤ number → valuesTests sizes number len ≡ Refused (refusal 13 0 0)
-  unfolding valuesTests refusedAt atPlace
-  values-refused e c h =
-      firstOf-next _ _ e
-      ∙ firstOf-last _
-      ∙ ap (λ (b : Bool). refusedAt 13 0 (atPlace 0 b)) (le-leb (product sizes) number (subst (λ (m : ℕ). m ≤ number) c h))
-
-  pub values-passed : {n : ℕ} → lengthTests sizes len ≡ Passed → n ≡ product sizes → number < n → valuesTests sizes number len ≡ Passed
-  unfolding valuesTests refusedAt atPlace
-  values-passed e c h =
-      firstOf-next _ _ e
-      ∙ firstOf-last _
-      ∙ ap (λ (b : Bool). refusedAt 13 0 (atPlace 0 b)) (lt-leb (product sizes) number (subst (λ (m : ℕ). number < m) c h))
+    pub number-passed : lengthTest k len ≡ Passed → number < count → Passed ≡ numberStage k count number len
+    unfolding numberStage refusedAt atPlace
+    number-passed e h = sym (firstOf-next _ _ e ∙ firstOf-last _ ∙ ap (λ (b : Bool). refusedAt 13 0 (atPlace 0 b)) (lt-leb count number h))
 
 module _ (sizes values : List ℕ) where
-  pub number-length-refused : (r : Refusal) → lengthTests sizes (length values) ≡ Refused r → numberTests sizes values ≡ Refused r
-  unfolding numberTests
-  number-length-refused r e = firstOf-refused _ _ r e
+  pub values-length : {r : Refusal} → lengthTest (length sizes) (length values) ≡ Refused r → Refused r ≡ valuesStage sizes values
+  unfolding valuesStage
+  values-length e = sym (firstOf-refused _ _ _ e)
 
-  pub number-tested : lengthTests sizes (length values) ≡ Passed
-      → numberTests sizes values ≡ refusedAt 13 0 (lowest (badValue sizes values) (length sizes))
+  pub values-tested : {t : Tested} {o : Option ℕ} → lengthTest (length sizes) (length values) ≡ Passed → t ≡ refusedAt 13 0 o → o ≡ lowest (badValue sizes values) (length sizes)
+      → t ≡ valuesStage sizes values
+  unfolding valuesStage
+  values-tested e f g = f ∙ ap (refusedAt 13 0) g ∙ sym (firstOf-next _ _ e ∙ firstOf-last _)
+
+-- ---- the tests as they were made
+
+module _ (sizes : List ℕ) {c : Counted} (counted : CountOf sizes c) {f t : Tested} (k : Tested) (fields : f ≡ fieldsStage sizes)
+    (made : t ≡ inOrder (record { fields = f; product = c .tested; texts = Passed; policies = Passed; lists = Passed; packets = k })) where
+  made-as : t ≡ inOrder (stagesOf sizes Passed [] Passed k)
+  unfolding stagesOf policiesStage causes cause firstOf
+  made-as = made ∙ rw (fields, counted .says) refl
+
+  pub values-made : (number len : ℕ) → k ≡ numberStage (length sizes) (c .packets) number len → t ≡ valuesTests sizes number len
+  unfolding valuesTests
+  values-made number len e =
+      made-as ∙ packets-counted sizes Passed [] Passed _ k (λ p. e ∙ ap (λ (n : ℕ). numberStage (length sizes) n number len) (counted .counts p))
+
+  pub number-made : (values : List ℕ) → k ≡ valuesStage sizes values → t ≡ numberTests sizes values
   unfolding numberTests
-  number-tested e = firstOf-next _ _ e ∙ firstOf-last _
+  number-made values e = made-as ∙ ap (λ (k : Tested). inOrder (stagesOf sizes Passed [] Passed k)) e
+
+-- ---- what holds where they pass
+
+module _ (sizes : List ℕ) (number len : ℕ) where
+  -- the sizes are legal, the list has a value for each field, and the number is below N
+  pub values-passed : valuesTests sizes number len ≡ Passed → LegalSizes sizes × (productStage sizes ≡ Passed) × (len ≡ length sizes) × (number < product sizes)
+  unfolding valuesTests numberStage
+  values-passed e =
+      let h = passing _ _ _ _ _ e in
+      let q = firstOf-passed _ _ (h .packets-pass) in
+      (sizes-legal _ _ _ _ _ h, h .product, length-known _ _ (q .0), leb-false _ _ (atPlace-none 0 _ (refusedAt-passed 13 0 _ (firstOf-passed _ _ (q .1) .0))))
 
 declared-by-values : (sizes values : List ℕ) → length values ≡ length sizes
     → ((i : ℕ) → i < length sizes → getD values i 0 < getD sizes i 0) → Declared sizes values
@@ -98,6 +98,13 @@ declared-by-values (s ∷ ss) (v ∷ vs) e h =
     (h 0 (omega arith), declared-by-values ss vs (omega arith) (λ i k. h (suc i) (suc-le-suc k)))
 
 -- no value is out of range: a declared packet
-pub none-bad : (sizes values : List ℕ) → length values ≡ length sizes → lowest (badValue sizes values) (length sizes) ≡ none → Declared sizes values
+none-bad : (sizes values : List ℕ) → length values ≡ length sizes → lowest (badValue sizes values) (length sizes) ≡ none → Declared sizes values
 unfolding badValue
 none-bad sizes values e n = declared-by-values sizes values e (λ i h. leb-false (getD sizes i 0) (getD values i 0) (lowest-none (badValue sizes values) (length sizes) n i h))
+
+pub declared-passed : (sizes values : List ℕ) → numberTests sizes values ≡ Passed → LegalSizes sizes × Declared sizes values
+unfolding numberTests valuesStage
+declared-passed sizes values e =
+    let h = passing _ _ _ _ _ e in
+    let q = firstOf-passed _ _ (h .packets-pass) in
+    (sizes-legal _ _ _ _ _ h, none-bad sizes values (length-known _ _ (q .0)) (refusedAt-passed 13 0 _ (firstOf-passed _ _ (q .1) .0)))

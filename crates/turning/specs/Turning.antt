@@ -8,21 +8,25 @@ use Rattle.packet.specs.declared.Tested.{Tested}
 use Rattle.packet.specs.declared.Tested.the-variants.{Passed, Refused}
 use Rattle.packet.specs.Lowest.{lowest}
 use Rattle.packet.specs.Refusals.{refusedAt, atPlace, atZero, firstOf}
-use Rattle.packet.specs.Sizes.{fieldsStage, productStage, product}
+use Rattle.packet.specs.Sizes.{product}
 use Rattle.packet.specs.Packets.{valuesOf}
+use Rattle.policy.specs.Order.{inOrder, stagesOf}
 use Rattle.turning.specs.declared.Values.{Values}
 use Rattle.turning.specs.declared.Values.the-variants.{Written, Refused as ValuesRefused}
 use Rattle.turning.specs.declared.Number.{Number}
 use Rattle.turning.specs.declared.Number.the-variants.{Packet, Refused as NumberRefused}
 
 -- a value list whose length is not k is refused by 13 with place k, before the rest of 13
-unfoldable pub lengthTests : List ℕ → ℕ → Tested
-lengthTests sizes len =
-    firstOf (fieldsStage sizes ∷ productStage sizes ∷ refusedAt 13 0 (atPlace (length sizes) (not (eqb len (length sizes)))) ∷ [])
+unfoldable pub lengthTest : ℕ → ℕ → Tested
+lengthTest k len = refusedAt 13 0 (atPlace k (not (eqb len k)))
 
--- number into values: the number turned is N or more, place 0
+-- 13 of a number into so many values: the number turned is N or more, place 0
+unfoldable pub numberStage : ℕ → ℕ → ℕ → ℕ → Tested
+numberStage k count number len = firstOf (lengthTest k len ∷ refusedAt 13 0 (atZero (leb count number)) ∷ [])
+
+-- the tests of a number into values
 unfoldable pub valuesTests : List ℕ → ℕ → ℕ → Tested
-valuesTests sizes number len = firstOf (lengthTests sizes len ∷ refusedAt 13 0 (atZero (leb (product sizes) number)) ∷ [])
+valuesTests sizes number len = inOrder (stagesOf sizes Passed [] Passed (numberStage (length sizes) (product sizes) number len))
 
 -- the number and values of each answer: a refusal's are its own
 unfoldable pub valuesAnswer : Tested → Values
@@ -41,10 +45,13 @@ valuesLeft sizes number old = keptUnless (valuesTests sizes number (length old))
 unfoldable pub badValue : List ℕ → List ℕ → ℕ → Bool
 badValue sizes values i = leb (getD sizes i 0) (getD values i 0)
 
--- values into a number: the lowest field whose value is out of range
+-- 13 of values into a number: the lowest field whose value is out of range
+unfoldable pub valuesStage : List ℕ → List ℕ → Tested
+valuesStage sizes values = firstOf (lengthTest (length sizes) (length values) ∷ refusedAt 13 0 (lowest (badValue sizes values) (length sizes)) ∷ [])
+
+-- the tests of values into a number
 unfoldable pub numberTests : List ℕ → List ℕ → Tested
-numberTests sizes values =
-    firstOf (lengthTests sizes (length values) ∷ refusedAt 13 0 (lowest (badValue sizes values) (length sizes)) ∷ [])
+numberTests sizes values = inOrder (stagesOf sizes Passed [] Passed (valuesStage sizes values))
 
 unfoldable pub numberAnswer : Tested → ℕ → Number
 numberAnswer Passed number = Packet number

@@ -3,13 +3,13 @@ ghost use mathlib.Core.Path.{_≡_};
 ghost use Prim.Native.Nat.{_<_};
 ghost use lib.ListN.{length};
 ghost use Rattle.packet.specs.Lowest.{lowest, optionOf};
-ghost use Rattle.packet.specs.Sizes.{LegalSizes, counted, product};
+ghost use Rattle.packet.specs.Sizes.{LegalSizes, product};
 ghost use Rattle.packet.specs.Packets.{Declared, valuesOf, numberOf};
-ghost use Rattle.turning.specs.Turning.{lengthTests, valuesTests, valuesAnswer, valuesLeft, badValue, numberTests, numberAnswer};
-use packet::Counted;
+ghost use Rattle.turning.specs.Turning.{lengthTest, numberStage, valuesStage, valuesTests, valuesAnswer, valuesLeft, badValue, numberTests, numberAnswer};
 use packet::Place;
 use packet::Refusal;
 use packet::Tested;
+use policy::order::Stages;
 
 // The answer to a number turned into values, which stand in the lent list.
 pub enum Values {
@@ -23,25 +23,36 @@ pub enum Number {
     Refused(Refusal),
 }
 
-// Causes 1 to 3, then 13 for a value list of another length than k; the packet count where all pass.
-fn length_stage(sizes: &[u16], values: usize) -> Counted
-    ensures { λ r. ⌜ r ≡ counted (lengthTests (now (sizes .entry)) values) (product (now (sizes .entry))) ⌝ }
+// Cause 13 for a value list of another length than k.
+fn length_test(k: usize, values: usize) -> Tested
+    ensures { λ r. ⌜ r ≡ lengthTest k values ⌝ }
 {
-    match packet::fields_stage(sizes) {
-        Tested::Refused(r) => Counted::Refused(r),
-        Tested::Passed => match packet::packet_count(sizes) {
-            Counted::Refused(r) => Counted::Refused(r),
-            Counted::Packets(n) => {
-                if values != sizes.len() {
-                    return Counted::Refused(Refusal {
-                        number: 13,
-                        side: 0,
-                        place: sizes.len() as u64,
-                    });
-                }
-                Counted::Packets(n)
+    if values != k {
+        return Tested::Refused(Refusal {
+            number: 13,
+            side: 0,
+            place: k as u64,
+        });
+    }
+    Tested::Passed
+}
+
+// Cause 13 of a number turned into so many values: the list's length, then the number, which is N or more.
+fn number_stage(k: usize, count: u16, number: u16, values: usize) -> Tested
+    ensures { λ r. ⌜ r ≡ numberStage k count number values ⌝ }
+{
+    match length_test(k, values) {
+        Tested::Refused(r) => Tested::Refused(r),
+        Tested::Passed => {
+            if count <= number {
+                return Tested::Refused(Refusal {
+                    number: 13,
+                    side: 0,
+                    place: 0,
+                });
             }
-        },
+            Tested::Passed
+        }
     }
 }
 
@@ -69,17 +80,23 @@ pub fn values_of(sizes: &[u16], number: u16, values: &mut [u16]) -> Values
     ensures answer { λ r. ⌜ r ≡ valuesAnswer (valuesTests (now (sizes .entry)) number (length (now (values .entry)))) ⌝ }
     ensures list { λ r. ⌜ now (values .exit) ≡ valuesLeft (now (sizes .entry)) number (now (values .entry)) ⌝ }
 {
-    match length_stage(sizes, values.len()) {
-        Counted::Refused(r) => Values::Refused(r),
-        Counted::Packets(n) => {
-            if n <= number {
-                return Values::Refused(Refusal {
-                    number: 13,
-                    side: 0,
-                    place: 0,
-                });
-            }
-            write_values(sizes, n, number, values);
+    let fields = packet::fields_stage(sizes);
+    let counted = packet::packet_count(sizes);
+    let product = counted.tested;
+    let count = counted.packets;
+    let packets = number_stage(sizes.len(), count, number, values.len());
+    let tested = policy::order::in_order(Stages {
+        fields,
+        product,
+        texts: Tested::Passed,
+        policies: Tested::Passed,
+        lists: Tested::Passed,
+        packets,
+    });
+    match tested {
+        Tested::Refused(r) => Values::Refused(r),
+        Tested::Passed => {
+            write_values(sizes, count, number, values);
             Values::Written
         }
     }
@@ -98,6 +115,16 @@ fn lowest_bad(sizes: &[u16], values: &[u16]) -> Place
         i += 1;
     }
     Place::Nowhere
+}
+
+// Cause 13 of values turned into a number: the list's length, then the lowest field whose value is out of range.
+fn values_stage(sizes: &[u16], values: &[u16]) -> Tested
+    ensures { λ r. ⌜ r ≡ valuesStage (now (sizes .entry)) (now (values .entry)) ⌝ }
+{
+    match length_test(sizes.len(), values.len()) {
+        Tested::Refused(r) => Tested::Refused(r),
+        Tested::Passed => packet::refused_at(13, 0, lowest_bad(sizes, values)),
+    }
 }
 
 // The number of a declared packet.
@@ -119,11 +146,20 @@ fn number_from(sizes: &[u16], values: &[u16]) -> u16
 pub fn number_of(sizes: &[u16], values: &[u16]) -> Number
     ensures { λ r. ⌜ r ≡ numberAnswer (numberTests (now (sizes .entry)) (now (values .entry))) (numberOf (now (sizes .entry)) (now (values .entry))) ⌝ }
 {
-    match length_stage(sizes, values.len()) {
-        Counted::Refused(r) => Number::Refused(r),
-        Counted::Packets(_) => match packet::refused_at(13, 0, lowest_bad(sizes, values)) {
-            Tested::Refused(r) => Number::Refused(r),
-            Tested::Passed => Number::Packet(number_from(sizes, values)),
-        },
+    let fields = packet::fields_stage(sizes);
+    let counted = packet::packet_count(sizes);
+    let product = counted.tested;
+    let packets = values_stage(sizes, values);
+    let tested = policy::order::in_order(Stages {
+        fields,
+        product,
+        texts: Tested::Passed,
+        policies: Tested::Passed,
+        lists: Tested::Passed,
+        packets,
+    });
+    match tested {
+        Tested::Refused(r) => Number::Refused(r),
+        Tested::Passed => Number::Packet(number_from(sizes, values)),
     }
 }

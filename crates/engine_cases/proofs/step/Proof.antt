@@ -4,7 +4,6 @@ use native.Mathlib.Omega.{arith}
 use mathlib.Core.Path.{sym, _∙_}
 use lib.Dec.{lit≤}
 use lib.ListN.{length-replicate, getD-replicate}
-use Rattle.packet.proofs.Sizes.{count-packets}
 use Rattle.packet_set.specs.Members.{emptySet}
 use Rattle.legality.proofs.AnswerLaws.{legal-answer}
 use Rattle.spans.proofs.Sets.{no-packet}
@@ -33,35 +32,26 @@ returns c = search needs
 packet-count-requires : tie.Need-packet-count-requires
 packet-count-requires c κs = search needs
 
-enum-known-count : tie.Need-enum-known-count
-enum-known-count c = search needs
-
-enum-told-3 : tie.Need-enum-told-3
-enum-told-3 c = search needs
-
-returns-2 : tie.Need-returns-2
-returns-2 c = search needs
-
 slice-aggregate-write-all-2 : tie.Need-slice-aggregate-write-all-2
 slice-aggregate-write-all-2 c = search needs
 
 write-all-requires-2 : tie.Need-write-all-requires-2
 write-all-requires-2 c κs = search needs
 
-returns-3 : tie.Need-returns-3
-returns-3 c = search needs
+returns-2 : tie.Need-returns-2
+returns-2 c = search needs
 
 load-requires : tie.Need-load-requires
-load-requires c κs = let legal = legal-answer _ _ _ (sym (c .before .before .before .before .before .before .before .before .before .policy-legality .ensures) ∙ c .before .before .before .before .before .before .before .enum-told .given .1) in
-    (legal .0, legal .1, count-packets _ _ (sym (c .before .before .before .before .before .before .packet-count .ensures) ∙ c .before .before .before .before .count .given .1) .1, length-replicate {A = ℕ} 544 0, length-replicate {A = ℕ} 8224 0)
+load-requires c κs = let legal = legal-answer _ _ _ (sym (c .before .before .before .before .before .before .policy-legality .ensures) ∙ c .before .before .before .before .enum-told .given .1) in
+    (legal .0, legal .1, c .before .before .before .packet-count .ensures .counts (legal .2), length-replicate {A = ℕ} 544 0, length-replicate {A = ℕ} 8224 0)
 
 slice-aggregate-step : tie.Need-slice-aggregate-step
 slice-aggregate-step c = search needs
 
 step-requires : tie.Need-step-requires
 unfolding emptySet
-step-requires c κs = let legal = legal-answer _ _ _ (sym (c .before .before .before .before .before .before .before .before .before .before .before .before .before .before .before .policy-legality .ensures) ∙ c .before .before .before .before .before .before .before .before .before .before .before .before .before .enum-told .given .1) in
-    let n = count-packets _ _ (sym (c .before .before .before .before .before .before .before .before .before .before .before .before .packet-count .ensures) ∙ c .before .before .before .before .before .before .before .before .before .before .count .given .1) .1 in
+step-requires c κs = let legal = legal-answer _ _ _ (sym (c .before .before .before .before .before .before .before .before .before .before .before .before .policy-legality .ensures) ∙ c .before .before .before .before .before .before .before .before .before .before .enum-told .given .1) in
+    let n = c .before .before .before .before .before .before .before .before .before .packet-count .ensures .counts (legal .2) in
     record {
       lists = _;
       stands = record { legal-sizes = legal .0; legal = legal .1; loaded = c .before .before .before .before .before .load .ensures; packet = omega (arith, n, c .before .before .before .before .before .before .before .before .if1 .left) };
@@ -92,8 +82,8 @@ states-requires c κs = search needs
 line-end-requires : tie.Need-line-end-requires
 line-end-requires c κs = search needs
 
-returns-4 : tie.Need-returns-4
-returns-4 c = search needs
+returns-3 : tie.Need-returns-3
+returns-3 c = search needs
 
 pub step-spec : {M : Type 1} → statement M
 step-spec =
@@ -106,12 +96,9 @@ step-spec =
     write-all-requires
     returns
     packet-count-requires
-    enum-known-count
-    enum-told-3
-    returns-2
     slice-aggregate-write-all-2
     write-all-requires-2
-    returns-3
+    returns-2
     load-requires
     slice-aggregate-step
     step-requires
@@ -122,4 +109,4 @@ step-spec =
     write-all-requires-4
     states-requires
     line-end-requires
-    returns-4)
+    returns-3)

@@ -1,5 +1,4 @@
--- `policy_stage` meets its contract: causes 4, then 5 to 7, then 8 and 9.
--- Assumes nothing.
+-- `policy_stage` meets its contract: causes 4, then 5 to 7, then 8 and 9. Assumes nothing.
 use mathlib.Core.Path.{sym, _∙_}
 use Rattle.policy.specs.NodeLists.{nodeCount}
 use Rattle.legality.proofs.AnswerLaws.{lengths-tested, same-lengths, countable-children, lengths-answer, nodes-answer, tree-answer}
@@ -32,10 +31,10 @@ tree-tested-requires : tie.Need-tree-tested-requires
 tree-tested-requires c κs = countable-children _ _ _ (lengths-tested _ _ (c .before .before .before .before .before .refused-at .ensures) (c .before .before .before .before .before .before .bad-lengths .ensures) (c .before .before .before .enum-told .given .1)) (sym (c .before .before .nodes-tested .ensures) ∙ c .enum-told2 .given .1)
 
 returns : tie.Need-returns
-returns c = lengths-answer _ _ _ _ (lengths-tested _ _ (c .before .before .before .refused-at .ensures) (c .before .before .before .before .bad-lengths .ensures) (c .before .r .given .1))
+returns c = lengths-answer _ _ _ _ _ (lengths-tested _ _ (c .before .before .before .refused-at .ensures) (c .before .before .before .before .bad-lengths .ensures) (c .before .r .given .1))
 
 returns-2 : tie.Need-returns-2
-returns-2 c = nodes-answer _ _ _ _ (lengths-tested _ _ (c .before .before .before .before .before .before .refused-at .ensures) (c .before .before .before .before .before .before .before .bad-lengths .ensures) (c .before .before .before .before .enum-told .given .1)) (sym (c .before .before .before .nodes-tested .ensures) ∙ c .before .r2 .given .1)
+returns-2 c = nodes-answer _ _ _ _ _ (lengths-tested _ _ (c .before .before .before .before .before .before .refused-at .ensures) (c .before .before .before .before .before .before .before .bad-lengths .ensures) (c .before .before .before .before .enum-told .given .1)) (sym (c .before .before .before .nodes-tested .ensures) ∙ c .before .r2 .given .1)
 
 returns-3 : tie.Need-returns-3
 unfolding nodeCount

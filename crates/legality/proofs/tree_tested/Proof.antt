@@ -1,6 +1,5 @@
--- `tree_tested` meets its contract: both causes in order, and the number of dups where both pass.
--- Assumes nothing.
-use Rattle.legality.proofs.AnswerLaws.{tree-refused, tree-passed}
+-- `tree_tested` meets its contract: both causes in order, and the number of dups. Assumes nothing.
+use Rattle.legality.proofs.AnswerLaws.{tree-as}
 use borrow.Author.Needs.{needs}
 use Rattle.legality.proofs.tree_tested.Statement.{statement}
 use Rattle.legality.proofs.tree_tested.Tie as tie
@@ -20,17 +19,8 @@ refused-at-requires-2 c κs = search needs
 first-of-requires : tie.Need-first-of-requires
 first-of-requires c κs = search needs
 
-enum-known-r : tie.Need-enum-known-r
-enum-known-r c = search needs
-
-enum-told : tie.Need-enum-told
-enum-told c = search needs
-
 returns : tie.Need-returns
-returns c = tree-refused _ _ _ _ _ (c .before .before .before .before .before .before .refused-at .ensures) (c .before .before .before .before .before .before .before .not-once .ensures) (c .before .before .before .before .before .dups .ensures) (c .before .before .before .before .refused-at2 .ensures) (c .before .before .before .first-of .ensures) _ _ (c .before .r .given .1)
-
-returns-2 : tie.Need-returns-2
-returns-2 c = tree-passed _ _ _ _ _ (c .before .before .before .before .before .refused-at .ensures) (c .before .before .before .before .before .before .not-once .ensures) (c .before .before .before .before .dups .ensures) (c .before .before .before .refused-at2 .ensures) (c .before .before .first-of .ensures) (c .enum-told .given .1)
+returns c = tree-as _ _ _ _ _ (c .before .before .before .refused-at .ensures) (c .before .before .before .before .not-once .ensures) (c .before .before .dups .ensures) (c .before .refused-at2 .ensures) (c .first-of .ensures)
 
 pub tree-tested-spec : {M : Type 1} → statement M
 tree-tested-spec =
@@ -41,7 +31,4 @@ tree-tested-spec =
     dups-requires
     refused-at-requires-2
     first-of-requires
-    enum-known-r
-    enum-told
-    returns
-    returns-2)
+    returns)

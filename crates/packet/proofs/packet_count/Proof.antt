@@ -3,7 +3,6 @@
 use borrow.Author.Needs.{needs}
 use Prim.Native.Nat.{_-_}
 use native.Mathlib.Omega.{arith}
-use mathlib.Core.Path.{sym}
 use lib.ListN.{length}
 use Rattle.packet.specs.Refusals.{refusal}
 use Rattle.packet.proofs.Sizes.{Running, running-none, running-fits, running-more, running-all, running-over}
@@ -33,7 +32,7 @@ mul-product c = omega (arith, running-fits _ (c .before .before .before .loop .i
 
 returns : tie.Need-returns Inv-loop μ-loop
 unfolding refusal
-returns c = sym (running-over _ (c .before .before .before .before .loop .inv) (c .before .before .before .loop-test .taken) (c .before .wide .ensures) (c .if1 .taken))
+returns c = running-over _ (c .before .before .before .before .loop .inv) (c .before .before .before .loop-test .taken) (c .before .wide .ensures) (c .if1 .taken) _
 
 add-i : tie.Need-add-i Inv-loop μ-loop
 add-i c = search needs
@@ -44,11 +43,11 @@ loop-less c = search needs
 loop-again : tie.Need-loop-again Inv-loop μ-loop
 loop-again c = running-more _ (c .before .before .before .before .loop .inv) (c .before .before .before .loop-test .taken) (c .before .wide .ensures) (c .if1 .left)
 
-cast-t11 : tie.Need-cast-t11 Inv-loop μ-loop
-cast-t11 c = omega (arith, c .before .loop .inv .small)
+cast-packets : tie.Need-cast-packets Inv-loop μ-loop
+cast-packets c = omega (arith, c .before .loop .inv .small)
 
 returns-2 : tie.Need-returns-2 Inv-loop μ-loop
-returns-2 c = sym (running-all _ (c .before .loop .inv) (c .loop-test .left))
+returns-2 c = running-all _ (c .before .loop .inv) (c .loop-test .left)
 
 pub packet-count-spec : {M : Type 1} → statement M
 packet-count-spec =
@@ -65,5 +64,5 @@ packet-count-spec =
     add-i
     loop-less
     loop-again
-    cast-t11
+    cast-packets
     returns-2)

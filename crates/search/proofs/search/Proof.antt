@@ -1,26 +1,26 @@
 -- `search` meets its contract. Assumes nothing.
-use borrow.Author.Needs.{needs}
 use Rattle.search.proofs.Answering.{tests-refuse, tests-pass, accepts, refuses, promised}
+use borrow.Author.Needs.{needs}
 use Rattle.search.proofs.search.Statement.{statement}
 use Rattle.search.proofs.search.Tie as tie
 
 search-lists-requires : tie.Need-search-lists-requires
 search-lists-requires c κs = search needs
 
-lent-tests-requires : tie.Need-lent-tests-requires
-lent-tests-requires c κs = search needs
+front-requires : tie.Need-front-requires
+front-requires c κs = search needs
 
-enum-known-r : tie.Need-enum-known-r
-enum-known-r c = search needs
+enum-known-tested : tie.Need-enum-known-tested
+enum-known-tested c = search needs
 
-enum-known-count : tie.Need-enum-known-count
-enum-known-count c = search needs
+enum-told : tie.Need-enum-told
+enum-told c = search needs
 
 search-accepted-requires : tie.Need-search-accepted-requires
-search-accepted-requires c κs = let h = tests-pass _ _ _ _ (c .before .before .before .before .before .before .before .before .before .before .search-lists .ensures) (c .before .before .before .before .before .before .before .before .before .lent-tests .ensures) _ (c .before .before .before .before .before .before .before .count .given .1) in accepts (h .0) _ (h .1)
+search-accepted-requires c κs = let h = tests-pass _ _ _ _ (c .before .before .before .before .before .before .before .before .before .search-lists .ensures) (c .before .before .before .before .before .before .before .before .front .ensures) (c .before .before .before .before .before .before .enum-told .given .1) in accepts (h .0) _ (h .1)
 
 returns : tie.Need-returns
-returns c = refuses _ (tests-refuse _ _ _ _ (c .before .before .before .before .search-lists .ensures) (c .before .before .before .lent-tests .ensures) _ (c .before .r .given .1))
+returns c = refuses _ (tests-refuse _ _ _ _ (c .before .before .before .before .search-lists .ensures) (c .before .before .before .front .ensures) _ (c .before .tested .given .1))
 
 same-length : tie.Need-same-length
 same-length c = search needs
@@ -41,16 +41,16 @@ same-length-6 : tie.Need-same-length-6
 same-length-6 c = search needs
 
 returns-2 : tie.Need-returns-2
-returns-2 c = promised (tests-pass _ _ _ _ (c .before .before .before .before .before .before .before .before .before .before .before .before .before .before .before .before .before .before .before .before .before .before .before .search-lists .ensures) (c .before .before .before .before .before .before .before .before .before .before .before .before .before .before .before .before .before .before .before .before .before .before .lent-tests .ensures) _ (c .before .before .before .before .before .before .before .before .before .before .before .before .before .before .before .before .before .before .before .before .count .given .1) .0) (c .before .before .before .before .before .before .before .before .before .before .before .before .search-accepted .ensures)
+returns-2 c = promised (tests-pass _ _ _ _ (c .before .before .before .before .before .before .before .before .before .before .before .before .before .before .before .before .before .before .before .before .before .before .search-lists .ensures) (c .before .before .before .before .before .before .before .before .before .before .before .before .before .before .before .before .before .before .before .before .before .front .ensures) (c .before .before .before .before .before .before .before .before .before .before .before .before .before .before .before .before .before .before .before .enum-told .given .1) .0) (c .before .before .before .before .before .before .before .before .before .before .before .before .search-accepted .ensures)
 
 pub search-spec : {M : Type 1} → statement M
 search-spec =
     tie.close
     (tie.spec
     search-lists-requires
-    lent-tests-requires
-    enum-known-r
-    enum-known-count
+    front-requires
+    enum-known-tested
+    enum-told
     search-accepted-requires
     returns
     same-length

@@ -1,15 +1,20 @@
 -- `search` meets its contract.
-use borrow.Author.Needs.{needs}
-use mathlib.Core.Path.{sym, _∙_}
 use Rattle.texts.proofs.Running.{sizes-refused, sizes-passed}
+use borrow.Author.Needs.{needs}
 use Rattle.texts.proofs.search.Statement.{statement}
 use Rattle.texts.proofs.search.Tie as tie
 
-sizes-stage-requires : tie.Need-sizes-stage-requires
-sizes-stage-requires c κs = search needs
+fields-stage-requires : tie.Need-fields-stage-requires
+fields-stage-requires c κs = search needs
 
-enum-known-r : tie.Need-enum-known-r
-enum-known-r c = search needs
+packet-count-requires : tie.Need-packet-count-requires
+packet-count-requires c κs = search needs
+
+in-order-requires : tie.Need-in-order-requires
+in-order-requires c κs = search needs
+
+enum-known-tested : tie.Need-enum-known-tested
+enum-known-tested c = search needs
 
 enum-told : tie.Need-enum-told
 enum-told c = search needs
@@ -18,7 +23,7 @@ search-left-requires : tie.Need-search-left-requires
 search-left-requires c κs = search needs
 
 returns : tie.Need-returns
-returns c = sizes-refused _ _ _ _ (sym (c .before .before .before .sizes-stage .ensures) ∙ c .before .r .given .1)
+returns c = sizes-refused _ _ _ _ (c .before .before .before .before .packet-count .ensures) (c .before .before .before .before .before .fields-stage .ensures) (c .before .before .before .in-order .ensures) (c .before .tested .given .1)
 
 same-length : tie.Need-same-length
 same-length c = search needs
@@ -39,14 +44,16 @@ same-length-6 : tie.Need-same-length-6
 same-length-6 c = search needs
 
 returns-2 : tie.Need-returns-2
-returns-2 c = sizes-passed _ _ _ _ (sym (c .before .before .before .before .before .before .before .before .before .before .before .before .before .before .before .before .before .before .before .before .before .sizes-stage .ensures) ∙ c .before .before .before .before .before .before .before .before .before .before .before .before .before .before .before .before .before .before .before .enum-told .given .1) (c .before .before .before .before .before .before .before .before .before .before .before .before .search-left .ensures)
+returns-2 c = sizes-passed _ _ _ _ (c .before .before .before .before .before .before .before .before .before .before .before .before .before .before .before .before .before .before .before .before .before .before .packet-count .ensures) (c .before .before .before .before .before .before .before .before .before .before .before .before .before .before .before .before .before .before .before .before .before .before .before .fields-stage .ensures) (c .before .before .before .before .before .before .before .before .before .before .before .before .before .before .before .before .before .before .before .before .before .in-order .ensures) (c .before .before .before .before .before .before .before .before .before .before .before .before .before .before .before .before .before .before .before .enum-told .given .1) (c .before .before .before .before .before .before .before .before .before .before .before .before .search-left .ensures)
 
 pub search-spec : {M : Type 1} → statement M
 search-spec =
     tie.close
     (tie.spec
-    sizes-stage-requires
-    enum-known-r
+    fields-stage-requires
+    packet-count-requires
+    in-order-requires
+    enum-known-tested
     enum-told
     search-left-requires
     returns

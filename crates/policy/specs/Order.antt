@@ -1,0 +1,93 @@
+-- The order of causes (document 01, "Causes, in the order tested"). It stands here, in two lists, and nowhere else.
+use Prim.Native.Nat.{ℕ, suc, pred}
+use mathlib.Core.Bool.{Bool, true, false}
+use mathlib.Core.List.{List, [], _∷_, map}
+use mathlib.Core.Option.{Option}
+use lib.Dec.{eqb}
+use Rattle.packet.specs.Lowest.{lowest}
+use Rattle.packet.specs.Refusals.{refusedAt, atZero, firstOf}
+use Rattle.packet.specs.Sizes.{fieldsStage, productStage}
+use Rattle.packet.specs.declared.Tested.{Tested}
+use Rattle.packet.specs.declared.Tested.the-variants.{Passed}
+use Rattle.policy.specs.declared.order.Stages.{Stages}
+use Rattle.policy.specs.NodeLists.{NodeLists, nodeCount}
+use Rattle.policy.specs.Legality.{badLengths, badKind, badEntries, badChild, notOnce, tooManyDups}
+
+-- The stages of a call, in the order tested. A request that moves a stage moves its line; 18 comes before them all, 11 and 12 after.
+unfoldable pub order : Stages → List Tested
+order stages =
+    stages .fields  -- 1, 2
+    ∷ stages .product  -- 3
+    ∷ stages .texts  -- 14 to 17 on the left text, then on the right
+    ∷ stages .policies  -- 4 to 9
+    ∷ stages .lists  -- 10
+    ∷ stages .packets  -- 13
+    ∷ []
+
+-- the first stage that refuses
+unfoldable pub inOrder : Stages → Tested
+inOrder stages = firstOf (order stages)
+
+-- a cause of a policy: its number, and its place if it holds
+abbrev pub Cause : Type 0
+Cause = ℕ × (NodeLists → Option ℕ)
+
+-- The causes of a policy, in the order tested.
+unfoldable pub causes : List ℕ → List Cause
+causes sizes =
+    (4, λ L. atZero (badLengths L))
+    ∷ (5, λ L. lowest (badKind L) (nodeCount L))
+    ∷ (6, λ L. lowest (badEntries sizes L) (nodeCount L))
+    ∷ (7, λ L. lowest (badChild L) (nodeCount L))
+    ∷ (8, λ L. lowest (notOnce L) (pred (nodeCount L)))
+    ∷ (9, λ L. lowest (tooManyDups L) (nodeCount L))
+    ∷ []
+
+-- ---- the tests of each call
+
+-- a policy and the side that its refusals name
+pub record Sided : Type 0 where
+  pub side : ℕ
+  pub lists : NodeLists
+
+unfoldable pub sided : ℕ → NodeLists → Sided
+sided side L = record { side = side; lists = L }
+
+-- one cause, tested on each policy in order
+unfoldable pub cause : ℕ → (NodeLists → Option ℕ) → List Sided → Tested
+cause number place policies = firstOf (map (λ (p : Sided). refusedAt number (p .side) (place (p .lists))) policies)
+
+-- stage "policies": each cause on every policy before the next
+unfoldable pub policiesStage : List ℕ → List Sided → Tested
+policiesStage sizes policies = firstOf (map (λ (c : Cause). cause (c .0) (c .1) policies) (causes sizes))
+
+-- the stages of a call with fields of these sizes: what its texts say, its policies, what its lists and its packets say
+unfoldable pub stagesOf : List ℕ → Tested → List Sided → Tested → Tested → Stages
+stagesOf sizes texts policies lists packets =
+    record { fields = fieldsStage sizes; product = productStage sizes; texts = texts; policies = policiesStage sizes policies; lists = lists; packets = packets }
+
+-- a left and a right policy
+abbrev pub pairOf : NodeLists → NodeLists → List Sided
+pairOf L R = sided 1 L ∷ sided 2 R ∷ []
+
+-- the tests on one policy: side 0
+unfoldable pub policyTests : List ℕ → NodeLists → Tested
+policyTests sizes L = inOrder (stagesOf sizes Passed (sided 0 L ∷ []) Passed Passed)
+
+-- the tests on a left and a right policy
+unfoldable pub pairTests : List ℕ → NodeLists → NodeLists → Tested
+pairTests sizes L R = inOrder (stagesOf sizes Passed (pairOf L R) Passed Passed)
+
+-- ---- the place of a policy's cause in the list, from 1 on
+
+unfoldable pub oneOr : Bool → ℕ → ℕ
+oneOr true n = 1
+oneOr false n = suc n
+
+unfoldable pub placeAmong : ℕ → List Cause → ℕ
+placeAmong number [] = 1
+placeAmong number (c ∷ cs) = oneOr (eqb number (c .0)) (placeAmong number cs)
+
+-- no number depends on the sizes
+unfoldable pub causePlace : ℕ → ℕ
+causePlace number = placeAmong number (causes [])
