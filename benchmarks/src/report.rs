@@ -306,8 +306,8 @@ What is known of the causes, from how the two are built and from profiles of som
   and remembers no step: it keeps nothing but the compiled policies, the rows and their index. The second implementation
   remembers what each remainder does at each packet; a state's step is then a union of remembered ones. So it still wins
   where many rows share few remainders and packets, as in many states and many rows.
-- The library changes a field of a large set by shifting it word by word, of a small one packet by packet; a set of few packets
-  that lie far apart counts as large. Changes take most of the library's time in nondet and in many rows.
+- The library changes a field of a set packet by packet, or of all its packets at once by shifting its words, by what the two
+  cost: it counts the members. Changes take most of the library's time in nondet and in many rows.
 - Each search and each check of a table begins with setting the library's index to 0, 384 KiB, and with loading both policies;
   each check of a trace with loading. Calls that have little else to do pay for that: in a profile of a search of one row nine
   tenths of the time go into setting memory to 0.

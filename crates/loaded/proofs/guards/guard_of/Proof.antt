@@ -39,7 +39,7 @@ mul-result c = let h = subst Placed (c .before .node .given .1) (c .before .befo
 
 element-copy-out-result : tie.Need-element-copy-out-result
 unfolding Placed Each children
-element-copy-out-result c = subst Placed (c .before .node .given .1) (c .before .before .before .before .pre) .0
+element-copy-out-result c = let h = subst Placed (c .before .node .given .1) (c .before .before .before .before .pre) in omega arith
 
 enum-told-6 : tie.Need-enum-told-6
 enum-told-6 c = search needs
