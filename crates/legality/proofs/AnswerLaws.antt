@@ -16,7 +16,6 @@ use Rattle.packet.specs.declared.Tested.{Tested}
 use Rattle.packet.specs.declared.Tested.the-variants.{Passed, Refused}
 use Rattle.packet.proofs.Lowest.{lowest-none}
 use Rattle.packet.proofs.Stages.{firstOf-last, firstOf-refused, firstOf-next, firstOf-nested, firstOf-passed, refusedAt-passed, atPlace-none, refused≢passed}
-use Rattle.legality.specs.declared.PolicyAnswer.{PolicyAnswer}
 use Rattle.legality.specs.declared.PolicyAnswer.the-variants.{Legal as LegalPolicy, Refused as PolicyRefused}
 use Rattle.legality.specs.declared.PairAnswer.the-variants.{Legal as LegalPair, Refused as PairRefused}
 use Rattle.legality.specs.declared.PolicyTested.{PolicyTested}

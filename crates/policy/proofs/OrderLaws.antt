@@ -69,13 +69,11 @@ module _ (sizes : List ℕ) (texts : Tested) (policies : List Sided) (lists pack
 
   pub passing : inOrder (stagesOf sizes texts policies lists packets) ≡ Passed → Passing
   unfolding inOrder order stagesOf Each
-  passing e =
-      let h = firstOf-each _ .0 e in
-      record { fields = h .0; product = h .1 .0; texts-pass = h .1 .1 .0; policies-pass = h .1 .1 .1 .0; lists-pass = h .1 .1 .1 .1 .0; packets-pass = h .1 .1 .1 .1 .1 .0 }
+  passing e = let h = firstOf-each _ .0 e in search h
 
   pub all-passing : Passing → inOrder (stagesOf sizes texts policies lists packets) ≡ Passed
   unfolding inOrder order stagesOf Each
-  all-passing h = firstOf-each _ .1 (h .fields, (h .product, (h .texts-pass, (h .policies-pass, (h .lists-pass, (h .packets-pass, tt))))))
+  all-passing h = firstOf-each _ .1 (search h)
 
   module _ (h : Passing) where
     pub sizes-legal : LegalSizes sizes

@@ -1,4 +1,5 @@
--- The order of causes (document 01, "Causes, in the order tested"). It stands here, in two lists, and nowhere else.
+-- The order of causes (document 01, "Causes, in the order tested"), in two lists: the stages of a call, and the causes of a policy. Those
+-- of one text, 14 to 17, are the reader's (`grammar` `tested`).
 use Prim.Native.Nat.{ℕ, suc, pred}
 use mathlib.Core.Bool.{Bool, true, false}
 use mathlib.Core.List.{List, [], _∷_, map}
