@@ -1,29 +1,29 @@
 -- The row order and the row rules say of each row what document 01 says by traces; order and repeats of rows don't matter, and a row with both
 -- states 0 is allowed.
 use Prim.Native.Nat.{ℕ, zero, suc, _^_, _<_, _≤_, suc-le-suc}
-use mathlib.Core.Bool.{Bool, true, false}
-use mathlib.Core.List.{List, [], _∷_}
+use mathlib.Core.Bool.{Bool}
+use mathlib.Core.List.{List, _∷_}
 use mathlib.Core.Logic.{_⊎_, inl, inr, ⊎-elim, _↔_}
-use mathlib.Core.Path.{_≡_, refl, sym, _∙_, ap, subst}
-use native.Mathlib.Nat.{zero-lt-suc, le-of-suc-le-suc}
+use mathlib.Core.Path.{_≡_, refl, sym, _∙_, subst}
+use native.Mathlib.Nat.{le-of-suc-le-suc}
 use native.Mathlib.Omega.{arith}
 use lib.Dec.{T}
 use lib.Pow.{pow-pos}
 use lib.ListN.{length, getD}
 use Rattle.packet.specs.Sizes.{product}
-use Rattle.packet.proofs.Tests.{T-true, true-T, T-false}
+use Rattle.packet.proofs.Tests.{T-false}
 use Rattle.packet_set.specs.Bits.{bit}
-use Rattle.packet_set.proofs.Digits.{bit-of-zero, bit-high, bits-same, bits-below}
+use Rattle.packet_set.proofs.Digits.{bit-high, bits-same, bits-below}
 use Rattle.packet_set.proofs.Masks.{bit-below}
 use Rattle.automaton.specs.State.{outputMask, nextMask, StateTraces}
 use Rattle.automaton.proofs.Tests.{same-test}
 use Rattle.automaton.proofs.Laws.{outputMask-fits, outputMask-iff, next-iff, nextMask-lt, nextMask-bit, dead-outputMask, dead-nextMask}
-use Rattle.system.specs.System.{System, Row, nextRow, tells}
-use Rattle.pair.specs.Sides.{Side, left, right, other, Pair, at, Labelled}
-use Rattle.pair.specs.Pair.{outputAt, nextAt, bothZero, inOneOutput, pairSystem}
+use Rattle.system.specs.System.{System, Row, nextRow}
+use Rattle.pair.specs.Sides.{Side, left, right, Pair, at, Labelled}
+use Rattle.pair.specs.Pair.{outputAt, nextAt, inOneOutput, pairSystem}
 use Rattle.pair.specs.Rules.{accepted}
 use Rattle.pair.specs.Evidence.{evidenceAnswer, InTable, RowRules}
-use Rattle.pair.specs.ByTraces.{Outputs, ReachesDup, IsNext, OnlyOutputs, RowByTraces, OnlyDups, NextStands, NextZero, RulesByTraces, SameRows}
+use Rattle.pair.specs.ByTraces.{Outputs, ReachesDup, IsNext, OnlyOutputs, RowByTraces, OnlyDups, NextZero, RulesByTraces, SameRows}
 use Rattle.pair.proofs.Sides.{at-each}
 use Rattle.pair.proofs.Lawful.{EvaluablePair, zero-sides}
 use Rattle.pair.proofs.Traces.{one-side, side-one}
