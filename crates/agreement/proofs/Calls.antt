@@ -18,12 +18,12 @@ use Rattle.pair.specs.Search.{SearchAnswer, columnsOf, heldColumns}
 use Rattle.pair.specs.TraceCheck.{only}
 use Rattle.pair.proofs.Lawful.{legal-pair}
 use Rattle.pair.proofs.Verdicts.{equal-same}
-use Rattle.lent.proofs.Testing.{lent-pair}
+use Rattle.lent_lists.proofs.Testing.{lent-pair}
 use Rattle.packet.specs.Written.{written}
 use Rattle.verdict.specs.declared.Verdict.{Verdict}
 use Rattle.verdict.specs.declared.Verdict.the-variants.{Equal}
 use Rattle.verdict.specs.Verdicts.{tellingVerdict, verdictOf, traceAfter}
-use Rattle.search.specs.Call.{Lent, filled, verdictAfter, lentAfter, searchTests, answerHere, rowsHere, searchVerdict, searchLeaves, Searched}
+use Rattle.search.specs.Call.{SearchLists, filled, verdictAfter, lentAfter, searchTests, answerHere, rowsHere, searchVerdict, searchLeaves, Searched}
 use Rattle.search.proofs.Answering.{equal-of, telling-of, accepts}
 use Rattle.evidence.specs.declared.Evidence.the-variants.{Accepted}
 use Rattle.evidence.specs.Calls.{evidenceCall}
@@ -51,7 +51,7 @@ passed-telling Passed a s n α e = (refl, sym e)
 passed-telling (Stopped r) a left n α e = let z : _≡_ {A = ℕ} 0 1 = cc in absurd (zero≢one z)
 passed-telling (Stopped r) a right n α e = let z : _≡_ {A = ℕ} 0 1 = cc in absurd (zero≢one z)
 
-module _ (sizes : List ℕ) (L R : NodeLists) (x y : Lent) where
+module _ (sizes : List ℕ) (L R : NodeLists) (x y : SearchLists) where
   pair-passed : searchTests sizes L R x ≡ Passed → pairTests sizes L R ≡ Passed
   unfolding searchTests
   pair-passed e = lent-pair sizes L R _ e
@@ -70,9 +70,9 @@ module _ (sizes : List ℕ) (L R : NodeLists) (x y : Lent) where
       let A = accepts (h .0) (product sizes) refl in
       let many : length (held (pairSystem sizes (policies L R)) (length (x .packets))) ≡ n = equal-same sizes (policies L R) (legal-pair sizes L R (A .left-legal) (A .right-legal)) (length (x .packets)) (length (x .trace)) n a .0 in
       let is = left-as (h .0) D in
-      let packets : take n (y .packets) ≡ rowsHere sizes L R x .packets = ap (λ (z : Lent). take n (z .packets)) is ∙ take-written (rowsHere sizes L R x .packets) (x .packets) n (length-map (held (pairSystem sizes (policies L R)) (length (x .packets))) (λ e. e .row .packet) ∙ many) in
-      let lefts : take n (y .lefts) ≡ rowsHere sizes L R x .lefts = ap (λ (z : Lent). take n (z .lefts)) is ∙ take-written (rowsHere sizes L R x .lefts) (x .lefts) n (length-map (held (pairSystem sizes (policies L R)) (length (x .packets))) (λ e. e .row .state .left) ∙ many) in
-      let rights : take n (y .rights) ≡ rowsHere sizes L R x .rights = ap (λ (z : Lent). take n (z .rights)) is ∙ take-written (rowsHere sizes L R x .rights) (x .rights) n (length-map (held (pairSystem sizes (policies L R)) (length (x .packets))) (λ e. e .row .state .right) ∙ many) in
+      let packets : take n (y .packets) ≡ rowsHere sizes L R x .packets = ap (λ (z : SearchLists). take n (z .packets)) is ∙ take-written (rowsHere sizes L R x .packets) (x .packets) n (length-map (held (pairSystem sizes (policies L R)) (length (x .packets))) (λ e. e .row .packet) ∙ many) in
+      let lefts : take n (y .lefts) ≡ rowsHere sizes L R x .lefts = ap (λ (z : SearchLists). take n (z .lefts)) is ∙ take-written (rowsHere sizes L R x .lefts) (x .lefts) n (length-map (held (pairSystem sizes (policies L R)) (length (x .packets))) (λ e. e .row .state .left) ∙ many) in
+      let rights : take n (y .rights) ≡ rowsHere sizes L R x .rights = ap (λ (z : SearchLists). take n (z .rights)) is ∙ take-written (rowsHere sizes L R x .rights) (x .rights) n (length-map (held (pairSystem sizes (policies L R)) (length (x .packets))) (λ e. e .row .state .right) ∙ many) in
       ap (λ (P : List ℕ). evidenceCall sizes L R P (take n (y .lefts)) (take n (y .rights)) words) packets
       ∙ ap₂ (λ (P Q : List ℕ). evidenceCall sizes L R (rowsHere sizes L R x .packets) P Q words) lefts rights
       ∙ equal-accepted sizes L R (length (x .packets)) words (A .few) (pair-passed (h .0)) long (length (x .trace)) n a
@@ -85,6 +85,6 @@ module _ (sizes : List ℕ) (L R : NodeLists) (x y : Lent) where
       let h = passed-telling (searchTests sizes L R x) (answerHere sizes L R x) s n α (D .answers) in
       let t = telling-of (answerHere sizes L R x) s n α (h .1) in
       let trace : take n (y .trace) ≡ t .trace =
-      ap (λ (z : Lent). take n (z .trace)) (left-as (h .0) D) ∙ ap (λ a. take n (traceAfter a (x .trace))) (t .answer) ∙ take-written (t .trace) (x .trace) n (t .long) in
+      ap (λ (z : SearchLists). take n (z .trace)) (left-as (h .0) D) ∙ ap (λ a. take n (traceAfter a (x .trace))) (t .answer) ∙ take-written (t .trace) (x .trace) n (t .long) in
       ap (λ (w : List ℕ). traceCall sizes L R α w words) trace
       ∙ search-checked sizes L R words (pair-passed (h .0)) long (length (x .packets)) (length (x .trace)) s α (t .trace) (t .answer)

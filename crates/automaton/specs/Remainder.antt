@@ -14,7 +14,6 @@ unfoldable pub orElse : Option Policy → Option Policy → Option Policy
 orElse none s = s
 orElse (some r) s = some r
 
--- a spine followed by a policy
 unfoldable pub followedBy : Option Policy → Policy → Option Policy
 followedBy none q = none
 followedBy (some r) q = some (seq r q)
@@ -34,7 +33,6 @@ unfoldable pub remainder : Policy → ℕ → Policy
 remainder p zero = p
 remainder p (suc i) = Option·getD (rightSpine p (suc i)) drop
 
--- dup i is in the policy
 unfoldable pub HasDup : Policy → ℕ → Type 0
 HasDup drop i = ⊥
 HasDup id i = ⊥

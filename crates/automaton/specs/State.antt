@@ -30,7 +30,6 @@ module _ (sizes : List ℕ) where
   unfoldable pub setOf : (ℕ → Bool) → PacketSet
   setOf test = maskOf (product sizes) test
 
-  -- {β}
   unfoldable pub single : ℕ → PacketSet
   single β = setOf (λ γ. eqb γ β)
 

@@ -24,7 +24,7 @@ use Rattle.pair.specs.Search.{lastOf, sideOf, reported, searchAnswer, columnsOf
 use Rattle.pair.specs.Rules.{andThen, brokenAt, present, breaksA, breaksB, breaksD, checkRow, checkRows, checkRules}
 use Rattle.pair.specs.Evidence.{evidenceAnswer}
 use Rattle.pair.specs.TraceCheck.{answerOf, sideHas, traceAnswer}
-use Rattle.lent.specs.Lent.{misfit, rowsMisfit, listsStage, lentTests, workAfter}
+use Rattle.lent_lists.specs.Lent.{misfit, rowsMisfit, listsStage, lentTests, workAfter}
 use Rattle.verdict.specs.Verdicts.{verdictOf, traceAfter}
 use Rattle.search.specs.Call.{filled, verdictAfter, lentAfter, searchTests, searchVerdict, searchLeaves}
 use Rattle.evidence.specs.Calls as checking
@@ -36,9 +36,9 @@ use Rattle.grammar.specs.Tokens.{fieldNames, sameWord, allDigits, decimal, lead
 use Rattle.grammar.specs.Grammar.{constantPolicy, fieldAction}
 use Rattle.grammar.specs.Reading.{nothing, joinSequence, joinSum, upTo, whole, start, close, step, finish, readOn}
 use Rattle.grammar.specs.Answer.{badPlace, openAfter, deepPlace, stopPlace, treeRead, tooMany, answered, outcome as reading, textTree, tested, answerTo, leftBy, shortest}
-use Rattle.texts.specs.Call.{textNodes, textStage, textsTests, textsVerdict, textsLeaves}
+use Rattle.search_texts.specs.Call.{textNodes, textStage, textsTests, textsVerdict, textsLeaves}
 use Rattle.cases.specs.Cases.{Case, outcome, bytes, dups, nested, nines, words, lending, front, holding, compares, cases}
 
 pub all-as-stated : map (λ (c : Case). outcome (c .call)) cases ≡ map (λ (c : Case). c .stated) cases
-unfolding xor lowest orAt valueAt changed valuesOf numberOf product nodeCount nodeOf nodeAt one isDup dupsBelow grow treeAt policyOf entry actionEntry treeSize entriesFrom listsOf nodesOf bit maskOf anyBelow setOf union takes image rounds single unionOver labels rightSpine orElse followedBy remainder flow enter ofMarked outputSet enteredSet next outputMask nextMask runs hasTrace starts sameRow listed append appendNext lowestTelling turn handle runFrom run climbing climb path entering verdict answer held at onBoth outputAt nextAt sameStates bothZero inOneOutput bitsOfDups lastOf sideOf reported searchAnswer columnsOf heldColumns andThen brokenAt present breaksA breaksB breaksD checkRow checkRows checkRules evidenceAnswer answerOf sideHas traceAnswer misfit rowsMisfit listsStage lentTests workAfter verdictOf traceAfter filled verdictAfter lentAfter searchTests searchVerdict searchLeaves checking.reported evidenceOf evidenceTests evidenceCall badPacket packetsStage checkedAs checkedUnless following.lentTests traceTests traceCall policyTests pairTests policyAnswer pairAnswer policyLegality pairLegality lengthTest numberStage valuesStage valuesTests valuesAnswer keptUnless valuesLeft badValue numberTests numberAnswer sided isBlank isLetter isDigit inWord fieldNames sameWord allDigits decimal leadingZero isNumber numberToken fieldToken fieldNamed wordToken singleMark doubleMark beginsDouble markToken wordOf frontToken isBad restOfToken placedFrom tokensFrom tokens constantPolicy fieldAction nothing joinSequence joinSum upTo whole start close step finish readOn badPlace openAfter deepPlace stopPlace treeRead tooMany answered reading textTree tested answerTo leftBy shortest textNodes textStage textsTests textsVerdict textsLeaves badCount zeroSize productOver fieldsStage productStage refusal refusedAt atPlace firstOf written children badLengths badKind badField used wrongEntries badEntries someNotBelow badChild occurrences timesChild notOnce maxDups tooManyDups cause policiesStage onlyBits outcome bytes dups nested nines words lending front holding compares cases order inOrder causes stagesOf
+unfolding xor lowest orAt valueAt changed valuesOf numberOf product nodeCount nodeOf nodeAt one isDup dupsBelow grow treeAt policyOf entry actionEntry treeSize entriesFrom listsOf nodesOf bit maskOf anyBelow setOf union takes image rounds single unionOver labels rightSpine orElse followedBy remainder flow enter ofMarked outputSet enteredSet next outputMask nextMask runs hasTrace starts sameRow listed append appendNext lowestTelling turn handle runFrom run climbing climb path entering verdict answer held at onBoth outputAt nextAt sameStates bothZero inOneOutput bitsOfDups lastOf sideOf reported searchAnswer columnsOf heldColumns andThen brokenAt present breaksA breaksB breaksD checkRow checkRows checkRules evidenceAnswer answerOf sideHas traceAnswer misfit rowsMisfit listsStage lentTests workAfter verdictOf traceAfter filled verdictAfter lentAfter searchTests searchVerdict searchLeaves checking.asEvidence evidenceOf evidenceTests evidenceCall badPacket packetsStage checkedAs checkedUnless following.listsTests traceTests traceCall policyTests pairTests policyAnswer pairAnswer policyLegality pairLegality lengthTest numberStage valuesStage valuesTests valuesAnswer keptUnless valuesLeft badValue numberTests numberAnswer sided isBlank isLetter isDigit inWord fieldNames sameWord allDigits decimal leadingZero isNumber numberToken fieldToken fieldNamed wordToken singleMark doubleMark beginsDouble markToken wordOf frontToken isBad restOfToken placedFrom tokensFrom tokens constantPolicy fieldAction nothing joinSequence joinSum upTo whole start close step finish readOn badPlace openAfter deepPlace stopPlace treeRead tooMany answered reading textTree tested answerTo leftBy shortest textNodes textStage textsTests textsVerdict textsLeaves badCount zeroSize productOver fieldsStage productStage refusal refusedAt atPlace firstOf written children badLengths badKind badField used wrongEntries badEntries someNotBelow badChild occurrences timesChild notOnce maxDups tooManyDups cause policiesStage onlyBits outcome bytes dups nested nines words lending front holding compares cases order inOrder causes stagesOf
 all-as-stated = refl

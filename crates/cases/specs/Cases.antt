@@ -24,11 +24,11 @@ use Rattle.grammar.specs.Answer.{textTree, answerTo, leftBy, shortest}
 use Rattle.grammar.specs.declared.Answer.{Answer}
 use Rattle.grammar.specs.declared.Answer.the-variants.{Nodes, Refused as Unread}
 use Rattle.pair.specs.Search.{Columns}
-use Rattle.lent.specs.Lent.{workAfter}
+use Rattle.lent_lists.specs.Lent.{workAfter}
 use Rattle.verdict.specs.declared.Verdict.{Verdict}
 use Rattle.verdict.specs.declared.Verdict.the-variants.{Equal, Left, Right, Full, Refused}
-use Rattle.search.specs.Call.{Lent, lent, searchVerdict, searchLeaves}
-use Rattle.texts.specs.Call.{textNodes, textsVerdict, textsLeaves}
+use Rattle.search.specs.Call.{SearchLists, lent, searchVerdict, searchLeaves}
+use Rattle.search_texts.specs.Call.{textNodes, textsVerdict, textsLeaves}
 use Rattle.evidence.specs.Calls.{evidenceTests, evidenceCall}
 use Rattle.evidence.specs.declared.Evidence.{Evidence}
 use Rattle.evidence.specs.declared.Evidence.the-variants.{Accepted, RuleA, RuleB, RuleC, RuleD, Refused as NotChecked}
@@ -39,8 +39,8 @@ use Rattle.traces.specs.declared.TraceChecked.the-variants.{Left as OnlyLeft, R
 
 -- the public calls on lists, each with what it is handed and lent
 pub data Call : Type 0 where
-  searchTexts : (sizes left right : List ℕ) → Lent → Call
-  search : (sizes : List ℕ) (left right : NodeLists) → Lent → Call
+  searchTexts : (sizes left right : List ℕ) → SearchLists → Call
+  search : (sizes : List ℕ) (left right : NodeLists) → SearchLists → Call
   checkRows : (sizes : List ℕ) (left right : NodeLists) (packets lefts rights work : List ℕ) → Call
   checkTrace : (sizes : List ℕ) (left right : NodeLists) (entering : ℕ) (packets work : List ℕ) → Call
   bothLegal : (sizes : List ℕ) (left right : NodeLists) → Call
@@ -51,7 +51,7 @@ pub data Call : Type 0 where
 
 -- an answer, and every lent list that the call may write
 pub data Outcome : Type 0 where
-  searched : Verdict → Lent → Outcome
+  searched : Verdict → SearchLists → Outcome
   judged : Evidence → List ℕ → Outcome
   followed : TraceChecked → List ℕ → Outcome
   legality : PairAnswer → Outcome
@@ -78,7 +78,7 @@ outcome (search sizes l r x) = searched (searchVerdict sizes l r x) (searchLeave
 outcome (checkRows sizes l r packets lefts rights work) =
     judged (evidenceCall sizes l r packets lefts rights (length work)) (workAfter (evidenceTests sizes l r packets lefts rights (length work)) work)
 outcome (checkTrace sizes l r entering packets work) =
-    followed (traceCall sizes l r entering packets (length work)) (workAfter (following.lentTests sizes l r (length work)) work)
+    followed (traceCall sizes l r entering packets (length work)) (workAfter (following.listsTests sizes l r (length work)) work)
 outcome (bothLegal sizes l r) = legality (pairLegality sizes l r)
 outcome (oneLegal sizes policy) = legalityOfOne (policyLegality sizes policy)
 outcome (read text kind first second) =
@@ -140,7 +140,7 @@ unfoldable pub words : ℕ
 words = 16384
 
 -- so many rows and so long a trace lent
-unfoldable pub lending : ℕ → ℕ → Lent
+unfoldable pub lending : ℕ → ℕ → SearchLists
 lending rows trace = lent (nines rows) (nines rows) (nines rows) (nines rows) (nines trace) (nines words)
 
 -- a list of n entries that holds xs first and 9 beyond
@@ -148,7 +148,7 @@ unfoldable pub front : List ℕ → ℕ → List ℕ
 front xs n = xs ++ nines (n - length xs)
 
 -- the lists of `lending` after a search: rows and trace in front, the work list all 0
-unfoldable pub holding : ℕ → ℕ → Columns → List ℕ → Lent
+unfoldable pub holding : ℕ → ℕ → Columns → List ℕ → SearchLists
 holding rows trace c t =
     lent (front (c .packets) rows) (front (c .lefts) rows) (front (c .rights) rows) (front (c .parents) rows) (front t trace) (replicate words 0)
 

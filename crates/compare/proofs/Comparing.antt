@@ -23,7 +23,7 @@ use Rattle.packet_set.proofs.Words.{member-exclusive-or}
 use Rattle.system.specs.System as system
 use Rattle.system.specs.System.{System, tells}
 use Rattle.system.specs.RowOrder.{lowestTelling}
-use Rattle.pair.specs.Sides.{Side, left, right, Pair, at, Labelled, policies}
+use Rattle.pair.specs.Sides.{Side, left, right, Pair, at, NumberedPolicy, policies}
 use Rattle.pair.specs.Pair.{outputAt, nextAt, inOneOutput, pairSystem}
 use Rattle.pair.specs.Search.{sideOf}
 use Rattle.index.specs.declared.Row.{Row}
@@ -117,7 +117,7 @@ module _ {sizes : List ℕ} {nodes tests : List (List ℕ)} {β : ℕ} {next : L
 
     module _ {r f₁ t₁ : ℕ} {outR nextR′ work₂ : List ℕ} (sr : Stepped sizes (rightOf nodes) (rightOf tests) r β emptySet (rightOf (set next 0 nextL′)) work₁ f₁ t₁ outR nextR′ work₂) {p k : ℕ} (h : Hull f t f₁ t₁ p k) where
       module _ (L R : NodeLists) (b : BothLoaded sizes L R nodes tests) where
-        abbrev ps : Pair Labelled
+        abbrev ps : Pair NumberedPolicy
         ps = policies L R
 
         abbrev S : System

@@ -21,17 +21,17 @@ use Rattle.system.specs.RowOrder.{starts, sameRow, listed, append, appendNext, 
 use Rattle.pair.specs.Sides.{at, onBoth}
 use Rattle.pair.specs.Pair.{outputAt, nextAt, sameStates, bothZero, inOneOutput, bitsOfDups}
 use Rattle.pair.specs.Search.{lastOf, sideOf, reported, searchAnswer, columnsOf, heldColumns}
-use Rattle.lent.specs.Lent.{misfit, rowsMisfit, listsStage}
+use Rattle.lent_lists.specs.Lent.{misfit, rowsMisfit, listsStage}
 use Rattle.grammar.specs.Bytes.{isBlank, isLetter, isDigit, inWord}
 use Rattle.grammar.specs.Tokens.{fieldNames, sameWord, allDigits, decimal, leadingZero, isNumber, numberToken, fieldToken, fieldNamed, wordToken, singleMark, doubleMark, beginsDouble, markToken, wordOf, frontToken, isBad, restOfToken, placedFrom, tokensFrom, tokens}
 use Rattle.grammar.specs.Grammar.{constantPolicy, fieldAction}
 use Rattle.grammar.specs.Reading.{nothing, joinSequence, joinSum, upTo, whole, start, close, step, finish, readOn}
 use Rattle.grammar.specs.Answer.{badPlace, openAfter, deepPlace, stopPlace, treeRead, tooMany, outcome, textTree, tested}
-use Rattle.texts.specs.Call.{textNodes, textStage, textsTests}
+use Rattle.search_texts.specs.Call.{textNodes, textStage, textsTests}
 use Rattle.input.specs.Lines.{beginsLF, isCR, onto, linesOf}
 use Rattle.input.specs.Input.{splitByCommas, isSize, allSizes, sizesOf, askedOf, askedByLines, asked}
 use Rattle.printing.specs.ThreeFields.{digitsUpTo, numeral, lineRest, numberLine, verdictLine, rowLines, lastFlag, traceLines}
-use Rattle.report.specs.Output.{wordEqual, wordLeft, wordRight, wordRefused, wordOfSide, refusalLine, tellingLines, answerLines, outputAfter}
+use Rattle.printed_verdict.specs.Output.{wordEqual, wordLeft, wordRight, wordRefused, wordOfSide, refusalLine, tellingLines, answerLines, outputAfter}
 use Rattle.console.specs.Answer.{programLent, outputOf, programOutput}
 
 -- the bytes of an ASCII text

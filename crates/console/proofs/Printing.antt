@@ -13,7 +13,7 @@ use Rattle.policy.specs.Each.{Each}
 use Rattle.policy.specs.Legality.{Legal}
 use Rattle.policy.proofs.OrderLaws.{passing, policies-legal}
 use Rattle.system.specs.RowOrder.{held}
-use Rattle.pair.specs.Sides.{Side, left, right, Pair, Labelled, policies}
+use Rattle.pair.specs.Sides.{Side, left, right, Pair, NumberedPolicy, policies}
 use Rattle.pair.specs.Pair.{pairSystem}
 use Rattle.pair.specs.Search.{SearchAnswer, Columns, equal, different, rowsFull, traceShort, columnsOf, heldColumns, Distinguishes}
 use Rattle.pair.proofs.Lawful.{legal-pair}
@@ -24,19 +24,19 @@ use Rattle.packet.proofs.Written.{length-written, take-written}
 use Rattle.verdict.specs.declared.Verdict.{Verdict}
 use Rattle.verdict.specs.declared.Verdict.the-variants.{Equal}
 use Rattle.verdict.specs.Verdicts.{tellingVerdict, verdictOf, traceAfter}
-use Rattle.search.specs.Call.{Lent, filled, verdictAfter, lentAfter}
-use Rattle.texts.specs.Call.{textNodes, textPolicies, textsTests, textsAnswer, textsRows, textsVerdict, textsLeaves, TextsSearched}
+use Rattle.search.specs.Call.{SearchLists, filled, verdictAfter, lentAfter}
+use Rattle.search_texts.specs.Call.{textNodes, textPolicies, textsTests, textsAnswer, textsRows, textsVerdict, textsLeaves, TextsSearched}
 use Rattle.printing.specs.ThreeFields.{verdictLine, rowLines, traceLines}
 use Rattle.printing.specs.Wrote.{Wrote}
 use Rattle.input.specs.Input.{malformed, compare, asked}
-use Rattle.report.specs.Inner.{verdictLines, Fits}
+use Rattle.printed_verdict.specs.Inner.{verdictLines, Fits}
 use Rattle.console.specs.Answer.{programLent, outputOf, programOutput, TellingPrinted, Printed, Answered}
-use Rattle.report.specs.Output.{wordEqual, wordLeft, wordRight, wordRefused, refusalLine, tellingLines, wordOfSide, answerLines, outputAfter}
+use Rattle.printed_verdict.specs.Output.{wordEqual, wordLeft, wordRight, wordRefused, refusalLine, tellingLines, wordOfSide, answerLines, outputAfter}
 
 take-few : {A : Type 0} (n : ℕ) (l : List A) → length (take n l) ≤ n
 take-few n l = omega (arith, length-take n l)
 
-module _ (sizes left-text right-text : List ℕ) (x : Lent) where
+module _ (sizes left-text right-text : List ℕ) (x : SearchLists) where
   legal : textsTests sizes left-text right-text x ≡ Passed → Legal sizes (textNodes left-text) × Legal sizes (textNodes right-text)
   unfolding textsTests Each sided
   legal e = let g = policies-legal _ _ _ _ _ (passing _ _ _ _ _ e) in (g .0, g .1 .0)
@@ -52,7 +52,7 @@ module _ (sizes left-text right-text : List ℕ) (x : Lent) where
   trace-fits : (s : Side) (α : ℕ) (t : List ℕ) → textsAnswer sizes left-text right-text x ≡ different s α t → length t ≤ length (x .trace)
   trace-fits s α t a = go (subst (verdicts.Searched sizes ps (length (x .packets)) (length (x .trace))) a (searched sizes ps (length (x .packets)) (length (x .trace))))
     where
-      ps : Pair Labelled
+      ps : Pair NumberedPolicy
       ps = policies (textNodes left-text) (textNodes right-text)
 
       go : verdicts.Searched sizes ps (length (x .packets)) (length (x .trace)) (different s α t) → length t ≤ length (x .trace)
@@ -100,7 +100,7 @@ module _ (sizes left-text right-text : List ℕ) (x : Lent) where
       fits-passed (rowsFull n) e = tt
       fits-passed (traceShort n) e = tt
 
-  module _ {v : Verdict} {y : Lent} (D : TextsSearched sizes left-text right-text x v y) where
+  module _ {v : Verdict} {y : SearchLists} (D : TextsSearched sizes left-text right-text x v y) where
     -- the lines printed of what the search leaves are the program's output
     pub lines-are : verdictLines v (y .packets) (y .lefts) (y .rights) (y .trace) ≡ outputAfter (textsTests sizes left-text right-text x) (textsRows sizes left-text right-text x) (textsAnswer sizes left-text right-text x)
     unfolding textsVerdict textsLeaves verdictAfter lentAfter outputAfter verdictLines
@@ -112,7 +112,7 @@ module _ (sizes left-text right-text : List ℕ) (x : Lent) where
         a : SearchAnswer
         a = textsAnswer sizes left-text right-text x
 
-        shown : Verdict → Lent → List ℕ
+        shown : Verdict → SearchLists → List ℕ
         shown w z = verdictLines w (z .packets) (z .lefts) (z .rights) (z .trace)
 
         go : (t : Tested) → textsTests sizes left-text right-text x ≡ t → shown v y ≡ outputAfter t rows a
@@ -130,10 +130,10 @@ module _ (sizes left-text right-text : List ℕ) (x : Lent) where
         a : SearchAnswer
         a = textsAnswer sizes left-text right-text x
 
-        FitsIn : Verdict → Lent → Type 0
+        FitsIn : Verdict → SearchLists → Type 0
         FitsIn w z = Fits w (z .packets) (z .lefts) (z .rights) (z .trace)
 
-        moved : {w : Verdict} {z : Lent} → v ≡ w → y ≡ z → FitsIn w z → FitsIn v y
+        moved : {w : Verdict} {z : SearchLists} → v ≡ w → y ≡ z → FitsIn w z → FitsIn v y
         moved {w} {z} e f h = subst (λ u. FitsIn u y) (sym e) (subst (FitsIn w) (sym f) h)
 
         go : (u : Tested) → textsTests sizes left-text right-text x ≡ u → FitsIn v y
@@ -189,7 +189,7 @@ program-lengths : (length (programLent .packets) ≡ 4096) × (length (programLe
 unfolding programLent
 program-lengths = (length-replicate {A = ℕ} 4096 0, length-replicate {A = ℕ} 4096 0, length-replicate {A = ℕ} 4096 0, length-replicate {A = ℕ} 4096 0)
 
-module _ {sizes left-text right-text : List ℕ} {v : Verdict} {y : Lent} (D : TextsSearched sizes left-text right-text programLent v y) where
+module _ {sizes left-text right-text : List ℕ} {v : Verdict} {y : SearchLists} (D : TextsSearched sizes left-text right-text programLent v y) where
   pub shows : Fits v (y .packets) (y .lefts) (y .rights) (y .trace)
   shows = let l = program-lengths in lines-fit sizes left-text right-text programLent D (l .0) (l .1) (l .2) (l .3)
 
@@ -197,7 +197,7 @@ module _ {sizes left-text right-text : List ℕ} {v : Verdict} {y : Lent} (D : T
   trace-left : (s : Side) (h : Tells (textsTests sizes left-text right-text programLent) (textsAnswer sizes left-text right-text programLent) s) → take (length (h .trace)) (y .trace) ≡ h .trace
   unfolding textsLeaves lentAfter filled traceAfter
   trace-left s h =
-      ap (λ (z : Lent). take (length (h .trace)) (z .trace)) (D .leaves ∙ ap (λ (t : Tested). lentAfter t (textsRows sizes left-text right-text programLent) (textsAnswer sizes left-text right-text programLent) programLent) (h .passed))
+      ap (λ (z : SearchLists). take (length (h .trace)) (z .trace)) (D .leaves ∙ ap (λ (t : Tested). lentAfter t (textsRows sizes left-text right-text programLent) (textsAnswer sizes left-text right-text programLent) programLent) (h .passed))
       ∙ ap (λ a. take (length (h .trace)) (traceAfter a (programLent .trace))) (h .answer)
       ∙ take-written (h .trace) (programLent .trace)
 

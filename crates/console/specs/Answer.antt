@@ -8,16 +8,16 @@ use Rattle.policy.specs.Meaning.{SameTracesBelow}
 use Rattle.pair.specs.Sides.{Side}
 use Rattle.pair.specs.Search.{Distinguishes}
 use Rattle.packet.specs.Written.{written}
-use Rattle.search.specs.Call.{Lent, lent}
+use Rattle.search.specs.Call.{SearchLists, lent}
 use Rattle.grammar.specs.Tokens.{fieldNames}
 use Rattle.grammar.specs.Answer.{textTree}
-use Rattle.texts.specs.Call.{textPolicies, textsTests, textsAnswer, textsRows}
+use Rattle.search_texts.specs.Call.{textPolicies, textsTests, textsAnswer, textsRows}
 use Rattle.input.specs.Input.{Asked, malformed, compare, asked}
 use Rattle.printing.specs.Wrote.{Wrote}
-use Rattle.report.specs.Output.{wordEqual, wordOfSide, refusalLine, tellingLines, outputAfter}
+use Rattle.printed_verdict.specs.Output.{wordEqual, wordOfSide, refusalLine, tellingLines, outputAfter}
 
 -- it lends 4,096 rows and as long a trace
-unfoldable pub programLent : Lent
+unfoldable pub programLent : SearchLists
 programLent = lent (replicate 4096 0) (replicate 4096 0) (replicate 4096 0) (replicate 4096 0) (replicate 4096 0) (replicate 16384 0)
 
 -- cause 18 is tested first, then those of the search on two texts

@@ -19,7 +19,7 @@ fn searched(sizes: &[u16], left: &[u8], right: &[u8], out: &mut [u8]) -> usize
     let mut parents = [0u16; 4096];
     let mut trace = [0u16; 4096];
     let mut work = [0u32; 16384];
-    let verdict = texts::search(
+    let verdict = search_texts::search(
         sizes,
         left,
         right,
@@ -30,7 +30,7 @@ fn searched(sizes: &[u16], left: &[u8], right: &[u8], out: &mut [u8]) -> usize
         &mut trace,
         &mut work,
     );
-    report::show(out, verdict, &packets, &lefts, &rights, &trace)
+    printed_verdict::show(out, verdict, &packets, &lefts, &rights, &trace)
 }
 
 // The three lines of the input, read and answered. A line of sizes has at most 16,385 of them and their commas.
@@ -45,7 +45,7 @@ fn asked(input: &[u8], three: Three, out: &mut [u8]) -> usize
     let third_end = three.third_end;
     let mut list = [0u16; 16385];
     let Sizes::Read(n) = input::sizes::read(&input[..first_end], &mut list) else {
-        return report::malformed(out);
+        return printed_verdict::malformed(out);
     };
     searched(
         &list[..n],
@@ -61,11 +61,11 @@ pub fn answer(input: &[u8], output: &mut [u8; 131072]) -> usize
     ensures fits { λ e. ⌜ (e ≤ 131072) × (131072 ≡ length (now (output .exit))) ⌝ }
 {
     if 32768 < input.len() {
-        return report::malformed(output);
+        return printed_verdict::malformed(output);
     }
     let three = input::lines::three_lines(input);
     if three.ok {
         return asked(input, three, output);
     }
-    report::malformed(output)
+    printed_verdict::malformed(output)
 }

@@ -27,20 +27,20 @@ use Rattle.system.proofs.Runs.{finished≢handling}
 use Rattle.pair.specs.Sides.{policies}
 use Rattle.pair.specs.Pair.{pairSystem}
 use Rattle.pair.specs.Search.{Columns, equal, columnsOf, searchAnswer, heldColumns}
-use Rattle.pair.specs.Rules.{Checked, accepted, ruleA, ruleB, ruleC, ruleD, Judged}
+use Rattle.pair.specs.Rules.{RulesAnswer, accepted, ruleA, ruleB, ruleC, ruleD, Judged}
 use Rattle.pair.specs.Evidence.{tableOf, evidenceAnswer, RowRules}
 use Rattle.pair.proofs.Lawful.{EvaluablePair, legal-pair}
 use Rattle.pair.proofs.Evidence.{evidence-judged, accepted-same, evidence-iff, search-accepted, row-order-accepted}
-use Rattle.lent.specs.Lent.{misfit, rowsMisfit, listsStage, workAfter}
-use Rattle.lent.proofs.Testing.{front-tests, tests-passed, pair-lent, lent-pair}
+use Rattle.lent_lists.specs.Lent.{misfit, rowsMisfit, listsStage, workAfter}
+use Rattle.lent_lists.proofs.Testing.{front-tests, tests-passed, pair-lent, lent-pair}
 use Rattle.evidence.specs.declared.Evidence.{Evidence}
 use Rattle.evidence.specs.declared.Evidence.the-variants.{Accepted, RuleA, RuleB, RuleC, RuleD, Refused as NotChecked}
-use Rattle.evidence.specs.Calls.{reported, evidenceOf, evidenceTests, evidenceCall, HoldRowOrder, CheckedRows}
-use Rattle.evidence.specs.Steps.{Lent, TableChecked}
+use Rattle.evidence.specs.Calls.{asEvidence, evidenceOf, evidenceTests, evidenceCall, HoldRowOrder, CheckedRows}
+use Rattle.evidence.specs.Steps.{LentTable, TableChecked}
 
 -- ---- the cases of the answer tell the rule and the spot
 
-told : Evidence → Checked
+told : Evidence → RulesAnswer
 told Accepted = accepted
 told (RuleA i) = ruleA i
 told (RuleB α) = ruleB α
@@ -48,22 +48,22 @@ told (RuleC i) = ruleC i
 told (RuleD i γ) = ruleD i γ
 told (NotChecked r) = ruleA 0
 
-told-reported : (x : Checked) → told (reported x) ≡ x
-unfolding told reported
+told-reported : (x : RulesAnswer) → told (asEvidence x) ≡ x
+unfolding told asEvidence
 told-reported accepted = refl
 told-reported (ruleA i) = refl
 told-reported (ruleB α) = refl
 told-reported (ruleC i) = refl
 told-reported (ruleD i γ) = refl
 
-reported-same : (x y : Checked) → reported x ≡ reported y → x ≡ y
+reported-same : (x y : RulesAnswer) → asEvidence x ≡ asEvidence y → x ≡ y
 reported-same x y e = sym (told-reported x) ∙ ap told e ∙ told-reported y
 
 not-accepted : {r : Refusal} → NotChecked r ≡ Accepted → ⊥
 not-accepted e = true≢false (cc)
 
-accepted-passed : (t : Tested) (x : Checked) → evidenceOf t x ≡ Accepted → (t ≡ Passed) × (x ≡ accepted)
-unfolding evidenceOf reported
+accepted-passed : (t : Tested) (x : RulesAnswer) → evidenceOf t x ≡ Accepted → (t ≡ Passed) × (x ≡ accepted)
+unfolding evidenceOf asEvidence
 accepted-passed Passed x e = (refl, reported-same x accepted e)
 accepted-passed (Refused r) x e = absurd (not-accepted e)
 
@@ -101,14 +101,14 @@ module _ (sizes : List ℕ) (L R : NodeLists) where
     -- accepted exactly when no cause refuses and the four row rules hold
     pub call-accepted : (words : ℕ) → (evidenceCall sizes L R packets lefts rights words ≡ Accepted)
         ↔ ((evidenceTests sizes L R packets lefts rights words ≡ Passed) × RowRules sizes (policies L R) packets lefts rights)
-    unfolding evidenceCall evidenceOf reported
+    unfolding evidenceCall evidenceOf asEvidence
     call-accepted words = (
       λ e.
           let x = accepted-passed _ _ e in
           (x .0, evidence-iff sizes (policies L R) (evaluable words (x .0)) packets lefts rights .0 (x .1)),
       λ k.
           ap (λ (t : Tested). evidenceOf t (evidenceAnswer sizes (policies L R) packets lefts rights)) (k .0)
-          ∙ ap reported (evidence-iff sizes (policies L R) (evaluable words (k .0)) packets lefts rights .1 (k .1)),
+          ∙ ap asEvidence (evidence-iff sizes (policies L R) (evaluable words (k .0)) packets lefts rights .1 (k .1)),
     )
 
     -- accepted: the same traces from every packet
@@ -117,7 +117,7 @@ module _ (sizes : List ℕ) (L R : NodeLists) where
     call-sound words e = let x = accepted-passed _ _ e in accepted-same sizes (policies L R) (evaluable words (x .0)) packets lefts rights (x .1)
 
     -- where no cause refuses, the answer names the first broken rule and its spot
-    pub call-judged : (words : ℕ) → evidenceTests sizes L R packets lefts rights words ≡ Passed → (x : Checked) → evidenceCall sizes L R packets lefts rights words ≡ reported x
+    pub call-judged : (words : ℕ) → evidenceTests sizes L R packets lefts rights words ≡ Passed → (x : RulesAnswer) → evidenceCall sizes L R packets lefts rights words ≡ asEvidence x
         → Judged (pairSystem sizes (policies L R)) (tableOf sizes (policies L R) packets lefts rights) x
     unfolding evidenceCall evidenceOf
     call-judged words p x e =
@@ -148,7 +148,7 @@ module _ (sizes : List ℕ) (L R : NodeLists) where
         lengths = rw (length-map es (λ e. e .row .packet), length-map es (λ e. e .row .state .left), length-map es (λ e. e .row .state .right)) refl
 
     held-accepted : evidenceAnswer sizes (policies L R) (H .packets) (H .lefts) (H .rights) ≡ accepted → evidenceCall sizes L R (H .packets) (H .lefts) (H .rights) words ≡ Accepted
-    unfolding evidenceCall evidenceOf reported
+    unfolding evidenceCall evidenceOf asEvidence
     held-accepted e = ap₂ evidenceOf held-tests e
 
     -- the rows of a search that answered equal are accepted
@@ -217,7 +217,7 @@ module _ (sizes : List ℕ) (L R : NodeLists) where
       refused r e = checked-rows (Refused r) (sym tests-are ∙ e) (NotChecked r) refl work refl
 
       module _ (passed : q .tested ≡ Passed) where
-        pub lent : Lent sizes L R packets lefts rights (q .packets) work
+        pub lent : LentTable sizes L R packets lefts rights (q .packets) work
         unfolding evidenceTests
         lent =
             let h = tests-passed sizes L R _ (sym tests-are ∙ passed) in

@@ -9,9 +9,9 @@ use mathlib.Core.Path.{_≡_, refl, sym, subst}
 use Rattle.packet.specs.Lowest.{lowest}
 use Rattle.packet.proofs.Tests.{last-or-before}
 use Rattle.system.specs.System.{System, Row, nextRow, tells}
-use Rattle.pair.specs.Rules.{Table, Checked, accepted, ruleA, ruleB, ruleC, ruleD, andThen, brokenAt, present, breaksD, checkRow, checkRows}
+use Rattle.pair.specs.Rules.{Table, RulesAnswer, accepted, ruleA, ruleB, ruleC, ruleD, andThen, brokenAt, present, breaksD, checkRow, checkRows}
 
-both-accepted : (x y : Checked) → andThen x y ≡ accepted → (x ≡ accepted) × (y ≡ accepted)
+both-accepted : (x y : RulesAnswer) → andThen x y ≡ accepted → (x ≡ accepted) × (y ≡ accepted)
 unfolding andThen
 both-accepted accepted y e = (refl, e)
 both-accepted (ruleA i) y e = let z : _≡_ {A = ℕ} 0 1 = cc in absurd (omega arith)

@@ -22,7 +22,7 @@ use Rattle.system.specs.System.{System}
 use Rattle.system.specs.RowOrder.{lowestTelling}
 use Rattle.pair.specs.Sides.{Side, left, right, policies}
 use Rattle.pair.specs.Pair.{pairSystem}
-use Rattle.pair.specs.Rules.{Table, Checked, accepted, ruleC, ruleD, andThen, brokenAt, breaksD, checkRow, checkRows}
+use Rattle.pair.specs.Rules.{Table, RulesAnswer, accepted, ruleC, ruleD, andThen, brokenAt, breaksD, checkRow, checkRows}
 use Rattle.pair.specs.Evidence.{tableOf}
 use Rattle.index.specs.declared.Row.{Row as MaskRow}
 use Rattle.index.specs.Columns.{leftOf, rightOf, rowAt, sameStates, sameRow}
@@ -37,14 +37,14 @@ use Rattle.evidence.specs.declared.RowAnswer.the-variants.{Keeps, Output
 use Rattle.row_rules.specs.declared.Spot.{Spot}
 use Rattle.row_rules.specs.declared.Spot.the-variants.{At, Nowhere}
 use Rattle.row_rules.specs.Presence.{spotOf, nextMissing, Repeated}
-use Rattle.evidence.specs.Calls.{reported}
-use Rattle.evidence.specs.Steps.{rowTold, Ready, RowChecked, RowsChecked}
+use Rattle.evidence.specs.Calls.{asEvidence}
+use Rattle.evidence.specs.Steps.{rowTold, TableReady, RowChecked, RowsChecked}
 use Rattle.evidence.proofs.Joining.{lowest-agree, missing-is}
 use Rattle.evidence.proofs.Repeats.{repeat-keeps}
 
 -- ---- one row
 
-module _ {sizes : List ℕ} {nodes tests : List (List ℕ)} {packets lefts rights : List ℕ} {count : ℕ} {trees work : List ℕ} (ready : Ready sizes nodes tests packets lefts rights count trees work) where
+module _ {sizes : List ℕ} {nodes tests : List (List ℕ)} {packets lefts rights : List ℕ} {count : ℕ} {trees work : List ℕ} (ready : TableReady sizes nodes tests packets lefts rights count trees work) where
   count-is : count ≡ product sizes
   count-is = ready .cleared .lent .allowed .packet-count
 
@@ -129,13 +129,13 @@ module _ {sizes : List ℕ} {nodes tests : List (List ℕ)} {packets lefts right
 -- ---- row by row
 
 -- a row that breaks a rule ends the check
-rows-end : (S : System) (T : Table S) (x : Checked) → ((y : Checked) → andThen x y ≡ x) → (i n : ℕ) → i < n → checkRows S T i ≡ accepted → x ≡ checkRow S T i → checkRows S T n ≡ x
+rows-end : (S : System) (T : Table S) (x : RulesAnswer) → ((y : RulesAnswer) → andThen x y ≡ x) → (i n : ℕ) → i < n → checkRows S T i ≡ accepted → x ≡ checkRow S T i → checkRows S T n ≡ x
 unfolding checkRows andThen
 rows-end S T x ends i zero h keep e = absurd (not-suc-le-zero h)
 rows-end S T x ends i (suc n) h keep e = go (last-or-before h) (λ l. rows-end S T x ends i n l keep e)
   where
     go : (i < n) ⊎ (i ≡ n) → (i < n → checkRows S T n ≡ x) → andThen (checkRows S T n) (checkRow S T n) ≡ x
-    go (inl l) ih = ap (λ (y : Checked). andThen y (checkRow S T n)) (ih l) ∙ ends (checkRow S T n)
+    go (inl l) ih = ap (λ (y : RulesAnswer). andThen y (checkRow S T n)) (ih l) ∙ ends (checkRow S T n)
     go (inr q) ih = ap₂ andThen (ap (checkRows S T) (sym q) ∙ keep) (ap (checkRow S T) (sym q) ∙ sym e)
 
 module _ (sizes : List ℕ) (L R : NodeLists) (packets lefts rights : List ℕ) where
@@ -163,8 +163,8 @@ module _ {sizes : List ℕ} {nodes tests : List (List ℕ)} {packets lefts right
   rows-none = record { within = omega arith; keep = λ L R b. refl; blank = record { two = refl; left-blank = blank-new; right-blank = blank-new }; kept = refl }
 
   module _ {work₀ work : List ℕ} {next : List (List ℕ)} {i : ℕ} (to : RowsTo sizes nodes tests packets lefts rights work₀ work next i) where
-    pub rows-ready : {count : ℕ} {trees : List ℕ} → Ready sizes nodes tests packets lefts rights count trees work₀ → Ready sizes nodes tests packets lefts rights count trees work
-    rows-ready {count} {trees} = subst (Ready sizes nodes tests packets lefts rights count trees) (sym (to .kept))
+    pub rows-ready : {count : ℕ} {trees : List ℕ} → TableReady sizes nodes tests packets lefts rights count trees work₀ → TableReady sizes nodes tests packets lefts rights count trees work
+    rows-ready {count} {trees} = subst (TableReady sizes nodes tests packets lefts rights count trees) (sym (to .kept))
 
     module _ (inside : i < length packets) {next′ : List (List ℕ)} {work′ : List ℕ} {answer : RowAnswer} (row : RowChecked sizes nodes tests packets lefts rights i work answer next′ work′) where
       pub rows-more : answer ≡ Keeps → RowsTo sizes nodes tests packets lefts rights work₀ work′ next′ (i + 1)
@@ -178,16 +178,16 @@ module _ {sizes : List ℕ} {nodes tests : List (List ℕ)} {packets lefts right
           }
 
       -- a row that breaks a rule ends the check
-      rows-broken : (x : Checked) → ((y : Checked) → andThen x y ≡ x) → rowTold i answer ≡ x → RowsChecked sizes nodes tests packets lefts rights work₀ (reported x) work′
+      rows-broken : (x : RulesAnswer) → ((y : RulesAnswer) → andThen x y ≡ x) → rowTold i answer ≡ x → RowsChecked sizes nodes tests packets lefts rights work₀ (asEvidence x) work′
       rows-broken x ends e =
-          record { answers = λ L R b. sym (ap reported (rows-end _ _ x ends i (length packets) inside (to .keep L R b) (sym e ∙ row .told L R b))); kept = row .kept ∙ to .kept }
+          record { answers = λ L R b. sym (ap asEvidence (rows-end _ _ x ends i (length packets) inside (to .keep L R b) (sym e ∙ row .told L R b))); kept = row .kept ∙ to .kept }
 
       pub rows-outputs : answer ≡ Outputs → RowsChecked sizes nodes tests packets lefts rights work₀ (RuleC i) work′
-      unfolding rowTold reported andThen
+      unfolding rowTold asEvidence andThen
       rows-outputs e = rows-broken (ruleC i) (λ y. refl) (ap (rowTold i) e)
 
       pub rows-next : (γ : ℕ) → answer ≡ Next γ → RowsChecked sizes nodes tests packets lefts rights work₀ (RuleD i γ) work′
-      unfolding rowTold reported andThen
+      unfolding rowTold asEvidence andThen
       rows-next γ e = rows-broken (ruleD i γ) (λ y. refl) (ap (rowTold i) e)
 
     -- a repeat of a row that keeps (c) and (d)
@@ -204,5 +204,5 @@ module _ {sizes : List ℕ} {nodes tests : List (List ℕ)} {packets lefts right
         }
 
     pub rows-all : length packets ≤ i → RowsChecked sizes nodes tests packets lefts rights work₀ Accepted work
-    unfolding reported
-    rows-all h = record { answers = λ L R b. ap reported (sym (to .keep L R b) ∙ ap (checkRows _ _) (le-antisymm (to .within) h)); kept = to .kept }
+    unfolding asEvidence
+    rows-all h = record { answers = λ L R b. ap asEvidence (sym (to .keep L R b) ∙ ap (checkRows _ _) (le-antisymm (to .within) h)); kept = to .kept }

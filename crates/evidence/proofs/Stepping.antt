@@ -25,8 +25,8 @@ use Rattle.evidence.specs.declared.Evidence.the-variants.{RuleA, RuleB}
 use Rattle.row_rules.specs.declared.Spot.{Spot}
 use Rattle.row_rules.specs.declared.Spot.the-variants.{At, Nowhere}
 use Rattle.row_rules.specs.Presence.{spotOf, strays, startMissing}
-use Rattle.evidence.specs.Calls.{reported}
-use Rattle.evidence.specs.Steps.{Lent, Cleared, Vacant, Ready, RowsChecked, StartsChecked, TableChecked}
+use Rattle.evidence.specs.Calls.{asEvidence}
+use Rattle.evidence.specs.Steps.{LentTable, Cleared, Vacant, TableReady, RowsChecked, StartsChecked, TableChecked}
 use Rattle.evidence.proofs.Joining.{lowest-stray, packets-small, lowest-start}
 
 -- the spot found, as the lowest of a test
@@ -58,7 +58,7 @@ module _ (sizes : List ℕ) (L R : NodeLists) (packets lefts rights : List ℕ) 
     load-ready = load-asks (C .lent .allowed .legal) (C .lent .allowed .left-legal) (C .lent .allowed .right-legal) (C .lent .allowed .packet-count)
 
     pub loaded-ready : {nodes tests : List (List ℕ)} {trees : List ℕ} → BothLoaded sizes L R nodes tests → Indexed packets lefts rights count (length packets) trees
-        → Ready sizes nodes tests packets lefts rights count trees work
+        → TableReady sizes nodes tests packets lefts rights count trees work
     loaded-ready l I = record { lists = L; others = R; loaded = l; cleared = C; indexed = I }
 
     module _ {spot : Spot} (missing : spotOf spot ≡ lowest (startMissing packets lefts rights) count) where
@@ -66,35 +66,35 @@ module _ (sizes : List ℕ) (L R : NodeLists) (packets lefts rights : List ℕ) 
       start-is = found missing (lowest-start sizes L R packets lefts rights count (C .lent .allowed .packet-count))
 
       pub starts-broken : (α : ℕ) → spot ≡ At α → StartsChecked sizes L R packets lefts rights work (RuleB α) work
-      unfolding spotOf reported andThen brokenAt
-      starts-broken α e = record { answers = sym (ap (λ (o : Option ℕ). reported (andThen (brokenAt ruleB o) (checkRows S T (length packets)))) (start-is e)); kept = refl }
+      unfolding spotOf asEvidence andThen brokenAt
+      starts-broken α e = record { answers = sym (ap (λ (o : Option ℕ). asEvidence (andThen (brokenAt ruleB o) (checkRows S T (length packets)))) (start-is e)); kept = refl }
 
       pub starts-kept : spot ≡ Nowhere → {nodes tests : List (List ℕ)} → BothLoaded sizes L R nodes tests
           → {answer : Evidence} {work′ : List ℕ} → RowsChecked sizes nodes tests packets lefts rights work answer work′ → StartsChecked sizes L R packets lefts rights work answer work′
       unfolding spotOf andThen brokenAt
       starts-kept e l rows =
           record {
-            answers = rows .answers L R l ∙ sym (ap (λ (o : Option ℕ). reported (andThen (brokenAt ruleB o) (checkRows S T (length packets)))) (start-is e));
+            answers = rows .answers L R l ∙ sym (ap (λ (o : Option ℕ). asEvidence (andThen (brokenAt ruleB o) (checkRows S T (length packets)))) (start-is e));
             kept = rows .kept;
           }
 
   -- ---- the table
 
   -- a mask has room for a bit of each dup
-  pub dups-few : {count : ℕ} {work : List ℕ} (lent : Lent sizes L R packets lefts rights count work) {dl dr : ℕ} → dl ≡ dupsBelow L (nodeCount L) → dr ≡ dupsBelow R (nodeCount R) → (dl < 32) × (dr < 32)
+  pub dups-few : {count : ℕ} {work : List ℕ} (lent : LentTable sizes L R packets lefts rights count work) {dl dr : ℕ} → dl ≡ dupsBelow L (nodeCount L) → dr ≡ dupsBelow R (nodeCount R) → (dl < 32) × (dr < 32)
   unfolding maxDups
   dups-few lent el er = let a = lent .allowed .left-legal .wellFormed .dups in let b = lent .allowed .right-legal .wellFormed .dups in (omega arith, omega arith)
 
-  module _ {count : ℕ} {work clear : List ℕ} (lent : Lent sizes L R packets lefts rights count work) (isClear : clear ≡ replicate (length work) 0) {dl dr : ℕ} (isLeft : dl ≡ dupsBelow L (nodeCount L)) (isRight : dr ≡ dupsBelow R (nodeCount R))
+  module _ {count : ℕ} {work clear : List ℕ} (lent : LentTable sizes L R packets lefts rights count work) (isClear : clear ≡ replicate (length work) 0) {dl dr : ℕ} (isLeft : dl ≡ dupsBelow L (nodeCount L)) (isRight : dr ≡ dupsBelow R (nodeCount R))
       {spot : Spot} (stray : spotOf spot ≡ lowest (strays packets lefts rights count dl dr) (length packets)) where
     stray-is : {s : Spot} → spot ≡ s → lowest (breaksA S T) (length packets) ≡ spotOf s
     stray-is = found stray (lowest-stray sizes L R packets lefts rights count dl dr (lent .allowed .packet-count) isLeft isRight)
 
     pub table-broken : (i : ℕ) → spot ≡ At i → TableChecked sizes L R packets lefts rights work (RuleA i) clear
-    unfolding spotOf reported evidenceAnswer checkRules andThen brokenAt
+    unfolding spotOf asEvidence evidenceAnswer checkRules andThen brokenAt
     table-broken i e =
         record {
-          answers = sym (ap (λ (o : Option ℕ). reported (andThen (brokenAt ruleA o) (andThen (brokenAt ruleB (lowest (breaksB S T) (product sizes))) (checkRows S T (length packets))))) (stray-is e));
+          answers = sym (ap (λ (o : Option ℕ). asEvidence (andThen (brokenAt ruleA o) (andThen (brokenAt ruleB (lowest (breaksB S T) (product sizes))) (checkRows S T (length packets))))) (stray-is e));
           cleared = isClear;
         }
 
@@ -113,6 +113,6 @@ module _ (sizes : List ℕ) (L R : NodeLists) (packets lefts rights : List ℕ) 
         record {
           answers =
               starts .answers
-              ∙ sym (ap (λ (o : Option ℕ). reported (andThen (brokenAt ruleA o) (andThen (brokenAt ruleB (lowest (breaksB S T) (product sizes))) (checkRows S T (length packets))))) (stray-is e));
+              ∙ sym (ap (λ (o : Option ℕ). asEvidence (andThen (brokenAt ruleA o) (andThen (brokenAt ruleB (lowest (breaksB S T) (product sizes))) (checkRows S T (length packets))))) (stray-is e));
           cleared = starts .kept ∙ isClear;
         }

@@ -13,23 +13,23 @@ use Rattle.system.specs.RowOrder.{NeedsMore}
 use Rattle.pair.specs.Sides.{policies}
 use Rattle.pair.specs.Pair.{pairSystem}
 use Rattle.pair.specs.Search.{heldColumns}
-use Rattle.pair.specs.Rules.{Checked, accepted, ruleA, ruleB, ruleC, ruleD, Judged}
+use Rattle.pair.specs.Rules.{RulesAnswer, accepted, ruleA, ruleB, ruleC, ruleD, Judged}
 use Rattle.pair.specs.Evidence.{tableOf, evidenceAnswer, RowRules}
-use Rattle.lent.specs.Lent.{listsStage, lentTests, workAfter}
+use Rattle.lent_lists.specs.Lent.{listsStage, lentTests, workAfter}
 use Rattle.evidence.specs.declared.Evidence.{Evidence}
 use Rattle.evidence.specs.declared.Evidence.the-variants.{Accepted, RuleA, RuleB, RuleC, RuleD, Refused as NotChecked}
 
 -- the broken rule and its spot: (a) row; (b) packet; (c) row; (d) row and packet
-unfoldable pub reported : Checked → Evidence
-reported accepted = Accepted
-reported (ruleA i) = RuleA i
-reported (ruleB α) = RuleB α
-reported (ruleC i) = RuleC i
-reported (ruleD i γ) = RuleD i γ
+unfoldable pub asEvidence : RulesAnswer → Evidence
+asEvidence accepted = Accepted
+asEvidence (ruleA i) = RuleA i
+asEvidence (ruleB α) = RuleB α
+asEvidence (ruleC i) = RuleC i
+asEvidence (ruleD i γ) = RuleD i γ
 
 -- the answer: a refusal has its own number, side and place
-unfoldable pub evidenceOf : Tested → Checked → Evidence
-evidenceOf Passed x = reported x
+unfoldable pub evidenceOf : Tested → RulesAnswer → Evidence
+evidenceOf Passed x = asEvidence x
 evidenceOf (Refused r) x = NotChecked r
 
 module _ (sizes : List ℕ) (L R : NodeLists) where
@@ -59,7 +59,7 @@ module _ (sizes : List ℕ) (L R : NodeLists) where
       -- "it accepts exactly when no listed cause of refusal holds and the rows keep all four row rules"
       pub accepts : (answer ≡ Accepted) ↔ ((evidenceTests (length work) ≡ Passed) × RowRules sizes (policies L R) packets lefts rights)
       -- "where no cause holds and a rule is broken, it rejects with the rule and spot that document 01 names"
-      pub rejects : evidenceTests (length work) ≡ Passed → (x : Checked) → answer ≡ reported x → Judged (pairSystem sizes (policies L R)) (tableOf sizes (policies L R) packets lefts rights) x
+      pub rejects : evidenceTests (length work) ≡ Passed → (x : RulesAnswer) → answer ≡ asEvidence x → Judged (pairSystem sizes (policies L R)) (tableOf sizes (policies L R) packets lefts rights) x
       -- "whenever it accepts, the two policies have the same traces from every packet"
       pub sound : answer ≡ Accepted → SameTracesBelow sizes (policyOf L) (policyOf R)
       -- an equal pair's row order "is a table that the checker accepts, with any work list that refusal 10 lets pass"

@@ -8,19 +8,19 @@ use Rattle.policy.specs.Legality.{Legal}
 use Rattle.policy.specs.NodeLists.{NodeLists}
 use Rattle.pair.specs.Sides.{policies}
 use Rattle.pair.specs.Pair.{pairSystem}
-use Rattle.pair.specs.Rules.{Checked, accepted, ruleB, ruleC, ruleD, andThen, brokenAt, breaksB, checkRow, checkRows}
+use Rattle.pair.specs.Rules.{RulesAnswer, accepted, ruleB, ruleC, ruleD, andThen, brokenAt, breaksB, checkRow, checkRows}
 use Rattle.pair.specs.Evidence.{tableOf, evidenceAnswer}
 use Rattle.packet.specs.Lowest.{lowest}
-use Rattle.index.specs.Columns.{Table, Small}
+use Rattle.index.specs.Columns.{EvenColumns, Small}
 use Rattle.index.specs.Index.{Indexed, Indexable}
 use Rattle.compare.specs.Comparison.{BothLoaded, BothBlank}
 use Rattle.evidence.specs.declared.Evidence.{Evidence}
 use Rattle.evidence.specs.declared.RowAnswer.{RowAnswer}
 use Rattle.evidence.specs.declared.RowAnswer.the-variants.{Keeps, Outputs, Next}
-use Rattle.evidence.specs.Calls.{reported}
+use Rattle.evidence.specs.Calls.{asEvidence}
 
 -- what a row's answer says of row i
-unfoldable pub rowTold : ℕ → RowAnswer → Checked
+unfoldable pub rowTold : ℕ → RowAnswer → RulesAnswer
 rowTold i Keeps = accepted
 rowTold i Outputs = ruleC i
 rowTold i (Next γ) = ruleD i γ
@@ -34,15 +34,15 @@ module _ (sizes : List ℕ) (L R : NodeLists) (packets lefts rights : List ℕ) 
     pub packet-count : count ≡ product sizes
 
   -- cause 10 doesn't hold either
-  pub record Lent (count : ℕ) (work : List ℕ) : Type 0 where
+  pub record LentTable (count : ℕ) (work : List ℕ) : Type 0 where
     pub allowed : Allowed count
-    pub table : Table packets lefts rights
+    pub table : EvenColumns packets lefts rights
     pub numbered : length packets ≤ 65535
     pub long : 16384 ≤ length work
 
   -- rule (a) is kept, and the work list is all 0
   pub record Cleared (count : ℕ) (work : List ℕ) : Type 0 where
-    pub lent : Lent count work
+    pub lent : LentTable count work
     pub small : Small packets count
     pub zero : (i : ℕ) → i < 16384 → getD work i 0 ≡ 0
 
@@ -54,19 +54,19 @@ module _ (sizes : List ℕ) (L R : NodeLists) (packets lefts rights : List ℕ) 
   -- (b), then row by row
   pub record StartsChecked (work : List ℕ) (answer : Evidence) (work′ : List ℕ) : Type 0 where
     pub answers : answer
-        ≡ reported
+        ≡ asEvidence
         (andThen (brokenAt ruleB (lowest (breaksB (pairSystem sizes (policies L R)) (tableOf sizes (policies L R) packets lefts rights)) (product sizes)))
         (checkRows (pairSystem sizes (policies L R)) (tableOf sizes (policies L R) packets lefts rights) (length packets)))
     pub kept : work′ ≡ work
 
   -- all four rules
   pub record TableChecked (work : List ℕ) (answer : Evidence) (work′ : List ℕ) : Type 0 where
-    pub answers : answer ≡ reported (evidenceAnswer sizes (policies L R) packets lefts rights)
+    pub answers : answer ≡ asEvidence (evidenceAnswer sizes (policies L R) packets lefts rights)
     pub cleared : work′ ≡ replicate (length work) 0
 
 module _ (sizes : List ℕ) (nodes tests : List (List ℕ)) (packets lefts rights : List ℕ) where
   -- two policies are loaded, and the rows are indexed
-  pub record Ready (count : ℕ) (trees work : List ℕ) : Type 0 where
+  pub record TableReady (count : ℕ) (trees work : List ℕ) : Type 0 where
     pub lists : NodeLists
     pub others : NodeLists
     pub loaded : BothLoaded sizes lists others nodes tests
@@ -83,5 +83,5 @@ module _ (sizes : List ℕ) (nodes tests : List (List ℕ)) (packets lefts right
   -- row by row
   pub record RowsChecked (work : List ℕ) (answer : Evidence) (work′ : List ℕ) : Type 0 where
     pub answers : (L R : NodeLists) → BothLoaded sizes L R nodes tests
-        → answer ≡ reported (checkRows (pairSystem sizes (policies L R)) (tableOf sizes (policies L R) packets lefts rights) (length packets))
+        → answer ≡ asEvidence (checkRows (pairSystem sizes (policies L R)) (tableOf sizes (policies L R) packets lefts rights) (length packets))
     pub kept : work′ ≡ work

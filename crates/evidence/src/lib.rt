@@ -6,7 +6,7 @@ ghost use Rattle.policy.specs.AsLists.{asLists};
 ghost use Rattle.policy.specs.NodeLists.{dupsBelow, nodeCount};
 ghost use Rattle.compare.specs.Comparison.{BothBlank};
 ghost use Rattle.evidence.specs.Calls.{CheckedRows};
-ghost use Rattle.evidence.specs.Steps.{Lent, Cleared, Vacant, Ready, RowChecked, RowsChecked, StartsChecked, TableChecked};
+ghost use Rattle.evidence.specs.Steps.{LentTable, Cleared, Vacant, TableReady, RowChecked, RowsChecked, StartsChecked, TableChecked};
 use compare::Compared;
 use index::Mask;
 use index::POLICIES;
@@ -48,7 +48,7 @@ fn row_checked(
     next: &mut [Next; POLICIES],
     work: &mut [u32],
 ) -> RowAnswer
-    requires { ⌜ Ready (now sizes) (now nodes) (now tests) (now packets) (now lefts) (now rights) count (now trees) (now work) ⌝ }
+    requires { ⌜ TableReady (now sizes) (now nodes) (now tests) (now packets) (now lefts) (now rights) count (now trees) (now work) ⌝ }
     requires { ⌜ (i < length (now packets)) × BothBlank (now next) ⌝ }
     ensures { λ r. ⌜ RowChecked (now (sizes .entry)) (now (nodes .entry)) (now (tests .entry)) (now (packets .entry)) (now (lefts .entry)) (now (rights .entry)) i (now (work .entry)) r (now (next .exit)) (now (work .exit)) ⌝ }
 {
@@ -80,7 +80,7 @@ fn rows_checked(
     trees: &[u16],
     work: &mut [u32],
 ) -> Evidence
-    requires { ⌜ Ready (now sizes) (now nodes) (now tests) (now packets) (now lefts) (now rights) count (now trees) (now work) ⌝ }
+    requires { ⌜ TableReady (now sizes) (now nodes) (now tests) (now packets) (now lefts) (now rights) count (now trees) (now work) ⌝ }
     ensures { λ r. ⌜ RowsChecked (now (sizes .entry)) (now (nodes .entry)) (now (tests .entry)) (now (packets .entry)) (now (lefts .entry)) (now (rights .entry)) (now (work .entry)) r (now (work .exit)) ⌝ }
 {
     let mut next = [[0u32; 1056]; POLICIES];
@@ -236,11 +236,11 @@ fn table_checked(
     right_dups: u8,
     work: &mut [u32],
 ) -> Evidence
-    requires { ⌜ Lent (now sizes) (asLists (now «left_kind») (now «left_first») (now «left_second»)) (asLists (now «right_kind») (now «right_first») (now «right_second»)) (now packets) (now lefts) (now rights) count (now work) ⌝ }
+    requires { ⌜ LentTable (now sizes) (asLists (now «left_kind») (now «left_first») (now «left_second»)) (asLists (now «right_kind») (now «right_first») (now «right_second»)) (now packets) (now lefts) (now rights) count (now work) ⌝ }
     requires { ⌜ («left_dups» ≡ dupsBelow (asLists (now «left_kind») (now «left_first») (now «left_second»)) (nodeCount (asLists (now «left_kind») (now «left_first») (now «left_second»)))) × («right_dups» ≡ dupsBelow (asLists (now «right_kind») (now «right_first») (now «right_second»)) (nodeCount (asLists (now «right_kind») (now «right_first») (now «right_second»)))) ⌝ }
     ensures { λ r. ⌜ TableChecked (now (sizes .entry)) (asLists (now («left_kind» .entry)) (now («left_first» .entry)) (now («left_second» .entry))) (asLists (now («right_kind» .entry)) (now («right_first» .entry)) (now («right_second» .entry))) (now (packets .entry)) (now (lefts .entry)) (now (rights .entry)) (now (work .entry)) r (now (work .exit)) ⌝ }
 {
-    lent::clear(work);
+    lent_lists::clear(work);
     match row_rules::first_stray(
         packets,
         lefts,
@@ -283,7 +283,7 @@ pub fn check(
 ) -> Evidence
     ensures { λ r. ⌜ CheckedRows (now (sizes .entry)) (asLists (now («left_kind» .entry)) (now («left_first» .entry)) (now («left_second» .entry))) (asLists (now («right_kind» .entry)) (now («right_first» .entry)) (now («right_second» .entry))) (now (packets .entry)) (now (lefts .entry)) (now (rights .entry)) (now (work .entry)) r (now (work .exit)) ⌝ }
 {
-    let lists = lent::evidence_lists(packets.len(), lefts.len(), rights.len(), work.len());
+    let lists = lent_lists::evidence_lists(packets.len(), lefts.len(), rights.len(), work.len());
     let found = legality::front(
         sizes,
         left_kind,

@@ -6,25 +6,25 @@ use Rattle.policy.specs.NodeLists.{NodeLists}
 use Rattle.grammar.specs.declared.Answer.{Answer}
 use Rattle.grammar.specs.Answer.{TextRead}
 use Rattle.verdict.specs.declared.Verdict.{Verdict}
-use Rattle.search.specs.Call.{Lent, Searched}
+use Rattle.search.specs.Call.{SearchLists, Searched}
 use Rattle.evidence.specs.declared.Evidence.{Evidence}
 use Rattle.evidence.specs.Calls.{CheckedRows}
 use Rattle.traces.specs.declared.TraceChecked.{TraceChecked}
-use Rattle.traces.specs.Checking.{Checked}
-use Rattle.texts.specs.Call.{TextsSearched}
-use Rattle.numbers.specs.Numbers.{textNumbers, verdictNumbers, evidenceNumbers, traceNumbers}
+use Rattle.traces.specs.Checking.{CheckedTrace}
+use Rattle.search_texts.specs.Call.{TextsSearched}
+use Rattle.answer_numbers.specs.Numbers.{textNumbers, verdictNumbers, evidenceNumbers, traceNumbers}
 use Rattle.exports.specs.Promises.{ReadOut, SearchedOut, TextsOut, EvidenceOut, TraceOut}
 
 pub read-out : {text kind first second answer kind′ first′ second′ : List ℕ} {r : Answer} → TextRead text kind first second r kind′ first′ second′ → answer ≡ textNumbers r → ReadOut text kind first second answer kind′ first′ second′
 read-out {text} {kind} {first} {second} {answer} {kind′} {first′} {second′} {r} read n =
     record { numbers = n ∙ ap textNumbers (read .answer); promised = subst (λ (v : Answer). TextRead text kind first second v kind′ first′ second′) (read .answer) read }
 
-pub texts-out : {sizes left right : List ℕ} {x y : Lent} {answer : List ℕ} {r : Verdict} → TextsSearched sizes left right x r y → answer ≡ verdictNumbers r → TextsOut sizes left right x answer y
+pub texts-out : {sizes left right : List ℕ} {x y : SearchLists} {answer : List ℕ} {r : Verdict} → TextsSearched sizes left right x r y → answer ≡ verdictNumbers r → TextsOut sizes left right x answer y
 texts-out {sizes} {left} {right} {x} {y} {answer} {r} done n =
     record { numbers = n ∙ ap verdictNumbers (done .answers); promised = subst (λ (v : Verdict). TextsSearched sizes left right x v y) (done .answers) done }
 
 module _ {sizes : List ℕ} {L R : NodeLists} where
-  pub searched-out : {x y : Lent} {answer : List ℕ} {r : Verdict} → Searched sizes L R x r y → answer ≡ verdictNumbers r → SearchedOut sizes L R x answer y
+  pub searched-out : {x y : SearchLists} {answer : List ℕ} {r : Verdict} → Searched sizes L R x r y → answer ≡ verdictNumbers r → SearchedOut sizes L R x answer y
   searched-out {x} {y} {answer} {r} done n =
       record { numbers = n ∙ ap verdictNumbers (done .answers); promised = subst (λ (v : Verdict). Searched sizes L R x v y) (done .answers) done }
 
@@ -32,6 +32,6 @@ module _ {sizes : List ℕ} {L R : NodeLists} where
   evidence-out {packets} {lefts} {rights} {work} {answer} {work′} {r} done n =
       record { numbers = n ∙ ap evidenceNumbers (done .answers); promised = subst (λ (v : Evidence). CheckedRows sizes L R packets lefts rights work v work′) (done .answers) done }
 
-  pub trace-out : {α : ℕ} {trace work answer work′ : List ℕ} {r : TraceChecked} → Checked sizes L R α trace work r work′ → answer ≡ traceNumbers r → TraceOut sizes L R α trace work answer work′
+  pub trace-out : {α : ℕ} {trace work answer work′ : List ℕ} {r : TraceChecked} → CheckedTrace sizes L R α trace work r work′ → answer ≡ traceNumbers r → TraceOut sizes L R α trace work answer work′
   trace-out {α} {trace} {work} {answer} {work′} {r} done n =
-      record { numbers = n ∙ ap traceNumbers (done .answers); promised = subst (λ (v : TraceChecked). Checked sizes L R α trace work v work′) (done .answers) done }
+      record { numbers = n ∙ ap traceNumbers (done .answers); promised = subst (λ (v : TraceChecked). CheckedTrace sizes L R α trace work v work′) (done .answers) done }

@@ -7,21 +7,21 @@ use lib.ListN.{length}
 use Rattle.policy.specs.NodeLists.{NodeLists}
 use Rattle.grammar.specs.Tokens.{fieldNames}
 use Rattle.grammar.specs.Answer.{TextRead, answerTo, shortest}
-use Rattle.search.specs.Call.{Lent, Searched, searchVerdict}
+use Rattle.search.specs.Call.{SearchLists, Searched, searchVerdict}
 use Rattle.evidence.specs.Calls.{CheckedRows, evidenceCall}
-use Rattle.traces.specs.Checking.{Checked, traceCall}
-use Rattle.texts.specs.Call.{TextsSearched, textsVerdict}
-use Rattle.numbers.specs.Numbers.{textNumbers, verdictNumbers, evidenceNumbers, traceNumbers}
+use Rattle.traces.specs.Checking.{CheckedTrace, traceCall}
+use Rattle.search_texts.specs.Call.{TextsSearched, textsVerdict}
+use Rattle.answer_numbers.specs.Numbers.{textNumbers, verdictNumbers, evidenceNumbers, traceNumbers}
 
 pub record ReadOut (text kind first second answer kind′ first′ second′ : List ℕ) : Type 0 where
   pub numbers : answer ≡ textNumbers (answerTo fieldNames text (shortest kind first second))
   pub promised : TextRead text kind first second (answerTo fieldNames text (shortest kind first second)) kind′ first′ second′
 
-pub record SearchedOut (sizes : List ℕ) (L R : NodeLists) (x : Lent) (answer : List ℕ) (y : Lent) : Type 0 where
+pub record SearchedOut (sizes : List ℕ) (L R : NodeLists) (x : SearchLists) (answer : List ℕ) (y : SearchLists) : Type 0 where
   pub numbers : answer ≡ verdictNumbers (searchVerdict sizes L R x)
   pub promised : Searched sizes L R x (searchVerdict sizes L R x) y
 
-pub record TextsOut (sizes left right : List ℕ) (x : Lent) (answer : List ℕ) (y : Lent) : Type 0 where
+pub record TextsOut (sizes left right : List ℕ) (x : SearchLists) (answer : List ℕ) (y : SearchLists) : Type 0 where
   pub numbers : answer ≡ verdictNumbers (textsVerdict sizes left right x)
   pub promised : TextsSearched sizes left right x (textsVerdict sizes left right x) y
 
@@ -31,4 +31,4 @@ pub record EvidenceOut (sizes : List ℕ) (L R : NodeLists) (packets lefts right
 
 pub record TraceOut (sizes : List ℕ) (L R : NodeLists) (α : ℕ) (trace work answer work′ : List ℕ) : Type 0 where
   pub numbers : answer ≡ traceNumbers (traceCall sizes L R α trace (length work))
-  pub promised : Checked sizes L R α trace work (traceCall sizes L R α trace (length work)) work′
+  pub promised : CheckedTrace sizes L R α trace work (traceCall sizes L R α trace (length work)) work′

@@ -6,7 +6,7 @@ ghost use Rattle.policy.specs.AsLists.{asLists};
 ghost use Rattle.legality.specs.Answers.{policyLegality, pairLegality};
 ghost use Rattle.turning.specs.Turning.{valuesTests, valuesAnswer, valuesLeft, numberTests, numberAnswer};
 ghost use Rattle.search.specs.Call.{lent};
-ghost use Rattle.numbers.specs.Numbers.{valuesNumbers, numberNumbers, policyNumbers, pairNumbers};
+ghost use Rattle.answer_numbers.specs.Numbers.{valuesNumbers, numberNumbers, policyNumbers, pairNumbers};
 ghost use Rattle.exports.specs.Promises.{ReadOut, SearchedOut, TextsOut, EvidenceOut, TraceOut};
 
 // A packet's number turned into its values.
@@ -20,7 +20,7 @@ pub extern "C" fn netkat_values(
     ensures numbers { λ _. ⌜ now (answer .exit) ≡ valuesNumbers (valuesAnswer (valuesTests (now (sizes .entry)) number (length (now (values .entry))))) ⌝ }
     ensures list { λ _. ⌜ now (values .exit) ≡ valuesLeft (now (sizes .entry)) number (now (values .entry)) ⌝ }
 {
-    *answer = numbers::of_values(turning::values_of(sizes, number, values));
+    *answer = answer_numbers::of_values(turning::values_of(sizes, number, values));
 }
 
 // Values turned into a packet's number.
@@ -28,7 +28,7 @@ pub extern "C" fn netkat_values(
 pub extern "C" fn netkat_number(sizes: &[u16], values: &[u16], answer: &mut [u64; 8])
     ensures { λ _. ⌜ now (answer .exit) ≡ numberNumbers (numberAnswer (numberTests (now (sizes .entry)) (now (values .entry))) (numberOf (now (sizes .entry)) (now (values .entry)))) ⌝ }
 {
-    *answer = numbers::of_number(turning::number_of(sizes, values));
+    *answer = answer_numbers::of_number(turning::number_of(sizes, values));
 }
 
 // One policy tested.
@@ -42,7 +42,7 @@ pub extern "C" fn netkat_policy(
 )
     ensures { λ _. ⌜ now (answer .exit) ≡ policyNumbers (policyLegality (now (sizes .entry)) (asLists (now (kind .entry)) (now (first .entry)) (now (second .entry)))) ⌝ }
 {
-    *answer = numbers::of_policy(legality::policy_legality(sizes, kind, first, second));
+    *answer = answer_numbers::of_policy(legality::policy_legality(sizes, kind, first, second));
 }
 
 // Two policies tested.
@@ -59,7 +59,7 @@ pub extern "C" fn netkat_policies(
 )
     ensures { λ _. ⌜ now (answer .exit) ≡ pairNumbers (pairLegality (now (sizes .entry)) (asLists (now («left_kind» .entry)) (now («left_first» .entry)) (now («left_second» .entry))) (asLists (now («right_kind» .entry)) (now («right_first» .entry)) (now («right_second» .entry)))) ⌝ }
 {
-    *answer = numbers::of_pair(legality::pair_legality(
+    *answer = answer_numbers::of_pair(legality::pair_legality(
         sizes,
         left_kind,
         left_first,
@@ -81,7 +81,7 @@ pub extern "C" fn netkat_read(
 )
     ensures { λ _. ⌜ ReadOut (now (text .entry)) (now (kind .entry)) (now (first .entry)) (now (second .entry)) (now (answer .exit)) (now (kind .exit)) (now (first .exit)) (now (second .exit)) ⌝ }
 {
-    *answer = numbers::of_text(text::read(text, kind, first, second));
+    *answer = answer_numbers::of_text(text::read(text, kind, first, second));
 }
 
 // Two policies searched.
@@ -104,7 +104,7 @@ pub extern "C" fn netkat_search(
 )
     ensures { λ _. ⌜ SearchedOut (now (sizes .entry)) (asLists (now («left_kind» .entry)) (now («left_first» .entry)) (now («left_second» .entry))) (asLists (now («right_kind» .entry)) (now («right_first» .entry)) (now («right_second» .entry))) (lent (now (packet .entry)) (now (left .entry)) (now (right .entry)) (now (parent .entry)) (now (trace .entry)) (now (work .entry))) (now (answer .exit)) (lent (now (packet .exit)) (now (left .exit)) (now (right .exit)) (now (parent .exit)) (now (trace .exit)) (now (work .exit))) ⌝ }
 {
-    *answer = numbers::of_verdict(search::search(
+    *answer = answer_numbers::of_verdict(search::search(
         sizes,
         left_kind,
         left_first,
@@ -137,7 +137,7 @@ pub extern "C" fn netkat_search_texts(
 )
     ensures { λ _. ⌜ TextsOut (now (sizes .entry)) (now («left_text» .entry)) (now («right_text» .entry)) (lent (now (packet .entry)) (now (left .entry)) (now (right .entry)) (now (parent .entry)) (now (trace .entry)) (now (work .entry))) (now (answer .exit)) (lent (now (packet .exit)) (now (left .exit)) (now (right .exit)) (now (parent .exit)) (now (trace .exit)) (now (work .exit))) ⌝ }
 {
-    *answer = numbers::of_verdict(texts::search(
+    *answer = answer_numbers::of_verdict(search_texts::search(
         sizes,
         left_text,
         right_text,
@@ -168,7 +168,7 @@ pub extern "C" fn netkat_evidence(
 )
     ensures { λ _. ⌜ EvidenceOut (now (sizes .entry)) (asLists (now («left_kind» .entry)) (now («left_first» .entry)) (now («left_second» .entry))) (asLists (now («right_kind» .entry)) (now («right_first» .entry)) (now («right_second» .entry))) (now (packet .entry)) (now (left .entry)) (now (right .entry)) (now (work .entry)) (now (answer .exit)) (now (work .exit)) ⌝ }
 {
-    *answer = numbers::of_evidence(evidence::check(
+    *answer = answer_numbers::of_evidence(evidence::check(
         sizes,
         left_kind,
         left_first,
@@ -200,7 +200,7 @@ pub extern "C" fn netkat_trace(
 )
     ensures { λ _. ⌜ TraceOut (now (sizes .entry)) (asLists (now («left_kind» .entry)) (now («left_first» .entry)) (now («left_second» .entry))) (asLists (now («right_kind» .entry)) (now («right_first» .entry)) (now («right_second» .entry))) entering (now (trace .entry)) (now (work .entry)) (now (answer .exit)) (now (work .exit)) ⌝ }
 {
-    *answer = numbers::of_trace(traces::check(
+    *answer = answer_numbers::of_trace(traces::check(
         sizes,
         left_kind,
         left_first,

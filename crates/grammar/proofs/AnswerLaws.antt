@@ -17,7 +17,7 @@ use Rattle.policy.specs.NodesOfTree.{treeSize}
 use Rattle.grammar.specs.declared.Answer.{Answer}
 use Rattle.grammar.specs.declared.Answer.the-variants.{Nodes, Refused}
 use Rattle.grammar.specs.Tokens.{Token, Placed, constant, field, number, comparison, plus, semicolon, asterisk, opening, closing, bad, isBad, tokens, fieldNames}
-use Rattle.grammar.specs.Kinds.{kindOf, kindAt, placeAt, afterFront, openAfterKind}
+use Rattle.grammar.specs.Kinds.{kindOf, frontKind, frontPlace, afterFront, openAfterKind}
 use Rattle.grammar.specs.Reading.{tree}
 use Rattle.grammar.specs.Answer.{badPlace, openAfter, deepPlace, stopPlace, treeRead, tooMany, answered, outcome, textTree, tested, answerTo, leftBy, shortest, TextRead}
 
@@ -76,35 +76,35 @@ open-is n closing = refl
 
 -- ---- cause 14
 
-pub bad-end : (ts : List Placed) → kindAt ts ≡ 1 → badPlace ts ≡ none
-unfolding kindAt badPlace
+pub bad-end : (ts : List Placed) → frontKind ts ≡ 1 → badPlace ts ≡ none
+unfolding frontKind badPlace
 bad-end [] e = refl
 bad-end (t ∷ ts) e = absurd (never-end (t .token) e)
 
-pub bad-here : (end : ℕ) (ts : List Placed) → kindAt ts ≡ 0 → badPlace ts ≡ some (placeAt end ts)
-unfolding kindAt badPlace placeAt
+pub bad-here : (end : ℕ) (ts : List Placed) → frontKind ts ≡ 0 → badPlace ts ≡ some (frontPlace end ts)
+unfolding frontKind badPlace frontPlace
 bad-here end [] e = absurd (omega arith)
 bad-here end (t ∷ ts) e = rw (bad-is (t .token) e, badPlace)
 
-pub bad-on : (ts : List Placed) → (kindAt ts ≡ 0 → ⊥) → badPlace ts ≡ badPlace (afterFront ts)
-unfolding kindAt badPlace afterFront
+pub bad-on : (ts : List Placed) → (frontKind ts ≡ 0 → ⊥) → badPlace ts ≡ badPlace (afterFront ts)
+unfolding frontKind badPlace afterFront
 bad-on [] h = refl
 bad-on (t ∷ ts) h = rw (bad-not (t .token) h, badPlace)
 
 -- ---- cause 15
 
-pub deep-end : (n : ℕ) (ts : List Placed) → kindAt ts ≡ 1 → deepPlace n ts ≡ none
-unfolding kindAt deepPlace
+pub deep-end : (n : ℕ) (ts : List Placed) → frontKind ts ≡ 1 → deepPlace n ts ≡ none
+unfolding frontKind deepPlace
 deep-end n [] e = refl
 deep-end n (t ∷ ts) e = absurd (never-end (t .token) e)
 
-pub deep-here : (end n m : ℕ) (ts : List Placed) → (kindAt ts ≡ 1 → ⊥) → m ≡ openAfterKind n (kindAt ts) → 64 < m → deepPlace n ts ≡ some (placeAt end ts)
-unfolding kindAt deepPlace placeAt
+pub deep-here : (end n m : ℕ) (ts : List Placed) → (frontKind ts ≡ 1 → ⊥) → m ≡ openAfterKind n (frontKind ts) → 64 < m → deepPlace n ts ≡ some (frontPlace end ts)
+unfolding frontKind deepPlace frontPlace
 deep-here end n m [] h e l = absurd (h refl)
 deep-here end n m (t ∷ ts) h e l = rw (lt-ltb 64 (openAfter n (t .token)) (omega (arith, open-is n (t .token), e)), deepPlace)
 
-pub deep-on : (n m : ℕ) (ts : List Placed) → (kindAt ts ≡ 1 → ⊥) → m ≡ openAfterKind n (kindAt ts) → m ≤ 64 → deepPlace n ts ≡ deepPlace m (afterFront ts)
-unfolding kindAt deepPlace afterFront
+pub deep-on : (n m : ℕ) (ts : List Placed) → (frontKind ts ≡ 1 → ⊥) → m ≡ openAfterKind n (frontKind ts) → m ≤ 64 → deepPlace n ts ≡ deepPlace m (afterFront ts)
+unfolding frontKind deepPlace afterFront
 deep-on n m [] h e l = absurd (h refl)
 deep-on n m (t ∷ ts) h e l =
     rw (le-ltb 64 (openAfter n (t .token)) (omega (arith, open-is n (t .token), e)), deepPlace)

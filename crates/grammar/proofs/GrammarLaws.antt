@@ -13,7 +13,7 @@ use Rattle.policy.specs.Tree
 use Rattle.policy.specs.NodesOfTree.{treeSize}
 use Rattle.grammar.specs.declared.Answer.the-variants.{Nodes}
 use Rattle.grammar.specs.Tokens.{Token, Placed, Constant, Comparison, passed, equals, constant, field, number, comparison, plus, semicolon, asterisk, opening, closing, bad, isBad, tokens}
-use Rattle.grammar.specs.Kinds.{placeAt}
+use Rattle.grammar.specs.Kinds.{frontPlace}
 use Rattle.grammar.specs.Grammar.{constantPolicy, fieldAction, Item, Starred, Sequence, Sum, word, action, parentheses, item, starred, single, sequenced, alone, summed}
 use Rattle.grammar.specs.Reading.{Before, nothing, joinSequence, joinSum, upTo, whole, State, wants, named, compared, has, start, close, step, Outcome, tree, stop, finish, readOn}
 use Rattle.grammar.specs.Answer.{badPlace, deepPlace, stopPlace, treeRead, outcome, textTree, answerTo}
@@ -390,7 +390,7 @@ record Stopped (end : ℕ) (st : State) (ts : List Placed) (n : ℕ) : Type 0 wh
   left : List Placed
   state : State
   parts : ts ≡ read ++ left
-  place : n ≡ placeAt end left
+  place : n ≡ frontPlace end left
   leads : (us : List Token) → accept st (bare read ++ us) ≡ accept state us
   refuses : Refuses state left
 
@@ -406,7 +406,7 @@ finish-stops end (has b (c ∷ cs) p) n e = (refl, sym (stop-one end n e))
 finish-stops end (has b [] p) n e = absurd (let z : _≡_ {A = ℕ} 0 1 = cc in omega arith)
 
 stopped-at : (end : ℕ) (st : State) (ts : List Placed) (n : ℕ) → readOn end st ts ≡ stop n → Stopped end st ts n
-unfolding readOn bare Refuses placeAt accept
+unfolding readOn bare Refuses frontPlace accept
 stopped-at end st [] n e =
     let h = finish-stops end st n e in
     record { read = []; left = []; state = st; parts = refl; place = h .1; leads = λ us. refl; refuses = h .0 }
@@ -443,7 +443,7 @@ pub record FirstIllegal (end : ℕ) (ts : List Placed) (n : ℕ) : Type 0 where
   pub read : List Placed
   pub left : List Placed
   pub parts : ts ≡ read ++ left
-  pub place : n ≡ placeAt end left
+  pub place : n ≡ frontPlace end left
   pub viable : Viable (bare read)
   pub ended : left ≡ [] → (p : Policy) → Sum (bare read) p → ⊥
   pub dead : (t : Placed) (us : List Placed) → left ≡ t ∷ us → Viable (bare read ++ t .token ∷ []) → ⊥

@@ -7,7 +7,7 @@ use mathlib.Core.Path.{_≡_, refl, sym, _∙_, ap}
 use Rattle.policy.specs.Tree.{Policy, sum, seq, star}
 use Rattle.policy.specs.Tree
 use Rattle.grammar.specs.Tokens.{Token, Placed, Constant, Comparison, dropped, passed, recorded, equals, differs, assigned, constant, field, number, comparison, plus, semicolon, asterisk, opening, closing, bad}
-use Rattle.grammar.specs.Kinds.{kindOf, valueOf, constantKind, comparisonKind, kindAt, valueAt, placeAt, afterFront}
+use Rattle.grammar.specs.Kinds.{kindOf, valueOf, constantKind, comparisonKind, frontKind, frontValue, frontPlace, afterFront}
 use Rattle.grammar.specs.Grammar.{constantPolicy, fieldAction}
 use Rattle.grammar.specs.Reading.{Before, nothing, joinSequence, joinSum, upTo, whole, State, wants, named, compared, has, close, step, tree, stop, finish, readOn}
 
@@ -89,13 +89,13 @@ comparison-token opening e = absurd (omega arith)
 comparison-token closing e = absurd (omega arith)
 
 -- the constant, or the comparison, whose number is the front token's value
-pub constant-at : (ts : List Placed) → kindAt ts ≡ 2 → (c : Constant) × (valueAt ts ≡ constantKind c) × (constantOf (valueAt ts) ≡ c)
-unfolding kindAt valueAt
+pub constant-at : (ts : List Placed) → frontKind ts ≡ 2 → (c : Constant) × (frontValue ts ≡ constantKind c) × (constantOf (frontValue ts) ≡ c)
+unfolding frontKind frontValue
 constant-at [] e = absurd (omega arith)
 constant-at (t ∷ ts) e = constant-token (t .token) e
 
-pub comparison-at : (ts : List Placed) → kindAt ts ≡ 5 → (c : Comparison) × (valueAt ts ≡ comparisonKind c) × (comparisonOf (valueAt ts) ≡ c)
-unfolding kindAt valueAt
+pub comparison-at : (ts : List Placed) → frontKind ts ≡ 5 → (c : Comparison) × (frontValue ts ≡ comparisonKind c) × (comparisonOf (frontValue ts) ≡ c)
+unfolding frontKind frontValue
 comparison-at [] e = absurd (omega arith)
 comparison-at (t ∷ ts) e = comparison-token (t .token) e
 
@@ -113,8 +113,8 @@ comparison-small assigned = omega arith
 
 module _ (end : ℕ) where
   -- the tokens by the numbers of the one at the front
-  pub front-at : (k : ℕ) (ts : List Placed) → kindAt ts ≡ k → (k ≡ 1 → ⊥) → ts ≡ record { token = tokenOf k (valueAt ts); start = placeAt end ts } ∷ afterFront ts
-  unfolding kindAt valueAt placeAt afterFront
+  pub front-at : (k : ℕ) (ts : List Placed) → frontKind ts ≡ k → (k ≡ 1 → ⊥) → ts ≡ record { token = tokenOf k (frontValue ts); start = frontPlace end ts } ∷ afterFront ts
+  unfolding frontKind frontValue frontPlace afterFront
   front-at k [] e h = absurd (h (sym e))
   front-at k (t ∷ ts) e h =
       ap (λ (x : Token). record { token = x; start = t .start } ∷ ts) (sym (ap (λ (n : ℕ). tokenOf n (valueOf (t .token))) (sym e) ∙ token-of (t .token)))
@@ -163,54 +163,54 @@ module _ (end : ℕ) where
     compared-none f c opening x = refl
     compared-none f c closing x = refl
 
-    pub wants-stops : (ts : List Placed) → (kindAt ts ≡ 2 → ⊥) → (kindAt ts ≡ 3 → ⊥) → (kindAt ts ≡ 9 → ⊥) → readOn end (wants b cs) ts ≡ stop (placeAt end ts)
-    unfolding kindAt placeAt readOn finish
+    pub wants-stops : (ts : List Placed) → (frontKind ts ≡ 2 → ⊥) → (frontKind ts ≡ 3 → ⊥) → (frontKind ts ≡ 9 → ⊥) → readOn end (wants b cs) ts ≡ stop (frontPlace end ts)
+    unfolding frontKind frontPlace readOn finish
     wants-stops [] x y z = refl
     wants-stops (t ∷ ts) x y z = stops (wants b cs) t ts (wants-none (t .token) x y z)
 
-    pub named-stops : (f : ℕ) (ts : List Placed) → (kindAt ts ≡ 5 → ⊥) → readOn end (named b cs f) ts ≡ stop (placeAt end ts)
-    unfolding kindAt placeAt readOn finish
+    pub named-stops : (f : ℕ) (ts : List Placed) → (frontKind ts ≡ 5 → ⊥) → readOn end (named b cs f) ts ≡ stop (frontPlace end ts)
+    unfolding frontKind frontPlace readOn finish
     named-stops f [] x = refl
     named-stops f (t ∷ ts) x = stops (named b cs f) t ts (named-none f (t .token) x)
 
-    pub compared-stops : (f : ℕ) (c : Comparison) (ts : List Placed) → (kindAt ts ≡ 4 → ⊥) → readOn end (compared b cs f c) ts ≡ stop (placeAt end ts)
-    unfolding kindAt placeAt readOn finish
+    pub compared-stops : (f : ℕ) (c : Comparison) (ts : List Placed) → (frontKind ts ≡ 4 → ⊥) → readOn end (compared b cs f c) ts ≡ stop (frontPlace end ts)
+    unfolding frontKind frontPlace readOn finish
     compared-stops f c [] x = refl
     compared-stops f c (t ∷ ts) x = stops (compared b cs f c) t ts (compared-none f c (t .token) x)
 
-    pub at-constant : (ts : List Placed) → kindAt ts ≡ 2 → readOn end (wants b cs) ts ≡ readOn end (has b cs (constantPolicy (constantOf (valueAt ts)))) (afterFront ts)
+    pub at-constant : (ts : List Placed) → frontKind ts ≡ 2 → readOn end (wants b cs) ts ≡ readOn end (has b cs (constantPolicy (constantOf (frontValue ts)))) (afterFront ts)
     unfolding readOn step
     at-constant ts e = ap (readOn end (wants b cs)) (front-at 2 ts e (λ q. omega arith))
 
-    pub at-field : (ts : List Placed) → kindAt ts ≡ 3 → readOn end (wants b cs) ts ≡ readOn end (named b cs (valueAt ts)) (afterFront ts)
+    pub at-field : (ts : List Placed) → frontKind ts ≡ 3 → readOn end (wants b cs) ts ≡ readOn end (named b cs (frontValue ts)) (afterFront ts)
     unfolding readOn step
     at-field ts e = ap (readOn end (wants b cs)) (front-at 3 ts e (λ q. omega arith))
 
-    pub at-comparison : (f : ℕ) (ts : List Placed) → kindAt ts ≡ 5 → readOn end (named b cs f) ts ≡ readOn end (compared b cs f (comparisonOf (valueAt ts))) (afterFront ts)
+    pub at-comparison : (f : ℕ) (ts : List Placed) → frontKind ts ≡ 5 → readOn end (named b cs f) ts ≡ readOn end (compared b cs f (comparisonOf (frontValue ts))) (afterFront ts)
     unfolding readOn step
     at-comparison f ts e = ap (readOn end (named b cs f)) (front-at 5 ts e (λ q. omega arith))
 
-    pub at-number : (f : ℕ) (c : Comparison) (ts : List Placed) → kindAt ts ≡ 4 → readOn end (compared b cs f c) ts ≡ readOn end (has b cs (Tree.field (fieldAction c f (valueAt ts)))) (afterFront ts)
+    pub at-number : (f : ℕ) (c : Comparison) (ts : List Placed) → frontKind ts ≡ 4 → readOn end (compared b cs f c) ts ≡ readOn end (has b cs (Tree.field (fieldAction c f (frontValue ts)))) (afterFront ts)
     unfolding readOn step
     at-number f c ts e = ap (readOn end (compared b cs f c)) (front-at 4 ts e (λ q. omega arith))
 
-    pub at-opening : (ts : List Placed) → kindAt ts ≡ 9 → readOn end (wants b cs) ts ≡ readOn end (wants nothing (b ∷ cs)) (afterFront ts)
+    pub at-opening : (ts : List Placed) → frontKind ts ≡ 9 → readOn end (wants b cs) ts ≡ readOn end (wants nothing (b ∷ cs)) (afterFront ts)
     unfolding readOn step
     at-opening ts e = ap (readOn end (wants b cs)) (front-at 9 ts e (λ q. omega arith))
 
-    pub at-asterisk : (p : Policy) (ts : List Placed) → kindAt ts ≡ 8 → readOn end (has b cs p) ts ≡ readOn end (has b cs (star p)) (afterFront ts)
+    pub at-asterisk : (p : Policy) (ts : List Placed) → frontKind ts ≡ 8 → readOn end (has b cs p) ts ≡ readOn end (has b cs (star p)) (afterFront ts)
     unfolding readOn step
     at-asterisk p ts e = ap (readOn end (has b cs p)) (front-at 8 ts e (λ q. omega arith))
 
-    pub at-semicolon : (p : Policy) (ts : List Placed) → kindAt ts ≡ 7 → readOn end (has b cs p) ts ≡ readOn end (wants (record { summed = b .summed; sequenced = some (upTo b p) }) cs) (afterFront ts)
+    pub at-semicolon : (p : Policy) (ts : List Placed) → frontKind ts ≡ 7 → readOn end (has b cs p) ts ≡ readOn end (wants (record { summed = b .summed; sequenced = some (upTo b p) }) cs) (afterFront ts)
     unfolding readOn step
     at-semicolon p ts e = ap (readOn end (has b cs p)) (front-at 7 ts e (λ q. omega arith))
 
-    pub at-plus : (p : Policy) (ts : List Placed) → kindAt ts ≡ 6 → readOn end (has b cs p) ts ≡ readOn end (wants (record { summed = some (whole b p); sequenced = none }) cs) (afterFront ts)
+    pub at-plus : (p : Policy) (ts : List Placed) → frontKind ts ≡ 6 → readOn end (has b cs p) ts ≡ readOn end (wants (record { summed = some (whole b p); sequenced = none }) cs) (afterFront ts)
     unfolding readOn step
     at-plus p ts e = ap (readOn end (has b cs p)) (front-at 6 ts e (λ q. omega arith))
 
-    pub at-closing : (p : Policy) (ts : List Placed) → kindAt ts ≡ 10 → readOn end (has nothing (b ∷ cs) p) ts ≡ readOn end (has b cs p) (afterFront ts)
+    pub at-closing : (p : Policy) (ts : List Placed) → frontKind ts ≡ 10 → readOn end (has nothing (b ∷ cs) p) ts ≡ readOn end (has b cs p) (afterFront ts)
     unfolding readOn step close whole upTo joinSum joinSequence nothing
     at-closing p ts e = ap (readOn end (has nothing (b ∷ cs) p)) (front-at 10 ts e (λ q. omega arith))
 
@@ -228,15 +228,15 @@ module _ (end : ℕ) where
   has-none b cs p closing w x y z = absurd (w refl)
 
   -- inside parentheses only ) can stand after a sum
-  pub open-stops : (b c : Before) (cs : List Before) (p : Policy) (ts : List Placed) → (kindAt ts ≡ 10 → ⊥) → (kindAt ts ≡ 8 → ⊥) → (kindAt ts ≡ 7 → ⊥) → (kindAt ts ≡ 6 → ⊥)
-      → readOn end (has b (c ∷ cs) p) ts ≡ stop (placeAt end ts)
-  unfolding kindAt placeAt readOn finish
+  pub open-stops : (b c : Before) (cs : List Before) (p : Policy) (ts : List Placed) → (frontKind ts ≡ 10 → ⊥) → (frontKind ts ≡ 8 → ⊥) → (frontKind ts ≡ 7 → ⊥) → (frontKind ts ≡ 6 → ⊥)
+      → readOn end (has b (c ∷ cs) p) ts ≡ stop (frontPlace end ts)
+  unfolding frontKind frontPlace readOn finish
   open-stops b c cs p [] w x y z = refl
   open-stops b c cs p (t ∷ ts) w x y z = stops (has b (c ∷ cs) p) t ts (has-none b (c ∷ cs) p (t .token) w x y z)
 
   -- outside parentheses only the end can
-  pub top-ends : (b : Before) (p : Policy) (ts : List Placed) → kindAt ts ≡ 1 → readOn end (has b [] p) ts ≡ tree (whole b p)
-  unfolding kindAt readOn finish kindOf
+  pub top-ends : (b : Before) (p : Policy) (ts : List Placed) → frontKind ts ≡ 1 → readOn end (has b [] p) ts ≡ tree (whole b p)
+  unfolding frontKind readOn finish kindOf
   top-ends b p [] e = refl
   top-ends b p (t ∷ ts) e = absurd (never (t .token) e)
     where
@@ -252,9 +252,9 @@ module _ (end : ℕ) where
       never opening e = omega arith
       never closing e = omega arith
 
-  pub top-stops : (b : Before) (p : Policy) (ts : List Placed) → (kindAt ts ≡ 1 → ⊥) → (kindAt ts ≡ 8 → ⊥) → (kindAt ts ≡ 7 → ⊥) → (kindAt ts ≡ 6 → ⊥)
-      → readOn end (has b [] p) ts ≡ stop (placeAt end ts)
-  unfolding kindAt placeAt readOn finish kindOf step close
+  pub top-stops : (b : Before) (p : Policy) (ts : List Placed) → (frontKind ts ≡ 1 → ⊥) → (frontKind ts ≡ 8 → ⊥) → (frontKind ts ≡ 7 → ⊥) → (frontKind ts ≡ 6 → ⊥)
+      → readOn end (has b [] p) ts ≡ stop (frontPlace end ts)
+  unfolding frontKind frontPlace readOn finish kindOf step close
   top-stops b p [] w x y z = absurd (w refl)
   top-stops b p (t ∷ ts) w x y z = stops (has b [] p) t ts (go (t .token) x y z)
     where
@@ -271,9 +271,9 @@ module _ (end : ℕ) where
       go closing x y z = refl
 
   -- where no * follows, an item after others is as good as the sequence up to it
-  pub collapse-sequence : (s : Option Policy) (cs : List Before) (p q : Policy) (ts : List Placed) → (kindAt ts ≡ 8 → ⊥)
+  pub collapse-sequence : (s : Option Policy) (cs : List Before) (p q : Policy) (ts : List Placed) → (frontKind ts ≡ 8 → ⊥)
       → readOn end (has (record { summed = s; sequenced = some p }) cs q) ts ≡ readOn end (has (record { summed = s; sequenced = none }) cs (seq p q)) ts
-  unfolding readOn finish whole upTo joinSequence kindAt kindOf step close
+  unfolding readOn finish whole upTo joinSequence frontKind kindOf step close
   collapse-sequence s [] p q [] h = refl
   collapse-sequence s (c ∷ cs) p q [] h = refl
   collapse-sequence s cs p q (t ∷ ts) h = go (t .token) cs h
@@ -294,9 +294,9 @@ module _ (end : ℕ) where
       go closing (c ∷ cs) h = refl
 
   -- where no * and no ; follows, a sequence after others is as good as the sum up to it
-  pub collapse-sum : (cs : List Before) (p q : Policy) (ts : List Placed) → (kindAt ts ≡ 8 → ⊥) → (kindAt ts ≡ 7 → ⊥)
+  pub collapse-sum : (cs : List Before) (p q : Policy) (ts : List Placed) → (frontKind ts ≡ 8 → ⊥) → (frontKind ts ≡ 7 → ⊥)
       → readOn end (has (record { summed = some p; sequenced = none }) cs q) ts ≡ readOn end (has nothing cs (sum p q)) ts
-  unfolding readOn finish whole upTo joinSequence joinSum nothing kindAt kindOf step close
+  unfolding readOn finish whole upTo joinSequence joinSum nothing frontKind kindOf step close
   collapse-sum [] p q [] h g = refl
   collapse-sum (c ∷ cs) p q [] h g = refl
   collapse-sum cs p q (t ∷ ts) h g = go (t .token) cs h g

@@ -57,17 +57,17 @@ unfoldable pub classTable : List ℕ
 classTable = classesFrom 0 256
 
 -- the token at the front of the tokens that are left: its kind, value and place, and the tokens after it
-unfoldable pub kindAt : List Placed → ℕ
-kindAt [] = 1
-kindAt (t ∷ ts) = kindOf (t .token)
+unfoldable pub frontKind : List Placed → ℕ
+frontKind [] = 1
+frontKind (t ∷ ts) = kindOf (t .token)
 
-unfoldable pub valueAt : List Placed → ℕ
-valueAt [] = 0
-valueAt (t ∷ ts) = valueOf (t .token)
+unfoldable pub frontValue : List Placed → ℕ
+frontValue [] = 0
+frontValue (t ∷ ts) = valueOf (t .token)
 
-unfoldable pub placeAt : ℕ → List Placed → ℕ
-placeAt end [] = end
-placeAt end (t ∷ ts) = t .start
+unfoldable pub frontPlace : ℕ → List Placed → ℕ
+frontPlace end [] = end
+frontPlace end (t ∷ ts) = t .start
 
 unfoldable pub afterFront : List Placed → List Placed
 afterFront [] = []

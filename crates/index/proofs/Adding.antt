@@ -15,7 +15,7 @@ use Rattle.index.specs.declared.Lookup.the-variants.{Listed, Vacant}
 use Rattle.index.specs.declared.Vacancy.the-variants.{At, Nowhere}
 use Rattle.index.specs.declared.Appended.{Appended}
 use Rattle.index.specs.declared.Appended.the-variants.{Rows, Full}
-use Rattle.index.specs.Columns.{policies, Table, rowAt, sameStates, sameRow, allZero, listedBelow}
+use Rattle.index.specs.Columns.{policyCount, EvenColumns, rowAt, sameStates, sameRow, allZero, listedBelow}
 use Rattle.index.specs.Index.{VacantAt, Placed, Indexed, RoomFor, treesWith}
 use Rattle.index.specs.Appending.{isNew, NewPlaced, Lists, answerOf, rowsAfter, changed, isAdded, Appending}
 use Rattle.index.proofs.Growth.{indexed-more}
@@ -24,7 +24,7 @@ module _ {f : ℕ → Row} {count n : ℕ} {trees : List ℕ} {r : Row} where
   new-nowhere : isNew f n r ≡ false → NewPlaced f count n trees r Nowhere
   new-nowhere e = record { at = λ slot q. let z : _≡_ {A = ℕ} 0 1 = cc in absurd (omega arith); nowhere = λ q. e }
 
-  module _ (dead : Bool) (isDead : dead ≡ sameStates policies (r .states) (replicate policies 0)) where
+  module _ (dead : Bool) (isDead : dead ≡ sameStates policyCount (r .states) (replicate policyCount 0)) where
     pub new-dead : dead ≡ true → NewPlaced f count n trees r Nowhere
     unfolding isNew allZero
     new-dead e = new-nowhere (ap (λ t. not (t || listedBelow f n r)) (sym isDead ∙ e))
@@ -54,8 +54,8 @@ module _ (P L R : List ℕ) (n : ℕ) (r : Row) where
         states = sym (getD-set-other L n i (getD (r .states) 0 0) 0 other) k ∷ sym (getD-set-other R n i (getD (r .states) 1 0) 0 other) k ∷ [];
       }
 
-  module _ (t : Table P L R) where
-    put-table : Table (set P n (r .packet)) (set L n (getD (r .states) 0 0)) (set R n (getD (r .states) 1 0))
+  module _ (t : EvenColumns P L R) where
+    put-table : EvenColumns (set P n (r .packet)) (set L n (getD (r .states) 0 0)) (set R n (getD (r .states) 1 0))
     put-table =
         record {
           left = length-set L n _ ∙ t .left ∙ sym (length-set P n _);

@@ -18,7 +18,7 @@ use Rattle.system.proofs.Listing.{append-kept, append-new}
 use Rattle.index.specs.declared.Row.{Row}
 use Rattle.index.specs.declared.Appended.{Appended}
 use Rattle.index.specs.declared.Appended.the-variants.{Rows, Full}
-use Rattle.index.specs.Columns.{policies, rowAt, sameStates, sameRow, allZero, listedBelow}
+use Rattle.index.specs.Columns.{policyCount, rowAt, sameStates, sameRow, allZero, listedBelow}
 use Rattle.index.specs.Index.{Indexed, treesWith}
 use Rattle.index.specs.Appending.{isNew, Lists, answerOf, rowsAfter, isAdded, Appending}
 use Rattle.index.specs.Entries.{Masks, rowOf, entriesOf, entries}
@@ -198,7 +198,7 @@ module _ (S : System) (M : Masks S) (lawful : Lawful S) where
   row-same : (a b : Row) → sameRow a b ≡ true → rowOf S M a ≡ rowOf S M b
   unfolding sameRow
   row-same a b e =
-      let both = and-true (eqb (a .packet) (b .packet)) (sameStates policies (a .states) (b .states)) e in
+      let both = and-true (eqb (a .packet) (b .packet)) (sameStates policyCount (a .states) (b .states)) e in
       let packets : a .packet ≡ b .packet = eqb-true (a .packet) (b .packet) (both .0) in
       let states : M .state (a .states) ≡ M .state (b .states) = lawful .same-eq _ _ (M .same-states (a .states) (b .states) ∙ both .1) in
       λ k. record { packet = packets k; state = states k }

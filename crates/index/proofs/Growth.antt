@@ -13,7 +13,7 @@ use borrow.Author.Tests.{lt-ltb}
 use Rattle.index.specs.declared.Row.{Row}
 use Rattle.index.specs.declared.Lookup.{Lookup}
 use Rattle.index.specs.declared.Lookup.the-variants.{Listed, Vacant}
-use Rattle.index.specs.Columns.{Table, rowAt, sameRow, listedBelow}
+use Rattle.index.specs.Columns.{EvenColumns, rowAt, sameRow, listedBelow}
 use Rattle.index.specs.Index.{bucketOf, sizeOf, lookFrom, slotOf, Rising, Indexed, Indexable, treesWith, VacantAt, Placed}
 use Rattle.index.proofs.States.{same-refl, same-left}
 use Rattle.index.proofs.Hashing.{same-bucket, bucket-below}
@@ -25,7 +25,7 @@ zero-entry (suc k) zero = refl
 zero-entry (suc k) (suc slot) = zero-entry k slot
 
 -- a list of 0 indexes no row
-pub indexed-none : (P L R : List ℕ) (count k : ℕ) → Table P L R → length P < 65536 → count ≤ k / 3 → Indexed P L R count 0 (replicate k 0)
+pub indexed-none : (P L R : List ℕ) (count k : ℕ) → EvenColumns P L R → length P < 65536 → count ≤ k / 3 → Indexed P L R count 0 (replicate k 0)
 unfolding listedBelow
 indexed-none P L R count k t small buckets =
     record {
@@ -48,7 +48,7 @@ attach-ready I l W = (omega (arith, W .inside, I .room), omega (arith, I .number
 
 -- row n is attached: the columns are as they were below n and hold the row r at n
 module _ {P L R trees : List ℕ} {count n : ℕ} (I : Indexed P L R count n trees) (P′ L′ R′ : List ℕ) (r : Row)
-    (table : Table P′ L′ R′) (long : length P′ ≡ length P) (below : (i : ℕ) → i < n → rowAt P L R i ≡ rowAt P′ L′ R′ i) (here : sameRow (rowAt P′ L′ R′ n) r ≡ true)
+    (table : EvenColumns P′ L′ R′) (long : length P′ ≡ length P) (below : (i : ℕ) → i < n → rowAt P L R i ≡ rowAt P′ L′ R′ i) (here : sameRow (rowAt P′ L′ R′ n) r ≡ true)
     (small : r .packet < count) (room : n < length P) (place : n < sizeOf trees) (slot : ℕ) (W : VacantAt (rowAt P L R) count n trees r slot) where
   same-size : sizeOf (set trees slot (suc n)) ≡ sizeOf trees
   same-size = ap (λ m. m / 3) (length-set trees slot (suc n))

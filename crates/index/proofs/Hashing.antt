@@ -11,7 +11,7 @@ use lib.ListN.{getD}
 use borrow.Author.Tests.{eqb-true}
 use Rattle.system.proofs.Basics.{and-true}
 use Rattle.index.specs.declared.Row.{Row}
-use Rattle.index.specs.Columns.{policies, sameStates, sameRow}
+use Rattle.index.specs.Columns.{policyCount, sameStates, sameRow}
 use Rattle.index.specs.Index.{hashFactor, hashPrime, hashOf, bucketOf}
 
 pub hash-below : (k : ℕ) (a : List ℕ) → hashOf k a < hashPrime
@@ -40,8 +40,8 @@ same-hash (suc k) a b e =
 pub same-bucket : (size count : ℕ) (a b : Row) → sameRow a b ≡ true → bucketOf size count a ≡ bucketOf size count b
 unfolding bucketOf sameRow
 same-bucket size count a b e =
-    let both = and-true (eqb (a .packet) (b .packet)) (sameStates policies (a .states) (b .states)) e in
-    ap₂ (λ p h. p * (size / count) + h % (size / count)) (eqb-true _ _ (both .0)) (same-hash policies (a .states) (b .states) (both .1))
+    let both = and-true (eqb (a .packet) (b .packet)) (sameStates policyCount (a .states) (b .states)) e in
+    ap₂ (λ p h. p * (size / count) + h % (size / count)) (eqb-true _ _ (both .0)) (same-hash policyCount (a .states) (b .states) (both .1))
 
 module _ (size count : ℕ) (r : Row) (small : r .packet < count) (room : count ≤ size) where
   pub count-positive : 0 < count
@@ -59,7 +59,7 @@ module _ (size count : ℕ) (r : Row) (small : r .packet < count) (room : count 
 
   pub bucket-below : bucketOf size count r < size
   unfolding bucketOf
-  bucket-below = omega (arith, range-within, mod-lt (hashOf policies (r .states)) width-positive)
+  bucket-below = omega (arith, range-within, mod-lt (hashOf policyCount (r .states)) width-positive)
 
   -- the same with the numbers that the code holds
   module _ (c p : ℕ) (isCount : c ≡ count) (isPacket : p ≡ r .packet) where
@@ -69,6 +69,6 @@ module _ (size count : ℕ) (r : Row) (small : r .packet < count) (room : count 
     pub held-range : p * (size / c) + size / c ≤ size
     held-range = rw (isCount, isPacket) range-within
 
-    pub held-bucket : (h : ℕ) → h ≡ hashOf policies (r .states) → p * (size / c) + h % (size / c) ≡ bucketOf size count r
+    pub held-bucket : (h : ℕ) → h ≡ hashOf policyCount (r .states) → p * (size / c) + h % (size / c) ≡ bucketOf size count r
     unfolding bucketOf
     held-bucket h isHash = rw (isCount, isPacket, isHash)

@@ -12,7 +12,7 @@ use lib.ListN.{getD}
 use borrow.Author.Tests.{eqb-true, eq-eqb, ne-eqb}
 use Rattle.system.proofs.Basics.{and-true, last-or-before}
 use Rattle.index.specs.declared.Row.{Row}
-use Rattle.index.specs.Columns.{policies, sameStates, sameRow}
+use Rattle.index.specs.Columns.{policyCount, sameStates, sameRow}
 use Rattle.index.specs.Index.{sideAt}
 
 module _ (a b : List ℕ) where
@@ -48,11 +48,11 @@ same-refl a = ap₂ _&&_ (eq-eqb (a .packet) (a .packet) refl) (states-refl _ (a
 module _ (a b : Row) where
   pub packets-differ : (a .packet ≡ b .packet → ⊥) → sameRow a b ≡ false
   unfolding sameRow
-  packets-differ e = ap (λ t. t && sameStates policies (a .states) (b .states)) (ne-eqb (a .packet) (b .packet) e)
+  packets-differ e = ap (λ t. t && sameStates policyCount (a .states) (b .states)) (ne-eqb (a .packet) (b .packet) e)
 
-  pub packets-same : a .packet ≡ b .packet → sameRow a b ≡ sameStates policies (a .states) (b .states)
+  pub packets-same : a .packet ≡ b .packet → sameRow a b ≡ sameStates policyCount (a .states) (b .states)
   unfolding sameRow
-  packets-same e = ap (λ t. t && sameStates policies (a .states) (b .states)) (eq-eqb (a .packet) (b .packet) e)
+  packets-same e = ap (λ t. t && sameStates policyCount (a .states) (b .states)) (eq-eqb (a .packet) (b .packet) e)
 
 -- states that are the same are one by one
 states-at : (k i : ℕ) (a b : List ℕ) → i < k → sameStates k a b ≡ true → getD a i 0 ≡ getD b i 0
@@ -78,20 +78,20 @@ states-right (suc k) a b c e = ap₂ _&&_ (states-right k a b c (λ i l. e i (om
 module _ (a b : Row) (same : sameRow a b ≡ true) where
   same-packet : a .packet ≡ b .packet
   unfolding sameRow
-  same-packet = eqb-true _ _ (and-true (eqb (a .packet) (b .packet)) (sameStates policies (a .states) (b .states)) same .0)
+  same-packet = eqb-true _ _ (and-true (eqb (a .packet) (b .packet)) (sameStates policyCount (a .states) (b .states)) same .0)
 
-  same-at : (i : ℕ) → i < policies → getD (a .states) i 0 ≡ getD (b .states) i 0
+  same-at : (i : ℕ) → i < policyCount → getD (a .states) i 0 ≡ getD (b .states) i 0
   unfolding sameRow
-  same-at i l = states-at policies i (a .states) (b .states) l (and-true (eqb (a .packet) (b .packet)) (sameStates policies (a .states) (b .states)) same .1)
+  same-at i l = states-at policyCount i (a .states) (b .states) l (and-true (eqb (a .packet) (b .packet)) (sameStates policyCount (a .states) (b .states)) same .1)
 
   pub same-left : (c : Row) → sameRow a c ≡ sameRow b c
   unfolding sameRow
-  same-left c = ap₂ _&&_ (ap (λ x. eqb x (c .packet)) same-packet) (states-left policies (a .states) (b .states) (c .states) same-at)
+  same-left c = ap₂ _&&_ (ap (λ x. eqb x (c .packet)) same-packet) (states-left policyCount (a .states) (b .states) (c .states) same-at)
 
   pub same-right : (c : Row) → sameRow c a ≡ sameRow c b
   unfolding sameRow
-  same-right c = ap₂ _&&_ (ap (eqb (c .packet)) same-packet) (states-right policies (a .states) (b .states) (c .states) same-at)
+  same-right c = ap₂ _&&_ (ap (eqb (c .packet)) same-packet) (states-right policyCount (a .states) (b .states) (c .states) same-at)
 
   pub same-side : (depth : ℕ) → sideAt depth (a .states) ≡ sideAt depth (b .states)
   unfolding sideAt
-  same-side depth = ap (λ x. x / 2 ^ (depth / policies % 32) % 2) (same-at (depth % policies) (mod-lt depth (omega arith)))
+  same-side depth = ap (λ x. x / 2 ^ (depth / policyCount % 32) % 2) (same-at (depth % policyCount) (mod-lt depth (omega arith)))

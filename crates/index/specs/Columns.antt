@@ -7,9 +7,9 @@ use lib.Dec.{eqb}
 use lib.ListN.{length, getD, replicate}
 use Rattle.index.specs.declared.Row.{Row}
 
--- how many policies a row follows
-abbrev pub policies : ℕ
-policies = 2
+-- how many policyCount a row follows
+abbrev pub policyCount : ℕ
+policyCount = 2
 
 -- of two lists, one for each policy: the left one's, the right one's
 abbrev pub leftOf : List (List ℕ) → List ℕ
@@ -19,7 +19,7 @@ abbrev pub rightOf : List (List ℕ) → List ℕ
 rightOf xs = getD xs 1 []
 
 -- the columns are of one length
-pub record Table (P L R : List ℕ) : Type 0 where
+pub record EvenColumns (P L R : List ℕ) : Type 0 where
   pub left : length L ≡ length P
   pub right : length R ≡ length P
 
@@ -31,18 +31,18 @@ pub record Small (P : List ℕ) (count : ℕ) : Type 0 where
 abbrev pub rowAt : List ℕ → List ℕ → List ℕ → ℕ → Row
 rowAt P L R i = record { packet = getD P i 0; states = getD L i 0 ∷ getD R i 0 ∷ [] }
 
--- the states of the first k policies are the same
+-- the states of the first k policyCount are the same
 unfoldable pub sameStates : ℕ → List ℕ → List ℕ → Bool
 sameStates zero a b = true
 sameStates (suc k) a b = sameStates k a b && eqb (getD a k 0) (getD b k 0)
 
 -- the same packet and the same states
 unfoldable pub sameRow : Row → Row → Bool
-sameRow a b = eqb (a .packet) (b .packet) && sameStates policies (a .states) (b .states)
+sameRow a b = eqb (a .packet) (b .packet) && sameStates policyCount (a .states) (b .states)
 
 -- all states are 0
 unfoldable pub allZero : List ℕ → Bool
-allZero a = sameStates policies a (replicate policies 0)
+allZero a = sameStates policyCount a (replicate policyCount 0)
 
 -- the row is one of the first n: a scan
 unfoldable pub listedBelow : (ℕ → Row) → ℕ → Row → Bool

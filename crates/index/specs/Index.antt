@@ -9,7 +9,7 @@ use lib.ListN.{length, getD, set}
 use Rattle.index.specs.declared.Row.{Row}
 use Rattle.index.specs.declared.Lookup.{Lookup}
 use Rattle.index.specs.declared.Lookup.the-variants.{Listed, Vacant}
-use Rattle.index.specs.Columns.{policies, Table, rowAt, sameRow, listedBelow}
+use Rattle.index.specs.Columns.{policyCount, EvenColumns, rowAt, sameRow, listedBelow}
 
 -- any odd number and prime would serve: the hash decides how deep the trees are and nothing else
 abbrev pub hashFactor : ℕ
@@ -18,14 +18,14 @@ hashFactor = 1640531527
 abbrev pub hashPrime : ℕ
 hashPrime = 4294967291
 
--- the states of the first k policies, hashed
+-- the states of the first k policyCount, hashed
 unfoldable pub hashOf : ℕ → List ℕ → ℕ
 hashOf zero a = 0
 hashOf (suc k) a = (hashOf k a + getD a k 0) * hashFactor % hashPrime
 
 -- the row's bucket of `size` buckets: each packet has a range of its own, and the states are hashed within it
 unfoldable pub bucketOf : ℕ → ℕ → Row → ℕ
-bucketOf size count r = r .packet * (size / count) + hashOf policies (r .states) % (size / count)
+bucketOf size count r = r .packet * (size / count) + hashOf policyCount (r .states) % (size / count)
 
 -- how many buckets a list has, and how many rows it has room for
 abbrev pub sizeOf : List ℕ → ℕ
@@ -35,9 +35,9 @@ sizeOf trees = length trees / 3
 abbrev pub childSlot : ℕ → ℕ → ℕ → ℕ
 childSlot size i side = size + 2 * i + side
 
--- the child that a look goes on to from a depth: a bit of a state, the policies in turn
+-- the child that a look goes on to from a depth: a bit of a state, the policyCount in turn
 unfoldable pub sideAt : ℕ → List ℕ → ℕ
-sideAt depth a = getD a (depth % policies) 0 / 2 ^ (depth / policies % 32) % 2
+sideAt depth a = getD a (depth % policyCount) 0 / 2 ^ (depth / policyCount % 32) % 2
 
 -- a look for a row ends at an entry: none, or the row
 unfoldable pub ends : (ℕ → Row) → ℕ → Row → Bool
@@ -60,7 +60,7 @@ pub record Rising (size n : ℕ) (trees : List ℕ) : Type 0 where
 
 -- The first n rows of the columns are indexed: a look for a row ends at an entry exactly when the row is one of them.
 pub record Indexed (P L R : List ℕ) (count n : ℕ) (trees : List ℕ) : Type 0 where
-  pub table : Table P L R
+  pub table : EvenColumns P L R
   pub within : n ≤ length P
   pub numbered : length P < 65536
   pub room : n ≤ sizeOf trees

@@ -2,11 +2,11 @@
 ghost use mathlib.Core.Path.{_≡_};
 ghost use Prim.Native.Nat.{_+_, _<_, _≤_};
 ghost use lib.ListN.{length, getD, set};
-ghost use Rattle.index.specs.Columns.{policies, Table, rowAt, sameStates, sameRow, listedBelow};
+ghost use Rattle.index.specs.Columns.{policyCount, EvenColumns, rowAt, sameStates, sameRow, listedBelow};
 ghost use Rattle.index.specs.Index.{hashOf, bucketOf, sideAt, Indexed, Indexable, RoomFor, Placed};
 ghost use Rattle.index.specs.Appending.{NewPlaced, lists, Appending};
 
-// How many policies a row follows.
+// How many policyCount a row follows.
 pub const POLICIES: usize = 2;
 
 // A state: bit 0 for the whole policy, bit i for what remains after dup i.
@@ -32,7 +32,7 @@ fn wide_mask(x: Mask) -> usize
 
 // Inner: row i of the columns. This function and `put_row` alone know which column is whose.
 pub fn row_at(packets: &[u16], left: &[Mask], right: &[Mask], i: usize) -> Row
-    requires { ⌜ Table (now packets) (now left) (now right) ⌝ }
+    requires { ⌜ EvenColumns (now packets) (now left) (now right) ⌝ }
     requires { ⌜ i < length (now packets) ⌝ }
     ensures { λ r. ⌜ r ≡ rowAt (now (packets .entry)) (now (left .entry)) (now (right .entry)) i ⌝ }
 {
@@ -44,7 +44,7 @@ pub fn row_at(packets: &[u16], left: &[Mask], right: &[Mask], i: usize) -> Row
 
 // Inner: writes row i of the columns.
 pub fn put_row(packets: &mut [u16], left: &mut [Mask], right: &mut [Mask], i: usize, row: Row)
-    requires { ⌜ Table (now packets) (now left) (now right) ⌝ }
+    requires { ⌜ EvenColumns (now packets) (now left) (now right) ⌝ }
     requires { ⌜ i < length (now packets) ⌝ }
     ensures { λ _. ⌜ now (packets .exit) ≡ set (now (packets .entry)) i (row .packet) ⌝ }
     ensures { λ _. ⌜ now (left .exit) ≡ set (now (left .entry)) i (getD (row .states) 0 0) ⌝ }
@@ -57,7 +57,7 @@ pub fn put_row(packets: &mut [u16], left: &mut [Mask], right: &mut [Mask], i: us
 }
 
 fn same_states(a: [Mask; POLICIES], b: [Mask; POLICIES]) -> bool
-    ensures { λ r. ⌜ r ≡ sameStates policies a b ⌝ }
+    ensures { λ r. ⌜ r ≡ sameStates policyCount a b ⌝ }
 {
     let mut k = 0;
     while k < POLICIES {
@@ -86,7 +86,7 @@ const HASH_FACTOR: usize = 1640531527;
 const HASH_PRIME: usize = 4294967291;
 
 fn hash(states: [Mask; POLICIES]) -> usize
-    ensures { λ r. ⌜ r ≡ hashOf policies states ⌝ }
+    ensures { λ r. ⌜ r ≡ hashOf policyCount states ⌝ }
 {
     let mut h = 0;
     let mut k = 0;
@@ -108,7 +108,7 @@ fn bucket(size: usize, count: u16, row: Row) -> usize
     wide(row.packet) * width + hash(states) % width
 }
 
-// Which child a look goes on to: a bit of a state, the policies in turn. The rows of a bucket have one packet, and those that agree in all
+// Which child a look goes on to: a bit of a state, the policyCount in turn. The rows of a bucket have one packet, and those that agree in all
 // 64 bits too are the same, so a look passes at most 64 rows, whoever chose them.
 fn side_at(states: [Mask; POLICIES], depth: usize) -> usize
     ensures { λ r. ⌜ (r ≡ sideAt depth states) × (r < 2) ⌝ }

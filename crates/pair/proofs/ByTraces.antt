@@ -19,7 +19,7 @@ use Rattle.automaton.specs.State.{outputMask, nextMask, StateTraces}
 use Rattle.automaton.proofs.Tests.{same-test}
 use Rattle.automaton.proofs.Laws.{outputMask-fits, outputMask-iff, next-iff, nextMask-lt, nextMask-bit, dead-outputMask, dead-nextMask}
 use Rattle.system.specs.System.{System, Row, nextRow}
-use Rattle.pair.specs.Sides.{Side, left, right, Pair, at, Labelled}
+use Rattle.pair.specs.Sides.{Side, left, right, Pair, at, NumberedPolicy}
 use Rattle.pair.specs.Pair.{outputAt, nextAt, inOneOutput, pairSystem}
 use Rattle.pair.specs.Rules.{accepted}
 use Rattle.pair.specs.Evidence.{evidenceAnswer, InTable, RowRules}
@@ -29,7 +29,7 @@ use Rattle.pair.proofs.Lawful.{EvaluablePair, zero-sides}
 use Rattle.pair.proofs.Traces.{one-side, side-one}
 use Rattle.pair.proofs.Evidence.{evidence-iff}
 
-module _ (sizes : List ℕ) (ps : Pair Labelled) (ok : EvaluablePair sizes ps) where
+module _ (sizes : List ℕ) (ps : Pair NumberedPolicy) (ok : EvaluablePair sizes ps) where
   abbrev S : System
   S = pairSystem sizes ps
 

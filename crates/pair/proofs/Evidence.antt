@@ -20,7 +20,7 @@ use Rattle.system.specs.RowOrder.{startEntry, NeedsMore, run, answer, equal as 
 use Rattle.system.specs.Tables.{Listed}
 use Rattle.system.proofs.Answers.{full-iff}
 use Rattle.system.proofs.Verdicts.{equal-is, silent-is}
-use Rattle.pair.specs.Sides.{Side, left, right, Pair, at, Labelled}
+use Rattle.pair.specs.Sides.{Side, left, right, Pair, at, NumberedPolicy}
 use Rattle.pair.specs.Pair.{outputAt, nextAt, bothZero, inOneOutput, bitsOfDups, pairSystem}
 use Rattle.pair.specs.Search.{equal, columnsOf, searchAnswer, heldColumns}
 use Rattle.pair.specs.Rules.{accepted, Present, RuleA, RuleB, RuleC, RuleD, KeepsRules, Judged}
@@ -37,7 +37,7 @@ column-at f [] i d e h = absurd (not-suc-le-zero h)
 column-at f (x ∷ l) zero d e h = refl
 column-at f (x ∷ l) (suc i) d e h = column-at f l i d e (le-of-suc-le-suc h)
 
-module _ (sizes : List ℕ) (ps : Pair Labelled) (ok : EvaluablePair sizes ps) where
+module _ (sizes : List ℕ) (ps : Pair NumberedPolicy) (ok : EvaluablePair sizes ps) where
   abbrev S : System
   S = pairSystem sizes ps
 

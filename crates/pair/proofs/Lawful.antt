@@ -15,12 +15,12 @@ use Rattle.packet_set.proofs.Digits.{bit-of-zero}
 use Rattle.automaton.proofs.Laws.{nextMask-lt, dead-nextMask, dead-outputMask, whole-lt}
 use Rattle.automaton.proofs.Trees.{policy-evaluable}
 use Rattle.system.specs.System.{Lawful}
-use Rattle.pair.specs.Sides.{Side, left, right, Pair, at, Labelled, policies}
+use Rattle.pair.specs.Sides.{Side, left, right, Pair, at, NumberedPolicy, policies}
 use Rattle.pair.specs.Pair.{outputAt, nextAt, sameStates, bothZero, inOneOutput, bitsOfDups, pairSystem}
 use Rattle.pair.proofs.Sides.{at-each, onBoth-true, true-onBoth, same-pair}
 
 -- both policies can be evaluated
-abbrev pub EvaluablePair : List ℕ → Pair Labelled → Type 0
+abbrev pub EvaluablePair : List ℕ → Pair NumberedPolicy → Type 0
 EvaluablePair sizes ps = (s : Side) → Evaluable sizes (at s ps .dups) (at s ps .tree)
 
 -- legal lists can be
@@ -33,14 +33,14 @@ xor-none : {a b : Bool} → a ≡ false → b ≡ false → xor a b ≡ false
 unfolding xor
 xor-none p q = ap₂ (λ a b. not (Bool·beq a b)) p q
 
-pub zero-sides : (sizes : List ℕ) (ps : Pair Labelled) (m : Pair ℕ) → (bothZero sizes ps m ≡ true) ↔ ((s : Side) → at s m ≡ 0)
+pub zero-sides : (sizes : List ℕ) (ps : Pair NumberedPolicy) (m : Pair ℕ) → (bothZero sizes ps m ≡ true) ↔ ((s : Side) → at s m ≡ 0)
 unfolding bothZero
 zero-sides sizes ps m = (
   λ e s. eqb-true (at s m) 0 (onBoth-true (λ s. eqb (at s m) 0) e s),
   λ f. true-onBoth (λ s. eqb (at s m) 0) (λ s. eq-eqb (at s m) 0 (f s)),
 )
 
-module _ (sizes : List ℕ) (ps : Pair Labelled) (ok : EvaluablePair sizes ps) where
+module _ (sizes : List ℕ) (ps : Pair NumberedPolicy) (ok : EvaluablePair sizes ps) where
   -- a state 0 has no output and stays 0
   zero-output : (s : Side) (β : ℕ) (m : Pair ℕ) → at s m ≡ 0 → outputAt sizes ps s β m ≡ 0
   unfolding outputAt

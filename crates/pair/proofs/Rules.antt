@@ -16,14 +16,14 @@ use Rattle.automaton.proofs.Tests.{T-true, true-T}
 use Rattle.automaton.proofs.Sets.{anyBelow-iff}
 use Rattle.system.specs.System.{System, Lawful, Row, startRow, nextRow, tells}
 use Rattle.system.specs.RowOrder.{Entry, entryAt, run, sameRow, answer, equal, held}
-use Rattle.system.specs.Tables.{Closed, Sound, Listed}
+use Rattle.system.specs.Tables.{Closed, InRange, Listed}
 use Rattle.system.specs.Words.{Silent}
 use Rattle.packet.proofs.Tests.{or-true, and-true, last-or-before}
 use Rattle.system.proofs.Listing.{sameRow-true, sameRow-refl}
 use Rattle.system.proofs.Runs.{invariant}
 use Rattle.system.proofs.Tables.{closed-silent, closed-contains}
 use Rattle.system.proofs.Counting.{closed-answer}
-use Rattle.pair.specs.Rules.{Table, Checked, accepted, ruleA, ruleB, ruleC, ruleD, andThen, brokenAt, Present, RuleA, RuleB, RuleC, RuleD, KeepsRules, RowKeeps, RowBreaks, breaks-c, breaks-d, Judged, keeps, breaks-a, breaks-b, breaks-row, present, breaksA, breaksB, breaksD, checkRow, checkRows, checkRules}
+use Rattle.pair.specs.Rules.{Table, RulesAnswer, accepted, ruleA, ruleB, ruleC, ruleD, andThen, brokenAt, Present, RuleA, RuleB, RuleC, RuleD, KeepsRules, RowKeeps, RowBreaks, breaks-c, breaks-d, Judged, keeps, breaks-a, breaks-b, breaks-row, present, breaksA, breaksB, breaksD, checkRow, checkRows, checkRules}
 use Rattle.pair.proofs.Sides.{and-both}
 use Rattle.pair.proofs.Lowest.{Spotted, kept, spot, spotted, lowest-spot, lowest-kept}
 
@@ -70,9 +70,9 @@ module _ (S : System) (L : Lawful S) (T : Table S) where
   tells-iff i γ = (λ e. e, λ e. e)
 
   -- one row
-  data RowJudged (i : ℕ) : Checked → Type 0 where
+  data RowJudged (i : ℕ) : RulesAnswer → Type 0 where
     row-keeps : RowKeeps S T i → RowJudged i accepted
-    row-breaks : {x : Checked} → RowBreaks S T i x → RowJudged i x
+    row-breaks : {x : RulesAnswer} → RowBreaks S T i x → RowJudged i x
 
   row-judged : (i : ℕ) → RowJudged i (checkRow S T i)
   unfolding checkRow andThen brokenAt RuleC
@@ -85,12 +85,12 @@ module _ (S : System) (L : Lawful S) (T : Table S) where
       go (spot l) u = row-breaks (breaks-c (λ f. l .broken (f _ (l .inside))))
 
   -- the first n rows
-  data RowsJudged (n : ℕ) : Checked → Type 0 where
+  data RowsJudged (n : ℕ) : RulesAnswer → Type 0 where
     rows-keep : ((i : ℕ) → i < n → RowKeeps S T i) → RowsJudged n accepted
-    rows-break : {x : Checked} (i : ℕ) → i < n → ((j : ℕ) → j < i → RowKeeps S T j) → RowBreaks S T i x → RowsJudged n x
+    rows-break : {x : RulesAnswer} (i : ℕ) → i < n → ((j : ℕ) → j < i → RowKeeps S T j) → RowBreaks S T i x → RowsJudged n x
 
   -- a broken row ends the check
-  broken-first : {i : ℕ} {x : Checked} → RowBreaks S T i x → (y : Checked) → andThen x y ≡ x
+  broken-first : {i : ℕ} {x : RulesAnswer} → RowBreaks S T i x → (y : RulesAnswer) → andThen x y ≡ x
   unfolding andThen
   broken-first (breaks-c f) y = refl
   broken-first (breaks-d f l) y = refl
@@ -100,7 +100,7 @@ module _ (S : System) (L : Lawful S) (T : Table S) where
   rows-judged zero = rows-keep (λ i h. absurd (not-suc-le-zero h))
   rows-judged (suc n) = go (rows-judged n) (row-judged n)
     where
-      go : {x y : Checked} → RowsJudged n x → RowJudged n y → RowsJudged (suc n) (andThen x y)
+      go : {x y : RulesAnswer} → RowsJudged n x → RowJudged n y → RowsJudged (suc n) (andThen x y)
       go {y = y} (rows-break {x = x} i h f b) r = subst (RowsJudged (suc n)) (sym (broken-first b y)) (rows-break i (omega arith) f b)
       go (rows-keep f) (row-keeps k) = rows-keep (λ i h. ⊎-elim (λ l. f i l) (λ e. subst (RowKeeps S T) (sym e) k) (last-or-before h))
       go (rows-keep f) (row-breaks b) = rows-break n (omega arith) f b
@@ -110,7 +110,7 @@ module _ (S : System) (L : Lawful S) (T : Table S) where
   unfolding checkRules andThen brokenAt
   judged = go (spotted (RuleA S T) (breaksA S T) ruleA-iff (T .count)) (spotted (RuleB S T) (breaksB S T) ruleB-iff (S .packets)) (rows-judged (T .count))
     where
-      go : {o u : Option ℕ} {x : Checked} → Spotted (RuleA S T) (T .count) o → Spotted (RuleB S T) (S .packets) u → RowsJudged (T .count) x
+      go : {o u : Option ℕ} {x : RulesAnswer} → Spotted (RuleA S T) (T .count) o → Spotted (RuleB S T) (S .packets) u → RowsJudged (T .count) x
           → Judged S T (andThen (brokenAt ruleA o) (andThen (brokenAt ruleB u) x))
       go (spot l) u x = breaks-a l
       go (kept a) (spot l) x = breaks-b a l
@@ -123,7 +123,7 @@ module _ (S : System) (L : Lawful S) (T : Table S) where
   row-kept i k =
       ap₂ (λ o u. andThen (brokenAt (λ γ. ruleC i) o) (brokenAt (ruleD i) u)) (lowest-kept (λ γ. tells S (T .row i) γ ≡ false) (tells S (T .row i)) (tells-iff i) (S .packets) (k .c)) (lowest-kept (RuleD S T i) (breaksD S T i) (ruleD-iff i) (S .packets) (k .d))
 
-  row-broken : {i : ℕ} {x : Checked} → RowBreaks S T i x → checkRow S T i ≡ x
+  row-broken : {i : ℕ} {x : RulesAnswer} → RowBreaks S T i x → checkRow S T i ≡ x
   unfolding checkRow andThen brokenAt RuleC
   row-broken {i} (breaks-c f) = go (spotted (λ γ. tells S (T .row i) γ ≡ false) (tells S (T .row i)) (tells-iff i) (S .packets))
     where
@@ -138,7 +138,7 @@ module _ (S : System) (L : Lawful S) (T : Table S) where
   rows-kept zero f = refl
   rows-kept (suc n) f = ap₂ andThen (rows-kept n (λ i h. f i (omega arith))) (row-kept n (f n (omega arith)))
 
-  pub rows-broken : (n : ℕ) {i : ℕ} {x : Checked} → i < n → ((j : ℕ) → j < i → RowKeeps S T j) → RowBreaks S T i x → checkRows S T n ≡ x
+  pub rows-broken : (n : ℕ) {i : ℕ} {x : RulesAnswer} → i < n → ((j : ℕ) → j < i → RowKeeps S T j) → RowBreaks S T i x → checkRows S T n ≡ x
   unfolding checkRows andThen
   rows-broken zero h f b = absurd (not-suc-le-zero h)
   rows-broken (suc n) {i} {x} h f b = go (last-or-before h) (λ l. rows-broken n l f b)
@@ -148,11 +148,11 @@ module _ (S : System) (L : Lawful S) (T : Table S) where
       go (inr e) ih = ap₂ andThen (rows-kept n (λ j l. f j (omega arith))) (subst (λ k. checkRow S T k ≡ x) e (row-broken b))
 
   -- nothing else can be said of a table than what the answer says
-  pub judged-is : {x : Checked} → Judged S T x → checkRules S T ≡ x
+  pub judged-is : {x : RulesAnswer} → Judged S T x → checkRules S T ≡ x
   unfolding checkRules andThen brokenAt
   judged-is {x} j = go j
     where
-      all : Option ℕ → Option ℕ → Checked → Checked
+      all : Option ℕ → Option ℕ → RulesAnswer → RulesAnswer
       all o u y = andThen (brokenAt ruleA o) (andThen (brokenAt ruleB u) y)
 
       kept-a : ((i : ℕ) → i < T .count → RuleA S T i) → lowest (breaksA S T) (T .count) ≡ none
@@ -161,7 +161,7 @@ module _ (S : System) (L : Lawful S) (T : Table S) where
       kept-b : ((α : ℕ) → α < S .packets → RuleB S T α) → lowest (breaksB S T) (S .packets) ≡ none
       kept-b = lowest-kept (RuleB S T) (breaksB S T) ruleB-iff (S .packets)
 
-      go : {x : Checked} → Judged S T x → all (lowest (breaksA S T) (T .count)) (lowest (breaksB S T) (S .packets)) (checkRows S T (T .count)) ≡ x
+      go : {x : RulesAnswer} → Judged S T x → all (lowest (breaksA S T) (T .count)) (lowest (breaksB S T) (S .packets)) (checkRows S T (T .count)) ≡ x
       go (keeps k) = ap₂ (λ o u. all o u (checkRows S T (T .count))) (kept-a (k .a)) (kept-b (k .b)) ∙ rows-kept (T .count) (λ i h. record { c = k .c i h; d = k .d i h })
       go (breaks-a l) = ap (λ o. all o (lowest (breaksB S T) (S .packets)) (checkRows S T (T .count))) (lowest-spot (RuleA S T) (breaksA S T) ruleA-iff (T .count) l)
       go (breaks-b a l) = ap₂ (λ o u. all o u (checkRows S T (T .count))) (kept-a a) (lowest-spot (RuleB S T) (breaksB S T) ruleB-iff (S .packets) l)
@@ -201,7 +201,7 @@ module _ (S : System) (L : Lawful S) (T : Table S) where
 
   -- a table of listed rows that are closed and sound keeps the rules
   pub listed-keeps : (es : List (Entry S)) → T .count ≡ length es → ((i : ℕ) → i < length es → T .row i ≡ entryAt S es i .row)
-      → Closed S (Listed S es) → Sound S (Listed S es) → KeepsRules S T
+      → Closed S (Listed S es) → InRange S (Listed S es) → KeepsRules S T
   unfolding RuleA RuleB RuleC RuleD
   listed-keeps es n same C Q =
       record {

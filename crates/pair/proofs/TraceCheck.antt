@@ -8,7 +8,7 @@ use lib.Dec.{T}
 use Rattle.packet.specs.Sizes.{product}
 use Rattle.automaton.specs.State.{hasTrace, runs}
 use Rattle.automaton.proofs.Laws.{hasTrace-iff}
-use Rattle.pair.specs.Sides.{Side, left, right, other, Pair, at, Labelled}
+use Rattle.pair.specs.Sides.{Side, left, right, other, Pair, at, NumberedPolicy}
 use Rattle.pair.specs.Pair.{SideTraces}
 use Rattle.pair.specs.Search.{different, searchAnswer, Distinguishes}
 use Rattle.pair.specs.TraceCheck.{TraceAnswer, only, both, neither, has, answerOf, sideHas, traceAnswer}
@@ -40,7 +40,7 @@ only-one right (only right) h n = refl
 only-one right both h n = absurd (n tt)
 only-one right neither h n = absurd h
 
-module _ (sizes : List ℕ) (ps : Pair Labelled) where
+module _ (sizes : List ℕ) (ps : Pair NumberedPolicy) where
   -- a trace of length 0 is neither
   pub trace-empty : (α : ℕ) → traceAnswer sizes ps α [] ≡ neither
   unfolding traceAnswer sideHas hasTrace runs answerOf

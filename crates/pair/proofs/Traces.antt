@@ -18,7 +18,7 @@ use Rattle.automaton.proofs.Laws.{split-last, outputMask-iff, nextMask-iff, who
 use Rattle.system.specs.System.{Row, startRow, nextRow, tells}
 use Rattle.system.specs.Words.{Word, end, then, follow, SilentBelow, Silent}
 use Rattle.system.proofs.Basics.{length-snoc}
-use Rattle.pair.specs.Sides.{Side, left, right, other, Pair, at, Labelled}
+use Rattle.pair.specs.Sides.{Side, left, right, other, Pair, at, NumberedPolicy}
 use Rattle.pair.specs.Pair.{SideTraces, outputAt, nextAt, inOneOutput, pairSystem}
 use Rattle.pair.proofs.Sides.{at-each}
 use Rattle.pair.proofs.Lawful.{EvaluablePair}
@@ -44,7 +44,7 @@ unfolding xor other
 side-one test left t f = ap₂ xor (T-true (test left) t) (T-false (test right) f)
 side-one test right t f = ap₂ xor (T-false (test left) f) (T-true (test right) t)
 
-module _ (sizes : List ℕ) (ps : Pair Labelled) where
+module _ (sizes : List ℕ) (ps : Pair NumberedPolicy) where
   -- the side's policy has the trace and the other has not
   unfoldable pub Alone : Side → ℕ → List ℕ → Type 0
   Alone s α t = SideTraces sizes ps s α t × (SideTraces sizes ps (other s) α t → ⊥)
@@ -55,7 +55,7 @@ module _ (sizes : List ℕ) (ps : Pair Labelled) where
       let r = follow (pairSystem sizes ps) (startRow (pairSystem sizes ps) α) w in
       bit (outputAt sizes ps s (r .packet) (r .state)) γ
 
-module _ (sizes : List ℕ) (ps : Pair Labelled) (ok : EvaluablePair sizes ps) where
+module _ (sizes : List ℕ) (ps : Pair NumberedPolicy) (ok : EvaluablePair sizes ps) where
   -- the traces of a side's state at a row
   RowTraces : Side → Row (pairSystem sizes ps) → List ℕ → Type 0
   RowTraces s r t = StateTraces sizes (at s ps .tree) (bit (at s (r .state))) (r .packet) t

@@ -19,7 +19,7 @@ use Rattle.system.proofs.Lines.{Line, line-of}
 use Rattle.system.proofs.Shortest.{Shortest}
 use Rattle.system.proofs.Answers.{Answered, is-different, answered, full-iff, short-stops, answer-finished, answer-telling, held-stopped}
 use Rattle.system.proofs.Verdicts.{IsDifferent, equal-is, different-is, silent-is}
-use Rattle.pair.specs.Sides.{Side, left, right, Pair, Labelled}
+use Rattle.pair.specs.Sides.{Side, left, right, Pair, NumberedPolicy}
 use Rattle.pair.specs.Pair.{pairSystem}
 use Rattle.pair.specs.Search.{SearchAnswer, equal, different, rowsFull, traceShort, lastOf, sideOf, reported, searchAnswer, Distinguishes}
 use Rattle.pair.proofs.Lawful.{EvaluablePair, lawful}
@@ -30,7 +30,7 @@ pub lastOf-snoc : (w : List ℕ) (γ : ℕ) → lastOf (w ++ (γ ∷ [])) ≡ γ
 unfolding lastOf
 lastOf-snoc w γ = ap (λ n. getD (w ++ (γ ∷ [])) (pred n) 0) (length-snoc w γ) ∙ getD-append-seam w γ [] 0
 
-module _ (sizes : List ℕ) (ps : Pair Labelled) where
+module _ (sizes : List ℕ) (ps : Pair NumberedPolicy) where
   abbrev S : System
   S = pairSystem sizes ps
 

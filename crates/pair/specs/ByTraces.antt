@@ -13,11 +13,11 @@ use Rattle.packet_set.specs.Bits.{bit}
 use Rattle.automaton.specs.Reaches.{Reaches}
 use Rattle.automaton.specs.Remainder.{remainder}
 use Rattle.system.specs.System.{Row, nextRow, tells}
-use Rattle.pair.specs.Sides.{Side, left, right, other, Pair, at, Labelled}
+use Rattle.pair.specs.Sides.{Side, left, right, other, Pair, at, NumberedPolicy}
 use Rattle.pair.specs.Pair.{bothZero, pairSystem}
 use Rattle.pair.specs.Evidence.{InTable}
 
-module _ (sizes : List ℕ) (ps : Pair Labelled) where
+module _ (sizes : List ℕ) (ps : Pair NumberedPolicy) where
   -- γ is a one-packet trace, from β, of some remainder that the side's state m marks
   unfoldable pub Outputs : Side → ℕ → ℕ → ℕ → Type 0
   Outputs s m β γ = (i : ℕ) × T (bit m i) × Traces (numbered sizes) (remainder (at s ps .tree) i) β (γ ∷ [])

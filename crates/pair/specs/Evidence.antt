@@ -6,9 +6,9 @@ use mathlib.Core.Path.{_≡_}
 use lib.ListN.{length, getD}
 use Rattle.packet.specs.Sizes.{product}
 use Rattle.automaton.specs.State.{outputMask, nextMask}
-use Rattle.pair.specs.Sides.{Pair, Labelled}
+use Rattle.pair.specs.Sides.{Pair, NumberedPolicy}
 use Rattle.pair.specs.Pair.{pairSystem}
-use Rattle.pair.specs.Rules.{Table, Checked, checkRules}
+use Rattle.pair.specs.Rules.{Table, RulesAnswer, checkRules}
 
 -- the row stands in the table of three columns
 pub record InTable (packets lefts rights : List ℕ) (α l r : ℕ) : Type 0 where
@@ -18,7 +18,7 @@ pub record InTable (packets lefts rights : List ℕ) (α l r : ℕ) : Type 0 whe
   pub left : getD lefts place 0 ≡ l
   pub right : getD rights place 0 ≡ r
 
-module _ (sizes : List ℕ) (ps : Pair Labelled) where
+module _ (sizes : List ℕ) (ps : Pair NumberedPolicy) where
   -- row i is the i-th packet, left state and right state; parents play no part
   abbrev pub tableOf : List ℕ → List ℕ → List ℕ → Table (pairSystem sizes ps)
   tableOf packets lefts rights =
@@ -27,7 +27,7 @@ module _ (sizes : List ℕ) (ps : Pair Labelled) where
         row = λ i. record { packet = getD packets i 0; state = record { left = getD lefts i 0; right = getD rights i 0 } };
       }
 
-  unfoldable pub evidenceAnswer : List ℕ → List ℕ → List ℕ → Checked
+  unfoldable pub evidenceAnswer : List ℕ → List ℕ → List ℕ → RulesAnswer
   evidenceAnswer packets lefts rights = checkRules (pairSystem sizes ps) (tableOf packets lefts rights)
 
   -- The four row rules in document 01's words.

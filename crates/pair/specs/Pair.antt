@@ -8,9 +8,9 @@ use Rattle.policy.specs.Meaning.{numbered, Traces}
 use Rattle.packet_set.specs.Bits.{bit, onlyBits}
 use Rattle.automaton.specs.State.{outputMask, nextMask}
 use Rattle.system.specs.System.{System}
-use Rattle.pair.specs.Sides.{Side, left, right, Pair, at, each, onBoth, Labelled}
+use Rattle.pair.specs.Sides.{Side, left, right, Pair, at, each, onBoth, NumberedPolicy}
 
-module _ (sizes : List ℕ) (ps : Pair Labelled) where
+module _ (sizes : List ℕ) (ps : Pair NumberedPolicy) where
   -- t is a trace of the side's policy from α (Figure 1)
   unfoldable pub SideTraces : Side → ℕ → List ℕ → Type 0
   SideTraces s α t = Traces (numbered sizes) (at s ps .tree) α t

@@ -15,15 +15,15 @@ pub record Table (S : System) : Type 0 where
   pub row : ℕ → Row S
 
 -- Accepted, or the broken rule with its spot: (a) row; (b) packet; (c) row; (d) row and packet.
-pub data Checked : Type 0 where
-  accepted : Checked
-  ruleA : ℕ → Checked
-  ruleB : ℕ → Checked
-  ruleC : ℕ → Checked
-  ruleD : ℕ → ℕ → Checked
+pub data RulesAnswer : Type 0 where
+  accepted : RulesAnswer
+  ruleA : ℕ → RulesAnswer
+  ruleB : ℕ → RulesAnswer
+  ruleC : ℕ → RulesAnswer
+  ruleD : ℕ → ℕ → RulesAnswer
 
 -- the first rejection
-unfoldable pub andThen : Checked → Checked → Checked
+unfoldable pub andThen : RulesAnswer → RulesAnswer → RulesAnswer
 andThen accepted d = d
 andThen (ruleA i) d = ruleA i
 andThen (ruleB α) d = ruleB α
@@ -31,7 +31,7 @@ andThen (ruleC i) d = ruleC i
 andThen (ruleD i γ) d = ruleD i γ
 
 -- a rule, and the lowest spot at which it is broken
-unfoldable pub brokenAt : (ℕ → Checked) → Option ℕ → Checked
+unfoldable pub brokenAt : (ℕ → RulesAnswer) → Option ℕ → RulesAnswer
 brokenAt rule none = accepted
 brokenAt rule (some spot) = rule spot
 
@@ -77,16 +77,16 @@ module _ (S : System) (T : Table S) where
     pub d : (γ : ℕ) → γ < S .packets → RuleD i γ
 
   -- row i breaks (c), or keeps it and breaks (d), lowest at γ
-  pub data RowBreaks (i : ℕ) : Checked → Type 0 where
+  pub data RowBreaks (i : ℕ) : RulesAnswer → Type 0 where
     breaks-c : (RuleC i → ⊥) → RowBreaks i (ruleC i)
     breaks-d : {γ : ℕ} → RuleC i → LowestBroken (RuleD i) (S .packets) γ → RowBreaks i (ruleD i γ)
 
   -- What an answer says of the table: which rule is broken first and where, in document 01's order.
-  pub data Judged : Checked → Type 0 where
+  pub data Judged : RulesAnswer → Type 0 where
     keeps : KeepsRules → Judged accepted
     breaks-a : {i : ℕ} → LowestBroken RuleA (T .count) i → Judged (ruleA i)
     breaks-b : {α : ℕ} → ((i : ℕ) → i < T .count → RuleA i) → LowestBroken RuleB (S .packets) α → Judged (ruleB α)
-    breaks-row : {x : Checked} → ((i : ℕ) → i < T .count → RuleA i) → ((α : ℕ) → α < S .packets → RuleB α)
+    breaks-row : {x : RulesAnswer} → ((i : ℕ) → i < T .count → RuleA i) → ((α : ℕ) → α < S .packets → RuleB α)
         → (i : ℕ) → i < T .count → ((j : ℕ) → j < i → RowKeeps j) → RowBreaks i x → Judged x
 
   unfoldable pub present : Row S → Bool
@@ -102,14 +102,14 @@ module _ (S : System) (T : Table S) where
   breaksD i γ = not (S .dead (nextRow S (T .row i) γ .state) || present (nextRow S (T .row i) γ))
 
   -- (c), then (d) with the lowest packet
-  unfoldable pub checkRow : ℕ → Checked
+  unfoldable pub checkRow : ℕ → RulesAnswer
   checkRow i = andThen (brokenAt (λ γ. ruleC i) (lowest (tells S (T .row i)) (S .packets))) (brokenAt (ruleD i) (lowest (breaksD i) (S .packets)))
 
   -- the first n rows, row by row
-  unfoldable pub checkRows : ℕ → Checked
+  unfoldable pub checkRows : ℕ → RulesAnswer
   checkRows zero = accepted
   checkRows (suc n) = andThen (checkRows n) (checkRow n)
 
   -- (a) over all rows first; then (b), the lowest missing packet; then row by row
-  unfoldable pub checkRules : Checked
+  unfoldable pub checkRules : RulesAnswer
   checkRules = andThen (brokenAt ruleA (lowest breaksA (T .count))) (andThen (brokenAt ruleB (lowest breaksB (S .packets))) (checkRows (T .count)))

@@ -9,7 +9,7 @@ use Rattle.packet.specs.Sizes.{product}
 use Rattle.packet_set.specs.Bits.{bit}
 use Rattle.system.specs.System.{Row}
 use Rattle.system.specs.RowOrder.{Entry, entryAt, full as moreRows, equal as allHandled, different as tellingRow, answer, held}
-use Rattle.pair.specs.Sides.{Side, left, right, other, Pair, Labelled}
+use Rattle.pair.specs.Sides.{Side, left, right, other, Pair, NumberedPolicy}
 use Rattle.pair.specs.Pair.{SideTraces, outputAt, pairSystem}
 
 -- Equal, with the row count; different, with the policy that has the trace, the entering packet and the trace;
@@ -35,7 +35,7 @@ lastOf t = getD t (pred (length t)) 0
 unfoldable pub reported : ℕ → Side → ℕ → List ℕ → SearchAnswer
 reported lent s α trace = cond (ltb lent (length trace)) (traceShort (length trace)) (different s α trace)
 
-module _ (sizes : List ℕ) (ps : Pair Labelled) where
+module _ (sizes : List ℕ) (ps : Pair NumberedPolicy) where
   -- the policy in whose output the telling packet is
   unfoldable pub sideOf : Row (pairSystem sizes ps) → ℕ → Side
   sideOf r γ = cond (bit (outputAt sizes ps left (r .packet) (r .state)) γ) left right

@@ -28,13 +28,13 @@ unfoldable pub onBoth : (Side → Bool) → Bool
 onBoth test = test left && test right
 
 -- a policy whose dups are numbered from 1 to dups
-pub record Labelled : Type 0 where
+pub record NumberedPolicy : Type 0 where
   pub tree : Policy
   pub dups : ℕ
 
 -- the policy of node lists
-abbrev pub labelled : NodeLists → Labelled
-labelled L = record { tree = policyOf L; dups = dupsBelow L (nodeCount L) }
+abbrev pub numberedPolicy : NodeLists → NumberedPolicy
+numberedPolicy L = record { tree = policyOf L; dups = dupsBelow L (nodeCount L) }
 
-abbrev pub policies : NodeLists → NodeLists → Pair Labelled
-policies l r = record { left = labelled l; right = labelled r }
+abbrev pub policies : NodeLists → NodeLists → Pair NumberedPolicy
+policies l r = record { left = numberedPolicy l; right = numberedPolicy r }

@@ -3,7 +3,7 @@ use Prim.Native.Nat.{ℕ}
 use mathlib.Core.Bool.{Bool, true, false}
 use mathlib.Core.List.{List}
 use Rattle.automaton.specs.State.{hasTrace}
-use Rattle.pair.specs.Sides.{Side, left, right, Pair, at, Labelled}
+use Rattle.pair.specs.Sides.{Side, left, right, Pair, at, NumberedPolicy}
 
 pub data TraceAnswer : Type 0 where
   only : Side → TraceAnswer
@@ -24,7 +24,7 @@ answerOf true false = only left
 answerOf false true = only right
 answerOf false false = neither
 
-module _ (sizes : List ℕ) (ps : Pair Labelled) where
+module _ (sizes : List ℕ) (ps : Pair NumberedPolicy) where
   -- the side's policy has the trace from α
   unfoldable pub sideHas : Side → ℕ → List ℕ → Bool
   sideHas s α trace = hasTrace sizes (at s ps .tree) (at s ps .dups) α trace

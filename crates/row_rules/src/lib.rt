@@ -6,7 +6,7 @@ ghost use mathlib.Core.Bool.{true};
 ghost use Prim.Native.Nat.{_<_, _≤_};
 ghost use lib.ListN.{length, getD};
 ghost use Rattle.packet.specs.Lowest.{lowest};
-ghost use Rattle.index.specs.Columns.{leftOf, rightOf, Table, Small};
+ghost use Rattle.index.specs.Columns.{leftOf, rightOf, EvenColumns, Small};
 ghost use Rattle.index.specs.Index.{Indexed};
 ghost use Rattle.marks.specs.Marks.{Marking};
 ghost use Rattle.row_rules.specs.Presence.{spotOf, fits, zeroStates, strays, startMissing, nextMissing, Repeated};
@@ -52,7 +52,7 @@ pub fn first_stray(
     left_dups: u32,
     right_dups: u32,
 ) -> Spot
-    requires { ⌜ Table (now packets) (now lefts) (now rights) ⌝ }
+    requires { ⌜ EvenColumns (now packets) (now lefts) (now rights) ⌝ }
     requires { ⌜ length (now packets) ≤ 65535 ⌝ }
     requires { ⌜ («left_dups» < 32) × («right_dups» < 32) ⌝ }
     ensures { λ r. ⌜ spotOf r ≡ lowest (strays (now (packets .entry)) (now (lefts .entry)) (now (rights .entry)) count «left_dups» «right_dups») (length (now (packets .entry))) ⌝ }

@@ -20,10 +20,10 @@ use Rattle.pair.specs.Search.{SearchAnswer, equal, different, rowsFull, traceSh
 use Rattle.pair.proofs.Lawful.{EvaluablePair, legal-pair}
 use Rattle.pair.proofs.Verdicts as verdicts
 use Rattle.index.specs.Appending.{Lists, lists}
-use Rattle.lent.specs.Lent.{listsStage, rowsMisfit}
+use Rattle.lent_lists.specs.Lent.{listsStage, rowsMisfit}
 use Rattle.packet.specs.Written.{written}
-use Rattle.rows.proofs.Searching.{holds}
-use Rattle.lent.proofs.Testing.{front-tests, tests-passed, lists-passed, row-list-fits, rows-few}
+use Rattle.listed_rows.proofs.Searching.{holds}
+use Rattle.lent_lists.proofs.Testing.{front-tests, tests-passed, lists-passed, row-list-fits, rows-few}
 use Rattle.verdict.specs.declared.Stop.{Stop}
 use Rattle.verdict.specs.declared.Verdict.{Verdict}
 use Rattle.verdict.specs.declared.Verdict.the-variants.{Equal, Full, Refused}
@@ -32,7 +32,7 @@ use Rattle.compare.proofs.Comparing.{load-asks}
 use Rattle.verdict.specs.Ending.{endedAnswer}
 use Rattle.verdict.specs.Verdicts.{tellingVerdict, verdictOf, traceAfter, Told}
 use Rattle.search.specs.Rows.{RowsRun, RunReady}
-use Rattle.search.specs.Call.{Lent, lent, filled, verdictAfter, lentAfter, searchTests, answerHere, rowsHere, searchVerdict, searchLeaves, Telling, Searched, Accepted, SearchDone}
+use Rattle.search.specs.Call.{SearchLists, lent, filled, verdictAfter, lentAfter, searchTests, answerHere, rowsHere, searchVerdict, searchLeaves, Telling, Searched, Accepted, SearchDone}
 
 zero≢one : _≡_ {A = ℕ} 0 1 → ⊥
 zero≢one z = omega arith
@@ -85,7 +85,7 @@ refused-telling r right n α e = let z : _≡_ {A = ℕ} 0 1 = cc in zero≢one 
 -- ---- the tests
 
 -- the tests as they were made
-module _ (sizes : List ℕ) (L R : NodeLists) (x : Lent) {said : Tested} (is : said ≡ listsStage (length (x .packets) ∷ length (x .lefts) ∷ length (x .rights) ∷ length (x .parents) ∷ []) (length (x .work))) {q : PairTested} (f : FrontOf sizes L R said q) where
+module _ (sizes : List ℕ) (L R : NodeLists) (x : SearchLists) {said : Tested} (is : said ≡ listsStage (length (x .packets) ∷ length (x .lefts) ∷ length (x .rights) ∷ length (x .parents) ∷ []) (length (x .work))) {q : PairTested} (f : FrontOf sizes L R said q) where
   tests-are : q .tested ≡ searchTests sizes L R x
   unfolding searchTests
   tests-are = front-tests sizes L R _ is f
@@ -96,7 +96,7 @@ module _ (sizes : List ℕ) (L R : NodeLists) (x : Lent) {said : Tested} (is : s
   pub tests-pass : q .tested ≡ Passed → (searchTests sizes L R x ≡ Passed) × (q .packets ≡ product sizes)
   tests-pass e = (sym tests-are ∙ e, f .packets e)
 
-module _ {sizes : List ℕ} {L R : NodeLists} {x : Lent} where
+module _ {sizes : List ℕ} {L R : NodeLists} {x : SearchLists} where
   -- ---- where no cause of 1 to 10 holds
 
   module _ {count : ℕ} (A : Accepted sizes L R count x) where
@@ -169,7 +169,7 @@ module _ {sizes : List ℕ} {L R : NodeLists} {x : Lent} where
         full-place = λ q f. let z : _≡_ {A = ℕ} 0 1 = cc in absurd (zero≢one z);
       }
 
-  pub promised : searchTests sizes L R x ≡ Passed → {verdict : Verdict} {y : Lent} → SearchDone sizes L R x verdict y → Searched sizes L R x verdict y
+  pub promised : searchTests sizes L R x ≡ Passed → {verdict : Verdict} {y : SearchLists} → SearchDone sizes L R x verdict y → Searched sizes L R x verdict y
   unfolding searchTests searchVerdict searchLeaves verdictAfter lentAfter filled traceAfter written verdictOf
   promised e {verdict} {y} D =
       record {
@@ -192,7 +192,7 @@ module _ {sizes : List ℕ} {L R : NodeLists} {x : Lent} where
       tells : (s : Side) (n α : ℕ) → Trace (answerHere sizes L R x) s n α → Telling sizes L R x s n α (y .trace)
       tells s n α t =
           let first : take n (y .trace) ≡ t .trace =
-          ap (take n) (ap (λ (z : Lent). z .trace) (D .leaves) ∙ ap (λ a. traceAfter a (x .trace)) (t .answer))
+          ap (take n) (ap (λ (z : SearchLists). z .trace) (D .leaves) ∙ ap (λ a. traceAfter a (x .trace)) (t .answer))
           ∙ ap (λ k. take k (t .trace ++ drop (length (t .trace)) (x .trace))) (sym (t .long))
           ∙ take-append-seam (t .trace) (drop (length (t .trace)) (x .trace)) in
           record {

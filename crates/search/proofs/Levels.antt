@@ -11,13 +11,13 @@ use Rattle.index.specs.declared.Appended.the-variants.{Rows, Full as FullUp}
 use Rattle.index.specs.Index.{sizeOf, Indexed, Indexable}
 use Rattle.index.specs.Appending.{Lists}
 use Rattle.index.proofs.Growth.{indexed-none}
-use Rattle.rows.specs.declared.Progress.{Progress}
-use Rattle.rows.specs.Standing.{Started}
-use Rattle.rows.proofs.Growing.{SameLengths}
+use Rattle.listed_rows.specs.declared.Progress.{Progress}
+use Rattle.listed_rows.specs.Standing.{Started}
+use Rattle.listed_rows.proofs.Growing.{SameLengths}
 use Rattle.compare.specs.Comparison.{BothLoaded}
-use Rattle.round.specs.declared.Handled.{Handled}
-use Rattle.round.specs.declared.Handled.the-variants.{Open, Stopped}
-use Rattle.round.specs.Step.{HandleReady, StepDone}
+use Rattle.row_handling.specs.declared.Handled.{Handled}
+use Rattle.row_handling.specs.declared.Handled.the-variants.{Open, Stopped}
+use Rattle.row_handling.specs.Step.{HandleReady, StepDone}
 use Rattle.verdict.specs.declared.Ended as verdict
 use Rattle.verdict.specs.declared.Ended.the-variants.{Full}
 use Rattle.verdict.specs.declared.Stop.{Stop}

@@ -26,18 +26,18 @@ use Rattle.index.specs.declared.Appended.the-variants.{Rows, Full as FullUp}
 use Rattle.index.specs.Index.{sizeOf, Indexed, Indexable}
 use Rattle.index.specs.Appending.{Lists}
 use Rattle.index.specs.Entries.{Masks}
-use Rattle.rows.specs.declared.Progress.{Progress}
-use Rattle.rows.specs.Standing.{Standing, pairMasks, Started}
-use Rattle.rows.proofs.Standing.{stands-length}
-use Rattle.rows.proofs.Growing.{SameLengths, lengths-none, lengths-then}
-use Rattle.rows.proofs.Searching.{Running, IsFull, stands-then, entry-at, rooted, path-line, entering-line, search-begins, start-full, search-goes, search-fills, search-ends, search-tells}
+use Rattle.listed_rows.specs.declared.Progress.{Progress}
+use Rattle.listed_rows.specs.Standing.{Standing, pairMasks, Started}
+use Rattle.listed_rows.proofs.Standing.{stands-length}
+use Rattle.listed_rows.proofs.Growing.{SameLengths, lengths-none, lengths-then}
+use Rattle.listed_rows.proofs.Searching.{Running, IsFull, stands-then, entry-at, rooted, path-line, entering-line, search-begins, start-full, search-goes, search-fills, search-ends, search-tells}
 use Rattle.marks.proofs.Touched.{blank-new}
 use Rattle.compare.specs.Comparison.{BothLoaded, BothBlank}
 use Rattle.verdict.specs.declared.Ended.{Ended}
 use Rattle.verdict.specs.declared.Ended.the-variants.{Done, Full}
-use Rattle.round.specs.declared.Handled.{Handled}
-use Rattle.round.specs.declared.Handled.the-variants.{Open, Stopped}
-use Rattle.round.specs.Step.{goesOn, runAt, afterRow, stepAnswer, stepRows, RowHandled, HandleReady}
+use Rattle.row_handling.specs.declared.Handled.{Handled}
+use Rattle.row_handling.specs.declared.Handled.the-variants.{Open, Stopped}
+use Rattle.row_handling.specs.Step.{goesOn, runAt, afterRow, stepAnswer, stepRows, RowHandled, HandleReady}
 use Rattle.verdict.specs.Ending.{tellingAt, CanRead, tellingAnswer, answerAtEnd, endedAnswer, ReadableAt, Readable}
 use Rattle.search.specs.Rows.{withIndex, RowsRun, Underway}
 

@@ -16,14 +16,14 @@ use Rattle.system.specs.RowOrder.{NeedsMore}
 use Rattle.pair.specs.Sides.{Side, policies}
 use Rattle.pair.specs.Pair.{pairSystem}
 use Rattle.pair.specs.Search.{SearchAnswer, Columns, searchAnswer, heldColumns, Distinguishes}
-use Rattle.lent.specs.Lent.{listsStage, lentTests}
+use Rattle.lent_lists.specs.Lent.{listsStage, lentTests}
 use Rattle.packet.specs.Written.{written}
 use Rattle.verdict.specs.declared.Verdict.{Verdict}
 use Rattle.verdict.specs.Verdicts.{tellingVerdict, verdictOf, traceAfter}
 use Rattle.verdict.specs.declared.Verdict.the-variants.{Equal, Full, Refused}
 
 -- the lists lent to a search
-pub record Lent : Type 0 where
+pub record SearchLists : Type 0 where
   pub packets : List ℕ
   pub lefts : List ℕ
   pub rights : List ℕ
@@ -31,11 +31,11 @@ pub record Lent : Type 0 where
   pub trace : List ℕ
   pub work : List ℕ
 
-abbrev pub lent : List ℕ → List ℕ → List ℕ → List ℕ → List ℕ → List ℕ → Lent
+abbrev pub lent : List ℕ → List ℕ → List ℕ → List ℕ → List ℕ → List ℕ → SearchLists
 lent P L R Q trace work = record { packets = P; lefts = L; rights = R; parents = Q; trace = trace; work = work }
 
 -- the lists that a search leaves where no cause of 1 to 10 holds: the rows listed first, entries beyond as they were; the work list all 0
-unfoldable pub filled : Columns → SearchAnswer → Lent → Lent
+unfoldable pub filled : Columns → SearchAnswer → SearchLists → SearchLists
 filled rows a x =
     record {
       packets = written (rows .packets) (x .packets);
@@ -50,11 +50,11 @@ unfoldable pub verdictAfter : Tested → SearchAnswer → Verdict
 verdictAfter Passed a = verdictOf a
 verdictAfter (Stopped r) a = Refused r
 
-unfoldable pub lentAfter : Tested → Columns → SearchAnswer → Lent → Lent
+unfoldable pub lentAfter : Tested → Columns → SearchAnswer → SearchLists → SearchLists
 lentAfter Passed rows a x = filled rows a x
 lentAfter (Stopped r) rows a x = x
 
-module _ (sizes : List ℕ) (L R : NodeLists) (x : Lent) where
+module _ (sizes : List ℕ) (L R : NodeLists) (x : SearchLists) where
   -- causes 1 to 10 in the order tested
   unfoldable pub searchTests : Tested
   searchTests = lentTests sizes L R (listsStage (length (x .packets) ∷ length (x .lefts) ∷ length (x .rights) ∷ length (x .parents) ∷ []) (length (x .work)))
@@ -70,7 +70,7 @@ module _ (sizes : List ℕ) (L R : NodeLists) (x : Lent) where
   unfoldable pub searchVerdict : Verdict
   searchVerdict = verdictAfter searchTests answerHere
 
-  unfoldable pub searchLeaves : Lent
+  unfoldable pub searchLeaves : SearchLists
   searchLeaves = lentAfter searchTests rowsHere answerHere x
 
   -- the first n packets of the trace list tell the policies apart (Figure 1)
@@ -79,7 +79,7 @@ module _ (sizes : List ℕ) (L R : NodeLists) (x : Lent) where
     pub tells : Distinguishes sizes (policies L R) s α (take n trace)
 
   -- The promise of the search.
-  pub record Searched (verdict : Verdict) (y : Lent) : Type 0 where
+  pub record Searched (verdict : Verdict) (y : SearchLists) : Type 0 where
     pub answers : verdict ≡ searchVerdict
     pub leaves : y ≡ searchLeaves
     -- demand 2: equal only if both policies have the same traces from every packet
@@ -92,7 +92,7 @@ module _ (sizes : List ℕ) (L R : NodeLists) (x : Lent) where
     pub full-place : (r : Refusal) → verdict ≡ Full r → r ≡ refusal 11 0 (length (x .packets))
 
 -- what is known of the lent lists where no cause of 1 to 10 holds, and N = count
-pub record Accepted (sizes : List ℕ) (L R : NodeLists) (count : ℕ) (x : Lent) : Type 0 where
+pub record Accepted (sizes : List ℕ) (L R : NodeLists) (count : ℕ) (x : SearchLists) : Type 0 where
   pub legal : LegalSizes sizes
   pub left-legal : Legal sizes L
   pub right-legal : Legal sizes R
@@ -104,6 +104,6 @@ pub record Accepted (sizes : List ℕ) (L R : NodeLists) (count : ℕ) (x : Lent
   pub long : 16384 ≤ length (x .work)
 
 -- the verdict and the lists after a search where no cause of 1 to 10 holds
-pub record SearchDone (sizes : List ℕ) (L R : NodeLists) (x : Lent) (verdict : Verdict) (y : Lent) : Type 0 where
+pub record SearchDone (sizes : List ℕ) (L R : NodeLists) (x : SearchLists) (verdict : Verdict) (y : SearchLists) : Type 0 where
   pub answers : verdict ≡ verdictOf (answerHere sizes L R x)
   pub leaves : y ≡ filled (rowsHere sizes L R x) (answerHere sizes L R x) x

@@ -9,11 +9,11 @@ use Rattle.system.specs.RowOrder.{run, held}
 use Rattle.pair.specs.Sides.{policies}
 use Rattle.pair.specs.Pair.{pairSystem}
 use Rattle.pair.specs.Search.{searchAnswer}
-use Rattle.index.specs.Columns.{Table}
+use Rattle.index.specs.Columns.{EvenColumns}
 use Rattle.index.specs.Index.{sizeOf}
 use Rattle.index.specs.Appending.{Lists, lists}
-use Rattle.rows.specs.declared.Progress.{Progress}
-use Rattle.rows.specs.Standing.{Standing, pairMasks}
+use Rattle.listed_rows.specs.declared.Progress.{Progress}
+use Rattle.listed_rows.specs.Standing.{Standing, pairMasks}
 use Rattle.compare.specs.Comparison.{BothLoaded}
 use Rattle.verdict.specs.declared.Stop.{Stop}
 use Rattle.verdict.specs.Ending.{endedAnswer, Readable}
@@ -81,7 +81,7 @@ module _ (sizes : List ℕ) (nodes tests : List (List ℕ)) where
   -- what the whole row order asks
   pub record RunReady (x : Lists) (count : ℕ) (work : List ℕ) : Type 0 where
     pub prepared : Prepared count work
-    pub table : Table (x .packets) (x .left) (x .right)
+    pub table : EvenColumns (x .packets) (x .left) (x .right)
     pub parents : length (x .parents) ≡ length (x .packets)
     pub few : length (x .packets) ≤ 65535
 

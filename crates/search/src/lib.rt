@@ -10,11 +10,11 @@ ghost use Rattle.search.specs.Call.{lent, Accepted, SearchDone, Searched
 use index::Appended;
 use index::Mask;
 use index::POLICIES;
+use listed_rows::Progress;
 use loaded::Nodes;
 use loaded::Tests;
 use packet::Tested;
-use round::Handled;
-use rows::Progress;
+use row_handling::Handled;
 use verdict::Ended;
 use verdict::Stop;
 use verdict::Verdict;
@@ -57,7 +57,7 @@ fn rounds(
     let mut next = [[0u32; 1056]; POLICIES];
     let mut progress = start;
     while has_room(packets.len(), trees.len(), progress) {
-        match round::handle(
+        match row_handling::handle(
             sizes,
             nodes,
             tests,
@@ -153,8 +153,14 @@ fn run(
     ensures { λ r. ⌜ RunDone (now (sizes .entry)) (now (nodes .entry)) (now (tests .entry)) (lists (now (packets .entry)) (now (lefts .entry)) (now (rights .entry)) (now (parents .entry)) []) (lists (now (packets .exit)) (now (lefts .exit)) (now (rights .exit)) (now (parents .exit)) []) count (now (work .entry)) r (now (work .exit)) ⌝ }
 {
     let mut trees = [0u16; 12288];
-    let Appended::Rows(listed) = rows::start(packets, lefts, rights, parents, count, &mut trees)
-    else {
+    let Appended::Rows(listed) = listed_rows::start(
+        packets,
+        lefts,
+        rights,
+        parents,
+        count,
+        &mut trees,
+    ) else {
         return Stop {
             row: 0,
             listed: 0,
@@ -213,7 +219,7 @@ fn search_accepted(
     requires { ⌜ Accepted (now sizes) (asLists (now «left_kind») (now «left_first») (now «left_second»)) (asLists (now «right_kind») (now «right_first») (now «right_second»)) count (lent (now packets) (now lefts) (now rights) (now parents) (now trace) (now work)) ⌝ }
     ensures { λ r. ⌜ SearchDone (now (sizes .entry)) (asLists (now («left_kind» .entry)) (now («left_first» .entry)) (now («left_second» .entry))) (asLists (now («right_kind» .entry)) (now («right_first» .entry)) (now («right_second» .entry))) (lent (now (packets .entry)) (now (lefts .entry)) (now (rights .entry)) (now (parents .entry)) (now (trace .entry)) (now (work .entry))) r (lent (now (packets .exit)) (now (lefts .exit)) (now (rights .exit)) (now (parents .exit)) (now (trace .exit)) (now (work .exit))) ⌝ }
 {
-    lent::clear(work);
+    lent_lists::clear(work);
     let mut nodes = [[0u64; 544]; POLICIES];
     let mut tests = [[0u32; 8224]; POLICIES];
     compare::load(
@@ -261,7 +267,7 @@ pub fn search(
 ) -> Verdict
     ensures { λ r. ⌜ Searched (now (sizes .entry)) (asLists (now («left_kind» .entry)) (now («left_first» .entry)) (now («left_second» .entry))) (asLists (now («right_kind» .entry)) (now («right_first» .entry)) (now («right_second» .entry))) (lent (now (packets .entry)) (now (lefts .entry)) (now (rights .entry)) (now (parents .entry)) (now (trace .entry)) (now (work .entry))) r (lent (now (packets .exit)) (now (lefts .exit)) (now (rights .exit)) (now (parents .exit)) (now (trace .exit)) (now (work .exit))) ⌝ }
 {
-    let lists = lent::search_lists(
+    let lists = lent_lists::search_lists(
         packets.len(),
         lefts.len(),
         rights.len(),

@@ -9,7 +9,7 @@ use lib.ListN.{length}
 use Rattle.system.specs.System.{System, Lawful, Row, startRow, nextRow, tells}
 use Rattle.system.specs.Words.{Word, end, then, follow, Silent}
 use Rattle.system.specs.RowOrder.{Entry, entryAt, Run, finished, telling, turn, path, entering}
-use Rattle.system.specs.Tables.{Closed, Sound, Listed}
+use Rattle.system.specs.Tables.{Closed, InRange, Listed}
 use Rattle.system.proofs.Basics.{clash}
 use Rattle.system.proofs.Listing.{Listing}
 use Rattle.system.proofs.Following.{follow-small, follow-dead, dead-tells}
@@ -57,7 +57,7 @@ module _ (S : System) where
           (C .onward (entryAt S es (entryAt S es i .parent) .row) p (entryAt S es i .row .packet) (I .small i h)))
 
   -- listed rows keep rule (a)
-  pub listing-sound : {es : List (Entry S)} {b : ℕ} → Listing S es b → Sound S (Listed S es)
+  pub listing-sound : {es : List (Entry S)} {b : ℕ} → Listing S es b → InRange S (Listed S es)
   listing-sound I =
       record {
         small = λ r l. subst (λ q. q .packet < S .packets) (l .there) (I .small (l .place) (l .inside));

@@ -7,7 +7,7 @@ use lib.ListN.{length}
 use Rattle.system.specs.System.{System, Lawful}
 use Rattle.system.specs.Words.{Silent}
 use Rattle.system.specs.RowOrder.{run, depth, path, entering, Answer, full, equal, different, answer, held}
-use Rattle.system.specs.Tables.{Closed, Sound, Listed}
+use Rattle.system.specs.Tables.{Closed, InRange, Listed}
 use Rattle.system.proofs.Basics.{length-snoc}
 use Rattle.system.proofs.Runs.{Invariant, invariant, telling-turn}
 use Rattle.system.proofs.Lines.{line-of}
@@ -20,7 +20,7 @@ module _ (S : System) where
   pub record IsEqual (n count : ℕ) : Type 0 where
     pub whole : length (held S n) ≡ count
     pub closed : Closed S (Listed S (held S n))
-    pub sound : Sound S (Listed S (held S n))
+    pub sound : InRange S (Listed S (held S n))
     pub silent : Silent S
 
   -- Different at row i: the trace is that row's path and a last packet, and is a shortest that tells.
@@ -41,7 +41,7 @@ module _ (S : System) where
 
         go : Answered S n (equal c) → IsEqual n c
         go (is-equal h t q) =
-            subst (λ es. length es ≡ c → Closed S (Listed S es) → Sound S (Listed S es) → IsEqual n c) (held-stopped S n (suc n) (short-stops S n h) h)
+            subst (λ es. length es ≡ c → Closed S (Listed S es) → InRange S (Listed S es) → IsEqual n c) (held-stopped S n (suc n) (short-stops S n h) h)
             (λ w cl so. record { whole = w; closed = cl; sound = so; silent = closed-silent S L cl })
             q (finished-closed S (run S (suc n)) I t) (listing-sound S (I .listing))
 

@@ -9,9 +9,9 @@ use lib.ListN.{length}
 use Rattle.policy.specs.NodeLists.{NodeLists}
 use Rattle.policy.specs.NodesOfTree.{entry}
 use Rattle.grammar.specs.Tokens.{tokensFrom, fieldNames}
-use Rattle.grammar.specs.Kinds.{kindAt}
+use Rattle.grammar.specs.Kinds.{frontKind}
 use Rattle.tokens.specs.Inner.{TokenFrom}
-use Rattle.text.specs.Inner.{Level, item, starred, joined, sequence, added, sum, Entered, lists, putEntry, Ready, LeafDone, Joined, Got, Done}
+use Rattle.text.specs.Inner.{Level, item, starred, joined, sequence, added, sum, Entered, lists, putEntry, ReaderReady, LeafDone, Joined, Got, Done}
 use Rattle.tokens.specs.declared.Token as Found
 use Rattle.text.specs.declared.Step as Stepped
 use Rattle.text.specs.declared.Leaf as Leaves
@@ -41,13 +41,13 @@ module _ (text : List ℕ) (room : ℕ) where
   nodes-pos g = omega (arith, g .nodes-is, size-pos (g .policy))
 
   -- the token after the present one
-  pub ready-open : {at nodes k : ℕ} {L : NodeLists} {t : Found.Token} → Ready text at nodes room L → TokenFrom text at t → t .kind ≡ k → (k ≡ 1 → ⊥) → Ready text (t .next) nodes room L
+  pub ready-open : {at nodes k : ℕ} {L : NodeLists} {t : Found.Token} → ReaderReady text at nodes room L → TokenFrom text at t → t .kind ≡ k → (k ≡ 1 → ⊥) → ReaderReady text (t .next) nodes room L
   ready-open r f e h =
       record { within = f .within; few = omega (arith, r .few, onward f e h); small = r .small; kinds = r .kinds; firsts = r .firsts; seconds = r .seconds }
 
-  pub ready-next : {l : Level} {at nodes k : ℕ} {K₁ F₁ S₁ K F S : List ℕ} {E L′ : NodeLists} {s : Stepped.Step} {t : Found.Token} → Ready text at nodes room (lists K₁ F₁ S₁)
+  pub ready-next : {l : Level} {at nodes k : ℕ} {K₁ F₁ S₁ K F S : List ℕ} {E L′ : NodeLists} {s : Stepped.Step} {t : Found.Token} → ReaderReady text at nodes room (lists K₁ F₁ S₁)
       → length K ≡ length K₁ → length F ≡ length F₁ → length S ≡ length S₁ → Got l text at nodes room E s L′ → TokenFrom text (s .at) t → t .kind ≡ k → (k ≡ 1 → ⊥)
-      → Ready text (t .next) (s .nodes) room (lists K F S)
+      → ReaderReady text (t .next) (s .nodes) room (lists K F S)
   ready-next r a b c g f e h =
       record {
         within = f .within;
@@ -74,7 +74,7 @@ module _ (text : List ℕ) (room : ℕ) where
   star-next o f e l d =
       done-got text room refl (star-turn text room (d .got o) f e l)
 
-  pub star-exit : {at nodes : ℕ} {L L₁ : NodeLists} {s : Stepped.Step} → s .ok ≡ true → (kindAt (tokensFrom fieldNames text (s .at)) ≡ 8 → ⊥) → Done item text at nodes room L s L₁ → Done starred text at nodes room L s L₁
+  pub star-exit : {at nodes : ℕ} {L L₁ : NodeLists} {s : Stepped.Step} → s .ok ≡ true → (frontKind (tokensFrom fieldNames text (s .at)) ≡ 8 → ⊥) → Done item text at nodes room L s L₁ → Done starred text at nodes room L s L₁
   star-exit o h d = done-got text room o (star-ends text room (d .got o) h)
 
   pub star-fails : {at nodes : ℕ} {L L₁ : NodeLists} {s : Stepped.Step} → s .ok ≡ false → Done item text at nodes room L s L₁ → Done starred text at nodes room L s L₁
@@ -85,7 +85,7 @@ module _ (text : List ℕ) (room : ℕ) where
   unfolding Entered
   sequence-entry d = done-as text room d (λ g. sequence-starts text room g) (λ b h. tt)
 
-  pub sequence-exit : {at nodes : ℕ} {L L₁ : NodeLists} {s : Stepped.Step} → s .ok ≡ true → (kindAt (tokensFrom fieldNames text (s .at)) ≡ 7 → ⊥) → Done joined text at nodes room L s L₁ → Done sequence text at nodes room L s L₁
+  pub sequence-exit : {at nodes : ℕ} {L L₁ : NodeLists} {s : Stepped.Step} → s .ok ≡ true → (frontKind (tokensFrom fieldNames text (s .at)) ≡ 7 → ⊥) → Done joined text at nodes room L s L₁ → Done sequence text at nodes room L s L₁
   sequence-exit o h d = done-got text room o (sequence-ends text room (d .got o) h)
 
   pub sequence-fails : {at nodes : ℕ} {L L₁ : NodeLists} {s : Stepped.Step} → s .ok ≡ false → Done joined text at nodes room L s L₁ → Done sequence text at nodes room L s L₁
@@ -96,7 +96,7 @@ module _ (text : List ℕ) (room : ℕ) where
   unfolding Entered Rattle.grammar.specs.Reading.nothing
   sum-entry d = done-as text room d (λ g. sum-starts text room g) (λ b h. ap (λ (x : Rattle.grammar.specs.Reading.Before). x .sequenced) h)
 
-  pub sum-exit : {at nodes : ℕ} {L L₁ : NodeLists} {s : Stepped.Step} → s .ok ≡ true → (kindAt (tokensFrom fieldNames text (s .at)) ≡ 6 → ⊥) → Done added text at nodes room L s L₁ → Done sum text at nodes room L s L₁
+  pub sum-exit : {at nodes : ℕ} {L L₁ : NodeLists} {s : Stepped.Step} → s .ok ≡ true → (frontKind (tokensFrom fieldNames text (s .at)) ≡ 6 → ⊥) → Done added text at nodes room L s L₁ → Done sum text at nodes room L s L₁
   sum-exit o h d = done-got text room o (sum-ends text room (d .got o) h)
 
   pub sum-fails : {at nodes : ℕ} {L L₁ : NodeLists} {s : Stepped.Step} → s .ok ≡ false → Done added text at nodes room L s L₁ → Done sum text at nodes room L s L₁
@@ -117,7 +117,7 @@ module _ (text : List ℕ) (room : ℕ) where
       go false q = rw (j .failed q .0, q, o) (omega arith)
 
   -- what joining asks
-  pub join-ready : {l : Level} {next n a b c : ℕ} {K F S : List ℕ} {L₁ L₂ : NodeLists} {r : Stepped.Step} → length text < 2 ^ 63 → Ready text next n room (lists K F S)
+  pub join-ready : {l : Level} {next n a b c : ℕ} {K F S : List ℕ} {L₁ L₂ : NodeLists} {r : Stepped.Step} → length text < 2 ^ 63 → ReaderReady text next n room (lists K F S)
       → a ≡ length K → b ≡ length F → c ≡ length S → 0 < n → Done l text next n room L₁ r L₂
       → (room ≤ a) × (room ≤ b) × (room ≤ c) × (room ≤ 512) × (r .ok ≡ true → (n - 1 < r .nodes) × (r .nodes < 2 ^ 63))
   join-ready big y p q s h d = (

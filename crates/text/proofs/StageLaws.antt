@@ -16,14 +16,14 @@ use Rattle.policy.proofs.Nodes.{entries-length}
 use Rattle.grammar.specs.declared.Answer.{Answer}
 use Rattle.grammar.specs.declared.Answer.the-variants.{Nodes}
 use Rattle.grammar.specs.Tokens.{tokensFrom, tokens, fieldNames}
-use Rattle.grammar.specs.Kinds.{kindAt, placeAt}
+use Rattle.grammar.specs.Kinds.{frontKind, frontPlace}
 use Rattle.grammar.specs.Reading.{nothing, whole, upTo, joinSequence, joinSum, has, start, Outcome, tree, stop, readOn}
 use Rattle.grammar.specs.Answer.{stopPlace, treeRead, outcome, textTree, answerTo, leftBy, TextRead}
 use Rattle.packet.specs.Written.{written}
 use Rattle.grammar.proofs.ReadLaws.{top-ends, top-stops}
 use Rattle.grammar.proofs.AnswerLaws.{parts, nodes-few, answer-is}
 use Rattle.tokens.specs.Inner.{TokenFrom}
-use Rattle.text.specs.Inner.{Ended, Counted, Entered, Past, sum, lists, Ready, Got, Done}
+use Rattle.text.specs.Inner.{Ended, Counted, Entered, Past, sum, lists, ReaderReady, Got, Done}
 use Rattle.tokens.specs.declared.Token as Found
 use Rattle.text.specs.declared.Step as Stepped
 use Rattle.text.proofs.StepLaws.{kind-not}
@@ -57,11 +57,11 @@ module _ (text : List ℕ) where
   unfolding whole upTo joinSequence joinSum nothing
   whole-tree p = refl
 
-  ends-tree : {nodes room : ℕ} {L L′ : NodeLists} {s : Stepped.Step} (g : Got sum text 0 nodes room L s L′) → kindAt (tokensFrom fieldNames text (s .at)) ≡ 1 → outcome fieldNames text ≡ tree (g .policy)
+  ends-tree : {nodes room : ℕ} {L L′ : NodeLists} {s : Stepped.Step} (g : Got sum text 0 nodes room L s L′) → frontKind (tokensFrom fieldNames text (s .at)) ≡ 1 → outcome fieldNames text ≡ tree (g .policy)
   ends-tree {s = s} g e = whole-is g ∙ top-ends (length text) nothing (g .policy) (tokensFrom fieldNames text (s .at)) e ∙ ap tree (whole-tree (g .policy))
 
-  ends-stop : {nodes room : ℕ} {L L′ : NodeLists} {s : Stepped.Step} (g : Got sum text 0 nodes room L s L′) → (kindAt (tokensFrom fieldNames text (s .at)) ≡ 1 → ⊥)
-      → outcome fieldNames text ≡ stop (placeAt (length text) (tokensFrom fieldNames text (s .at)))
+  ends-stop : {nodes room : ℕ} {L L′ : NodeLists} {s : Stepped.Step} (g : Got sum text 0 nodes room L s L′) → (frontKind (tokensFrom fieldNames text (s .at)) ≡ 1 → ⊥)
+      → outcome fieldNames text ≡ stop (frontPlace (length text) (tokensFrom fieldNames text (s .at)))
   unfolding Past
   ends-stop {s = s} g e = whole-is g ∙ top-stops (length text) nothing (g .policy) (tokensFrom fieldNames text (s .at)) e (g .past .0) (g .past .1) (g .past .2)
 
@@ -102,18 +102,18 @@ module _ (text : List ℕ) (room n : ℕ) (e : Nodes n ≡ answerTo fieldNames t
           ∙ put-written n (entriesFrom 0 (g .policy)) K F S (omega (arith, entries-length 0 (g .policy), ap treeSize t, parts text room n e .2)) k f z
           ∙ ap (λ (p : Policy). lists (written (listsOf (entriesFrom 0 p) .kind) K) (written (listsOf (entriesFrom 0 p) .first) F) (written (listsOf (entriesFrom 0 p) .second) S)) t
 
-      last : (g : Got sum text 0 0 n (lists K F S) s L′) (b : Bool) → eqb (kindAt (tokensFrom fieldNames text (s .at))) 1 ≡ b → Goal
+      last : (g : Got sum text 0 0 n (lists K F S) s L′) (b : Bool) → eqb (frontKind (tokensFrom fieldNames text (s .at))) 1 ≡ b → Goal
       last g true q = read g (ends-tree text g (eqb-true _ _ q))
       last g false q = absurd (stuck _ (ends-stop text g (eqb-false _ _ q)))
 
       go : (o : Bool) → s .ok ≡ o → Goal
-      go true q = last (d .got q) (eqb (kindAt (tokensFrom fieldNames text (s .at))) 1) refl
+      go true q = last (d .got q) (eqb (frontKind (tokensFrom fieldNames text (s .at))) 1) refl
       go false q = absurd (stuck (s .at) (d .stopped q nothing refl []))
 
 -- ---- the public call, whose room is the shortest lent list
 
 module _ (text K F S : List ℕ) (room m : ℕ) (r : Answer) (inner : m ≡ min (length F) (length S)) (outer : room ≡ min (length K) m) (says : r ≡ answerTo fieldNames text room) where
-  pub read-ready : (n : ℕ) → r ≡ Nodes n → Ready text 0 0 n (lists K F S)
+  pub read-ready : (n : ℕ) → r ≡ Nodes n → ReaderReady text 0 0 n (lists K F S)
   read-ready n e =
       let h : n ≤ min 512 room = nodes-few text room n (sym e ∙ says) in
       record { within = omega arith; few = omega arith; small = omega arith; kinds = omega arith; firsts = omega arith; seconds = omega arith }

@@ -11,7 +11,7 @@ use Rattle.policy.specs.Tree
 use Rattle.policy.specs.NodeLists.{NodeLists}
 use Rattle.policy.specs.NodesOfTree.{Entry, entry, actionEntry, treeSize, entriesFrom}
 use Rattle.grammar.specs.Tokens.{Placed, Constant, Comparison, dropped, passed, recorded, equals, differs, assigned, tokensFrom, fieldNames}
-use Rattle.grammar.specs.Kinds.{kindAt, constantKind, comparisonKind}
+use Rattle.grammar.specs.Kinds.{frontKind, constantKind, comparisonKind}
 use Rattle.grammar.specs.Grammar.{constantPolicy, fieldAction}
 use Rattle.grammar.specs.Reading.{Before, nothing, joinSequence, joinSum, upTo, whole, wants, named, compared, has, stop, readOn}
 use Rattle.tokens.specs.Inner.{TokenFrom}
@@ -48,10 +48,10 @@ module _ (text : List ℕ) (room : ℕ) where
   end = length text
 
   -- the front token's kind, as the reader has it
-  pub kind-at : {at k : ℕ} {t : Found.Token} → TokenFrom text at t → t .kind ≡ k → kindAt (toks at) ≡ k
+  pub kind-at : {at k : ℕ} {t : Found.Token} → TokenFrom text at t → t .kind ≡ k → frontKind (toks at) ≡ k
   kind-at t e = sym (t .kind-is) ∙ e
 
-  pub kind-not : {at k : ℕ} {t : Found.Token} → TokenFrom text at t → (t .kind ≡ k → ⊥) → kindAt (toks at) ≡ k → ⊥
+  pub kind-not : {at k : ℕ} {t : Found.Token} → TokenFrom text at t → (t .kind ≡ k → ⊥) → frontKind (toks at) ≡ k → ⊥
   kind-not t h e = h (t .kind-is ∙ e)
 
   -- ---- an item that is one node
@@ -81,7 +81,7 @@ module _ (text : List ℕ) (room : ℕ) where
   leaf-stopped : {at place : ℕ} → ((b : Before) (cs : List Before) → readOn end (wants b cs) (toks at) ≡ stop place) → LeafDone text at (record { ok = false; at = place; kind = 0; first = 0; second = 0 })
   leaf-stopped h = record { got = λ x. absurd (true≢false (sym x)); stopped = λ _. h }
 
-  pub leaf-none : {at : ℕ} {t : Found.Token} → TokenFrom text at t → (t .kind ≡ 2 → ⊥) → (t .kind ≡ 3 → ⊥) → (kindAt (toks at) ≡ 9 → ⊥)
+  pub leaf-none : {at : ℕ} {t : Found.Token} → TokenFrom text at t → (t .kind ≡ 2 → ⊥) → (t .kind ≡ 3 → ⊥) → (frontKind (toks at) ≡ 9 → ⊥)
       → LeafDone text at (record { ok = false; at = t .start; kind = 0; first = 0; second = 0 })
   leaf-none {at} f x y z = leaf-stopped (λ b cs. wants-stops end b cs (toks at) (kind-not f x) (kind-not f y) z ∙ ap stop (sym (f .start-is)))
 
@@ -204,7 +204,7 @@ module _ (text : List ℕ) (room : ℕ) where
         few = omega (arith, g .few, k .low);
       }
 
-  pub star-ends : {at nodes : ℕ} {L L₁ : NodeLists} {s : Stepped.Step} → Got item text at nodes room L s L₁ → (kindAt (toks (s .at)) ≡ 8 → ⊥) → Got starred text at nodes room L s L₁
+  pub star-ends : {at nodes : ℕ} {L L₁ : NodeLists} {s : Stepped.Step} → Got item text at nodes room L s L₁ → (frontKind (toks (s .at)) ≡ 8 → ⊥) → Got starred text at nodes room L s L₁
   unfolding Past Entered
   star-ends g h =
       record { policy = g .policy; moves = g .moves; past = h; nodes-is = g .nodes-is; lists-are = g .lists-are; onward = g .onward; within = g .within; few = g .few }
@@ -216,7 +216,7 @@ module _ (text : List ℕ) (room : ℕ) where
   sequence-starts g =
       record { policy = g .policy; moves = λ b h cs. g .moves b tt cs; past = g .past; nodes-is = g .nodes-is; lists-are = g .lists-are; onward = g .onward; within = g .within; few = g .few }
 
-  pub sequence-ends : {at nodes : ℕ} {L L₁ : NodeLists} {s : Stepped.Step} → Got joined text at nodes room L s L₁ → (kindAt (toks (s .at)) ≡ 7 → ⊥) → Got sequence text at nodes room L s L₁
+  pub sequence-ends : {at nodes : ℕ} {L L₁ : NodeLists} {s : Stepped.Step} → Got joined text at nodes room L s L₁ → (frontKind (toks (s .at)) ≡ 7 → ⊥) → Got sequence text at nodes room L s L₁
   unfolding Past Entered
   sequence-ends g h =
       record { policy = g .policy; moves = g .moves; past = (g .past, h); nodes-is = g .nodes-is; lists-are = g .lists-are; onward = g .onward; within = g .within; few = g .few }
@@ -259,7 +259,7 @@ module _ (text : List ℕ) (room : ℕ) where
   sum-starts g =
       record { policy = g .policy; moves = λ b h cs. g .moves b (ap (λ (x : Before). x .sequenced) h) cs; past = g .past; nodes-is = g .nodes-is; lists-are = g .lists-are; onward = g .onward; within = g .within; few = g .few }
 
-  pub sum-ends : {at nodes : ℕ} {L L₁ : NodeLists} {s : Stepped.Step} → Got added text at nodes room L s L₁ → (kindAt (toks (s .at)) ≡ 6 → ⊥) → Got sum text at nodes room L s L₁
+  pub sum-ends : {at nodes : ℕ} {L L₁ : NodeLists} {s : Stepped.Step} → Got added text at nodes room L s L₁ → (frontKind (toks (s .at)) ≡ 6 → ⊥) → Got sum text at nodes room L s L₁
   unfolding Past Entered
   sum-ends g h =
       record { policy = g .policy; moves = g .moves; past = (g .past .0, g .past .1, h); nodes-is = g .nodes-is; lists-are = g .lists-are; onward = g .onward; within = g .within; few = g .few }

@@ -10,7 +10,7 @@ use Rattle.policy.specs.Tree.{Policy}
 use Rattle.policy.specs.NodeLists.{NodeLists}
 use Rattle.policy.specs.NodesOfTree.{Entry, entry, treeSize, entriesFrom}
 use Rattle.grammar.specs.Tokens.{tokensFrom, fieldNames}
-use Rattle.grammar.specs.Kinds.{kindAt, placeAt, afterFront}
+use Rattle.grammar.specs.Kinds.{frontKind, frontPlace, afterFront}
 use Rattle.grammar.specs.Reading.{Before, nothing, wants, has, stop, readOn}
 use Rattle.grammar.specs.Answer.{stopPlace, outcome, textTree}
 use Rattle.text.specs.declared.Step as Stepped
@@ -54,7 +54,7 @@ abbrev pub lists : List ℕ → List ℕ → List ℕ → NodeLists
 lists kind first second = record { kind = kind; first = first; second = second }
 
 -- what a reader asks: nodes so far are no more than bytes so far, and no more are written than there is room for
-pub record Ready (text : List ℕ) (at nodes room : ℕ) (L : NodeLists) : Type 0 where
+pub record ReaderReady (text : List ℕ) (at nodes room : ℕ) (L : NodeLists) : Type 0 where
   pub within : at ≤ length text
   pub few : nodes ≤ at
   pub small : room ≤ 512
@@ -79,8 +79,8 @@ pub record LeafDone (text : List ℕ) (at : ℕ) (r : Leaves.Leaf) : Type 0 wher
 -- the closing parenthesis after what s has read
 pub record Closed (text : List ℕ) (s r : Stepped.Step) : Type 0 where
   pub failed : s .ok ≡ false → r ≡ s
-  pub shut : s .ok ≡ true → r .ok ≡ true → (kindAt (tokensFrom fieldNames text (s .at)) ≡ 10) × (tokensFrom fieldNames text (r .at) ≡ afterFront (tokensFrom fieldNames text (s .at))) × (s .at < r .at) × (r .at ≤ length text) × (r .nodes ≡ s .nodes)
-  pub unshut : s .ok ≡ true → r .ok ≡ false → (kindAt (tokensFrom fieldNames text (s .at)) ≡ 10 → ⊥) × (r .at ≡ placeAt (length text) (tokensFrom fieldNames text (s .at)))
+  pub shut : s .ok ≡ true → r .ok ≡ true → (frontKind (tokensFrom fieldNames text (s .at)) ≡ 10) × (tokensFrom fieldNames text (r .at) ≡ afterFront (tokensFrom fieldNames text (s .at))) × (s .at < r .at) × (r .at ≤ length text) × (r .nodes ≡ s .nodes)
+  pub unshut : s .ok ≡ true → r .ok ≡ false → (frontKind (tokensFrom fieldNames text (s .at)) ≡ 10 → ⊥) × (r .at ≡ frontPlace (length text) (tokensFrom fieldNames text (s .at)))
 
 -- the node that joins what r has read to what stands before it
 pub record Joined (k left room : ℕ) (r : Stepped.Step) (L : NodeLists) (r′ : Stepped.Step) (L′ : NodeLists) : Type 0 where
@@ -92,7 +92,7 @@ pub record Got (l : Level) (text : List ℕ) (at nodes room : ℕ) (L : NodeList
   pub policy : Policy
   pub moves : (b : Before) → Entered l b → (cs : List Before)
       → readOn (length text) (wants b cs) (tokensFrom fieldNames text at) ≡ readOn (length text) (has b cs policy) (tokensFrom fieldNames text (r .at))
-  pub past : Past l (kindAt (tokensFrom fieldNames text (r .at)))
+  pub past : Past l (frontKind (tokensFrom fieldNames text (r .at)))
   pub nodes-is : r .nodes ≡ nodes + treeSize policy
   pub lists-are : L′ ≡ putAll room nodes (entriesFrom nodes policy) L
   pub onward : at < r .at
@@ -108,8 +108,8 @@ pub record Done (l : Level) (text : List ℕ) (at nodes room : ℕ) (L : NodeLis
 -- the end of the text after what s has read
 pub record Ended (text : List ℕ) (s r : Stepped.Step) : Type 0 where
   pub failed : s .ok ≡ false → r ≡ s
-  pub over : s .ok ≡ true → r .ok ≡ true → (kindAt (tokensFrom fieldNames text (s .at)) ≡ 1) × (r .nodes ≡ s .nodes)
-  pub more : s .ok ≡ true → r .ok ≡ false → (kindAt (tokensFrom fieldNames text (s .at)) ≡ 1 → ⊥) × (r .at ≡ placeAt (length text) (tokensFrom fieldNames text (s .at)))
+  pub over : s .ok ≡ true → r .ok ≡ true → (frontKind (tokensFrom fieldNames text (s .at)) ≡ 1) × (r .nodes ≡ s .nodes)
+  pub more : s .ok ≡ true → r .ok ≡ false → (frontKind (tokensFrom fieldNames text (s .at)) ≡ 1 → ⊥) × (r .at ≡ frontPlace (length text) (tokensFrom fieldNames text (s .at)))
 
 -- the whole text has been read, or the reading has stopped
 pub record Counted (text : List ℕ) (r : Stepped.Step) : Type 0 where

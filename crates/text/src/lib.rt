@@ -11,9 +11,9 @@ ghost use Rattle.packet.specs.Refusals.{refusal, refusedAt, firstOf};
 ghost use Rattle.policy.specs.NodesOfTree.{entry, treeSize};
 ghost use Rattle.grammar.specs.Tokens.{tokens, tokensFrom, fieldNames};
 ghost use Rattle.grammar.specs.Answer.{badPlace, deepPlace, stopPlace, tooMany, answered, outcome, textTree, answerTo, TextRead};
-ghost use Rattle.grammar.specs.Kinds.{kindAt, openAfterKind};
+ghost use Rattle.grammar.specs.Kinds.{frontKind, openAfterKind};
 ghost use Rattle.text.specs.Inner;
-ghost use Rattle.text.specs.Inner.{LeafDone, Closed, Joined, lists, putEntry, Ready, Done, Ended, Counted};
+ghost use Rattle.text.specs.Inner.{LeafDone, Closed, Joined, lists, putEntry, ReaderReady, Done, Ended, Counted};
 
 // Where a reader stands: whether it has read what it reads, the byte up to which, or at which it stopped, and the nodes so far.
 struct Step {
@@ -56,7 +56,7 @@ fn small(k: u16) -> u8
 
 // The item at a byte, where no parenthesis opens.
 fn leaf_item(text: &[u8], at: usize) -> Leaf
-    requires { ⌜ (at ≤ length (now text)) × (kindAt (tokensFrom fieldNames (now text) at) ≡ 9 → ⊥) ⌝ }
+    requires { ⌜ (at ≤ length (now text)) × (frontKind (tokensFrom fieldNames (now text) at) ≡ 9 → ⊥) ⌝ }
     ensures { λ r. ⌜ LeafDone (now (text .entry)) at r ⌝ }
 {
     let t = tokens::token_from(text, at);
@@ -199,7 +199,7 @@ fn item(
     first: &mut [u16],
     second: &mut [u16],
 ) -> Step
-    requires { ⌜ Ready (now text) at nodes room (lists (now kind) (now first) (now second)) ⌝ }
+    requires { ⌜ ReaderReady (now text) at nodes room (lists (now kind) (now first) (now second)) ⌝ }
     ensures { λ r. ⌜ Done Inner.item (now (text .entry)) at nodes room (lists (now (kind .entry)) (now (first .entry)) (now (second .entry))) r
         (lists (now (kind .exit)) (now (first .exit)) (now (second .exit))) ⌝ }
 {
@@ -234,7 +234,7 @@ fn starred(
     first: &mut [u16],
     second: &mut [u16],
 ) -> Step
-    requires { ⌜ Ready (now text) at nodes room (lists (now kind) (now first) (now second)) ⌝ }
+    requires { ⌜ ReaderReady (now text) at nodes room (lists (now kind) (now first) (now second)) ⌝ }
     ensures { λ r. ⌜ Done Inner.starred (now (text .entry)) at nodes room (lists (now (kind .entry)) (now (first .entry)) (now (second .entry))) r
         (lists (now (kind .exit)) (now (first .exit)) (now (second .exit))) ⌝ }
 {
@@ -265,7 +265,7 @@ fn sequence(
     first: &mut [u16],
     second: &mut [u16],
 ) -> Step
-    requires { ⌜ Ready (now text) at nodes room (lists (now kind) (now first) (now second)) ⌝ }
+    requires { ⌜ ReaderReady (now text) at nodes room (lists (now kind) (now first) (now second)) ⌝ }
     ensures { λ r. ⌜ Done Inner.sequence (now (text .entry)) at nodes room (lists (now (kind .entry)) (now (first .entry)) (now (second .entry))) r
         (lists (now (kind .exit)) (now (first .exit)) (now (second .exit))) ⌝ }
 {
@@ -292,7 +292,7 @@ fn sum(
     first: &mut [u16],
     second: &mut [u16],
 ) -> Step
-    requires { ⌜ Ready (now text) at nodes room (lists (now kind) (now first) (now second)) ⌝ }
+    requires { ⌜ ReaderReady (now text) at nodes room (lists (now kind) (now first) (now second)) ⌝ }
     ensures { λ r. ⌜ Done Inner.sum (now (text .entry)) at nodes room (lists (now (kind .entry)) (now (first .entry)) (now (second .entry))) r
         (lists (now (kind .exit)) (now (first .exit)) (now (second .exit))) ⌝ }
 {

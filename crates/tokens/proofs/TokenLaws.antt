@@ -12,7 +12,7 @@ use lib.Seq.{drop-cons, drop-drop, getD-drop}
 use borrow.Author.Tests.{ne-eqb, eqb-true}
 use Rattle.grammar.specs.Bytes.{isBlank, isLetter, isDigit, inWord}
 use Rattle.grammar.specs.Tokens.{Token, Placed, bad, isBad, wordToken, singleMark, doubleMark, beginsDouble, markToken, wordOf, frontToken, restOfToken, placedFrom, tokensFrom, fieldNames}
-use Rattle.grammar.specs.Kinds.{kindOf, valueOf, comparisonKind, classOf, kindAt, valueAt, placeAt, afterFront}
+use Rattle.grammar.specs.Kinds.{kindOf, valueOf, comparisonKind, classOf, frontKind, frontValue, frontPlace, afterFront}
 use Rattle.tokens.specs.Inner.{NumbersOf, FrontAt, Skipped, TokenFrom}
 use Rattle.tokens.specs.declared.Token as Found
 use Rattle.tokens.proofs.Below.{below}
@@ -217,7 +217,7 @@ module _ (text : List ℕ) (at : ℕ) (h : at < length text) (word : inWord (get
 
 -- the first token after blanks
 pub token-end : (text : List ℕ) (at s : ℕ) → Skipped text at s → length text ≤ s → TokenFrom text at (record { kind = 1; value = 0; start = s; next = s })
-unfolding kindAt valueAt placeAt afterFront
+unfolding frontKind frontValue frontPlace afterFront
 token-end text at s k h =
     let none : tokensFrom fieldNames text s ≡ [] = from-end fieldNames text s h in
     let before : tokensFrom fieldNames text at ≡ [] = sym (k .same) ∙ none in
@@ -232,7 +232,7 @@ token-end text at s k h =
     }
 
 pub token-front : (text : List ℕ) (at s : ℕ) (r : Found.Token) → Skipped text at s → s < length text → FrontAt text s r → TokenFrom text at r
-unfolding kindAt valueAt placeAt afterFront
+unfolding frontKind frontValue frontPlace afterFront
 token-front text at s r k h f =
     let here : tokensFrom fieldNames text at
     ≡ record { token = frontToken fieldNames (getD text s 0) (drop (suc s) text); start = s }

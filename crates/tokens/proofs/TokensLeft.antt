@@ -9,7 +9,7 @@ use lib.Seq.{drop-drop}
 use borrow.Author.Tests.{ne-eqb}
 use Rattle.grammar.specs.Bytes.{isBlank, isLetter, isDigit, inWord}
 use Rattle.grammar.specs.Tokens.{Placed, isBad, doubleMark, wordOf, restOfToken, placedFrom, tokensFrom, fieldNames}
-use Rattle.grammar.specs.Kinds.{kindAt, afterFront}
+use Rattle.grammar.specs.Kinds.{frontKind, afterFront}
 use Rattle.tokens.specs.Inner.{TokenFrom}
 use Rattle.tokens.specs.declared.Token as Found
 use Rattle.tokens.proofs.TokenLaws.{placed-over, placed-blank, placed-front}
@@ -121,10 +121,10 @@ module _ (names : List (List ℕ)) where
 -- a token read on from `at`, at once or later, leaves fewer
 pub fewer-next : (text : List ℕ) {at at′ k : ℕ} {t : Found.Token} → at ≤ at′ → TokenFrom text at′ t → t .kind ≡ k → (k ≡ 1 → ⊥)
     → length (tokensFrom fieldNames text (t .next)) < length (tokensFrom fieldNames text at)
-unfolding kindAt afterFront
+unfolding frontKind afterFront
 fewer-next text {at} {at′} {t = t} h f e ne =
     omega (arith, ap length (f .rest), after (tokensFrom fieldNames text at′) (λ q. ne (sym e ∙ f .kind-is ∙ q)), no-more fieldNames text at at′ h)
   where
-    after : (ts : List Placed) → (kindAt ts ≡ 1 → ⊥) → length (afterFront ts) < length ts
+    after : (ts : List Placed) → (frontKind ts ≡ 1 → ⊥) → length (afterFront ts) < length ts
     after [] ne = absurd (ne refl)
     after (t ∷ ts) ne = omega arith

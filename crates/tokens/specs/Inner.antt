@@ -8,7 +8,7 @@ use lib.Dec.{leb}
 use lib.ListN.{length, getD, drop}
 use Rattle.grammar.specs.Bytes.{isBlank}
 use Rattle.grammar.specs.Tokens.{Token, allDigits, decimal, frontToken, restOfToken, tokensFrom, fieldNames}
-use Rattle.grammar.specs.Kinds.{kindOf, valueOf, kindAt, valueAt, placeAt, afterFront}
+use Rattle.grammar.specs.Kinds.{kindOf, valueOf, frontKind, frontValue, frontPlace, afterFront}
 use Rattle.tokens.specs.declared.Token as Found
 
 -- the value of digits that follow others of value n, or 65,536 where they are no digits or make more than 65,535
@@ -41,9 +41,9 @@ pub record FrontAt (text : List ℕ) (at : ℕ) (r : Found.Token) : Type 0 where
 
 -- the first token from a byte on, or the end
 pub record TokenFrom (text : List ℕ) (at : ℕ) (r : Found.Token) : Type 0 where
-  pub kind-is : r .kind ≡ kindAt (tokensFrom fieldNames text at)
-  pub value-is : r .value ≡ valueAt (tokensFrom fieldNames text at)
-  pub start-is : r .start ≡ placeAt (length text) (tokensFrom fieldNames text at)
+  pub kind-is : r .kind ≡ frontKind (tokensFrom fieldNames text at)
+  pub value-is : r .value ≡ frontValue (tokensFrom fieldNames text at)
+  pub start-is : r .start ≡ frontPlace (length text) (tokensFrom fieldNames text at)
   pub rest : tokensFrom fieldNames text (r .next) ≡ afterFront (tokensFrom fieldNames text at)
   pub low : at ≤ r .start
   pub onward : (r .kind ≡ 1 → ⊥) → r .start < r .next

@@ -23,10 +23,10 @@ use Rattle.pair.specs.TraceCheck.{TraceAnswer, only, both, neither, has, answer
 use Rattle.pair.proofs.Lawful.{EvaluablePair, legal-pair}
 use Rattle.pair.proofs.TraceCheck.{trace-iff, different-only, trace-empty}
 use Rattle.pair.proofs.Verdicts.{different-tells}
-use Rattle.lent.specs.Lent.{workAfter}
+use Rattle.lent_lists.specs.Lent.{workAfter}
 use Rattle.traces.specs.declared.TraceChecked.{TraceChecked}
 use Rattle.traces.specs.declared.TraceChecked.the-variants.{Left, Right, Both, Neither, Refused as CheckRefused}
-use Rattle.traces.specs.Checking.{packetsStage, checkedAs, checkedUnless, lentTests, traceTests, traceCall, Checked, FollowReady, Followed}
+use Rattle.traces.specs.Checking.{packetsStage, checkedAs, checkedUnless, listsTests, traceTests, traceCall, CheckedTrace, FollowReady, Followed}
 use Rattle.traces.proofs.Testing.{packets-inside, inside-packets, lent-passed, pair-lent, trace-refused, trace-tested, trace-passed}
 
 -- ---- the cases of the call
@@ -71,7 +71,7 @@ mem-at (γ ∷ t) zero l = List·Memᴰ·head refl
 mem-at (γ ∷ t) (suc i) l = List·Memᴰ·tail (mem-at t i (le-of-suc-le-suc l))
 
 module _ (sizes : List ℕ) (L R : NodeLists) where
-  evaluable : (words : ℕ) → lentTests sizes L R words ≡ Passed → EvaluablePair sizes (policies L R)
+  evaluable : (words : ℕ) → listsTests sizes L R words ≡ Passed → EvaluablePair sizes (policies L R)
   evaluable words e = let h = lent-passed sizes L R words e in legal-pair sizes L R (h .left-legal) (h .right-legal)
 
   -- an answer says of each side whether Figure 1 gives it the trace
@@ -91,7 +91,7 @@ module _ (sizes : List ℕ) (L R : NodeLists) where
 
   -- ---- what following the trace asks, with a work list of so many words that is all 0
 
-  module _ (α : ℕ) (trace : List ℕ) (words : ℕ) (e : lentTests sizes L R words ≡ Passed) {work : List ℕ} (w : work ≡ replicate words 0) (q : packetsStage (product sizes) α trace ≡ Passed) {count : ℕ} (c : count ≡ product sizes) where
+  module _ (α : ℕ) (trace : List ℕ) (words : ℕ) (e : listsTests sizes L R words ≡ Passed) {work : List ℕ} (w : work ≡ replicate words 0) (q : packetsStage (product sizes) α trace ≡ Passed) {count : ℕ} (c : count ≡ product sizes) where
     ready : (M : NodeLists) → Legal sizes M → FollowReady sizes M count α trace work
     ready M legal =
         let lent = lent-passed sizes L R words e in
@@ -118,8 +118,8 @@ module _ (sizes : List ℕ) (L R : NodeLists) where
   -- ---- the promise
 
   module _ (α : ℕ) (trace work : List ℕ) where
-    checked : {answer : TraceChecked} {work′ : List ℕ} → answer ≡ traceCall sizes L R α trace (length work) → work′ ≡ workAfter (lentTests sizes L R (length work)) work
-        → Checked sizes L R α trace work answer work′
+    checked : {answer : TraceChecked} {work′ : List ℕ} → answer ≡ traceCall sizes L R α trace (length work) → work′ ≡ workAfter (listsTests sizes L R (length work)) work
+        → CheckedTrace sizes L R α trace work answer work′
     unfolding SideTraces at
     checked e w =
         record {
@@ -129,15 +129,15 @@ module _ (sizes : List ℕ) (L R : NodeLists) where
           right-trace = λ a q. answer-iff α trace (length work) a (sym e ∙ q) right;
         }
 
-    pub lent-refused : (r : Refusal) → lentTests sizes L R (length work) ≡ Refused r → Checked sizes L R α trace work (CheckRefused r) work
+    pub lent-refused : (r : Refusal) → listsTests sizes L R (length work) ≡ Refused r → CheckedTrace sizes L R α trace work (CheckRefused r) work
     unfolding traceCall checkedUnless workAfter
     lent-refused r e =
         checked
         (sym (ap (λ (t : Tested). checkedUnless t (traceAnswer sizes (policies L R) α trace)) (trace-refused sizes L R (length work) α trace r e)))
         (sym (ap (λ (t : Tested). workAfter t work) e))
 
-    module _ (e : lentTests sizes L R (length work) ≡ Passed) {work′ : List ℕ} (w : work′ ≡ replicate (length work) 0) where
-      cleared : work′ ≡ workAfter (lentTests sizes L R (length work)) work
+    module _ (e : listsTests sizes L R (length work) ≡ Passed) {work′ : List ℕ} (w : work′ ≡ replicate (length work) 0) where
+      cleared : work′ ≡ workAfter (listsTests sizes L R (length work)) work
       unfolding workAfter
       cleared = w ∙ sym (ap (λ (t : Tested). workAfter t work) e)
 
@@ -146,12 +146,12 @@ module _ (sizes : List ℕ) (L R : NodeLists) where
       unfolding traceCall
       called t q = sym (ap (λ (u : Tested). checkedUnless u (traceAnswer sizes (policies L R) α trace)) (trace-tested sizes L R (length work) α trace e ∙ q))
 
-      pub packet-refused : (r : Refusal) → packetsStage (product sizes) α trace ≡ Refused r → Checked sizes L R α trace work (CheckRefused r) work′
+      pub packet-refused : (r : Refusal) → packetsStage (product sizes) α trace ≡ Refused r → CheckedTrace sizes L R α trace work (CheckRefused r) work′
       unfolding checkedUnless
       packet-refused r q = checked (called (Refused r) q) cleared
 
       pub answered : packetsStage (product sizes) α trace ≡ Passed → {l r : Bool} {work₁ work₂ : List ℕ} → Followed sizes L α trace work′ l work₁ → Followed sizes R α trace work₁ r work₂
-          → (answer : TraceChecked) → answer ≡ checkedAs (answerOf l r) → Checked sizes L R α trace work answer work₂
+          → (answer : TraceChecked) → answer ≡ checkedAs (answerOf l r) → CheckedTrace sizes L R α trace work answer work₂
       unfolding checkedUnless traceAnswer sideHas at
       answered q f g answer a =
           checked (a ∙ ap checkedAs (ap₂ answerOf (f .answers) (g .answers)) ∙ called Passed q) (g .kept ∙ f .kept ∙ cleared)

@@ -21,11 +21,11 @@ use Rattle.legality.specs.declared.PairTested.{PairTested}
 use Rattle.legality.specs.Answers.{FrontOf}
 use Rattle.policy.specs.Legality.{Legal}
 use Rattle.policy.specs.NodeLists.{NodeLists}
-use Rattle.lent.specs.Lent as rows
-use Rattle.lent.specs.Lent.{listsStage}
-use Rattle.lent.proofs.Testing as rows-laws
-use Rattle.lent.proofs.Testing.{front-tests, tests-passed, lists-passed, work-passes}
-use Rattle.traces.specs.Checking.{badPacket, packetsStage, lentTests, traceTests}
+use Rattle.lent_lists.specs.Lent as rows
+use Rattle.lent_lists.specs.Lent.{listsStage}
+use Rattle.lent_lists.proofs.Testing as rows-laws
+use Rattle.lent_lists.proofs.Testing.{front-tests, tests-passed, lists-passed, work-passes}
+use Rattle.traces.specs.Checking.{badPacket, packetsStage, listsTests, traceTests}
 
 -- ---- cause 13, as a loop over the trace finds it
 
@@ -71,8 +71,8 @@ module _ (N α : ℕ) (trace : List ℕ) where
 
 module _ (sizes : List ℕ) (L R : NodeLists) (words : ℕ) where
   -- the tests as they were made
-  pub tests-made : {said : Tested} {q : PairTested} → said ≡ listsStage [] words → FrontOf sizes L R said q → q .tested ≡ lentTests sizes L R words
-  unfolding lentTests
+  pub tests-made : {said : Tested} {q : PairTested} → said ≡ listsStage [] words → FrontOf sizes L R said q → q .tested ≡ listsTests sizes L R words
+  unfolding listsTests
   tests-made e f = front-tests sizes L R _ e f
 
   -- what holds where they pass
@@ -82,29 +82,29 @@ module _ (sizes : List ℕ) (L R : NodeLists) (words : ℕ) where
     pub right-legal : Legal sizes R
     pub long : 16384 ≤ words
 
-  pub lent-passed : lentTests sizes L R words ≡ Passed → Lent
-  unfolding lentTests
+  pub lent-passed : listsTests sizes L R words ≡ Passed → Lent
+  unfolding listsTests
   lent-passed e =
       let h = tests-passed sizes L R _ e in
       record { legal-sizes = h .legal-sizes; left-legal = h .left-legal; right-legal = h .right-legal; long = lists-passed [] words (h .passed) .1 }
 
   -- two policies that causes 1 to 9 let pass, and a work list that is long enough
-  pub pair-lent : pairTests sizes L R ≡ Passed → 16384 ≤ words → lentTests sizes L R words ≡ Passed
-  unfolding lentTests
+  pub pair-lent : pairTests sizes L R ≡ Passed → 16384 ≤ words → listsTests sizes L R words ≡ Passed
+  unfolding listsTests
   pair-lent e h = rows-laws.pair-lent sizes L R (listsStage [] words) e (work-passes words h)
 
   -- ---- then 13
 
   module _ (α : ℕ) (trace : List ℕ) where
-    then-packets : traceTests sizes L R α trace words ≡ firstOf (lentTests sizes L R words ∷ packetsStage (product sizes) α trace ∷ [])
-    unfolding traceTests lentTests rows.lentTests
+    then-packets : traceTests sizes L R α trace words ≡ firstOf (listsTests sizes L R words ∷ packetsStage (product sizes) α trace ∷ [])
+    unfolding traceTests listsTests rows.lentTests
     then-packets = packets-last sizes Passed (pairOf L R) _ _
 
-    pub trace-refused : (r : Refusal) → lentTests sizes L R words ≡ Refused r → traceTests sizes L R α trace words ≡ Refused r
+    pub trace-refused : (r : Refusal) → listsTests sizes L R words ≡ Refused r → traceTests sizes L R α trace words ≡ Refused r
     trace-refused r e = then-packets ∙ firstOf-refused _ _ r e
 
-    pub trace-tested : lentTests sizes L R words ≡ Passed → traceTests sizes L R α trace words ≡ packetsStage (product sizes) α trace
+    pub trace-tested : listsTests sizes L R words ≡ Passed → traceTests sizes L R α trace words ≡ packetsStage (product sizes) α trace
     trace-tested e = then-packets ∙ firstOf-next _ _ e ∙ firstOf-last _
 
-    pub trace-passed : traceTests sizes L R α trace words ≡ Passed → (lentTests sizes L R words ≡ Passed) × (packetsStage (product sizes) α trace ≡ Passed)
+    pub trace-passed : traceTests sizes L R α trace words ≡ Passed → (listsTests sizes L R words ≡ Passed) × (packetsStage (product sizes) α trace ≡ Passed)
     trace-passed e = let f = firstOf-passed _ _ (sym then-packets ∙ e) in (f .0, firstOf-passed _ _ (f .1) .0)

@@ -20,8 +20,8 @@ use Rattle.pair.specs.Sides.{left, right, policies}
 use Rattle.pair.specs.TraceCheck.{TraceAnswer, only, both, neither, has, traceAnswer}
 use Rattle.loaded.specs.Loaded.{Loaded}
 use Rattle.engine.specs.Stepping.{Stands}
-use Rattle.lent.specs.Lent as rows
-use Rattle.lent.specs.Lent.{listsStage, workAfter}
+use Rattle.lent_lists.specs.Lent as rows
+use Rattle.lent_lists.specs.Lent.{listsStage, workAfter}
 use Rattle.traces.specs.declared.TraceChecked.{TraceChecked}
 use Rattle.traces.specs.declared.TraceChecked.the-variants.{Left, Right, Both, Neither, Refused as CheckRefused}
 
@@ -47,8 +47,8 @@ checkedUnless (Refused r) a = CheckRefused r
 
 module _ (sizes : List ℕ) (L R : NodeLists) where
   -- the tests on what else is lent, with a work list of so many words: causes 1 to 10
-  unfoldable pub lentTests : ℕ → Tested
-  lentTests words = rows.lentTests sizes L R (listsStage [] words)
+  unfoldable pub listsTests : ℕ → Tested
+  listsTests words = rows.lentTests sizes L R (listsStage [] words)
 
   -- the order of causes: 1 to 10, then 13
   unfoldable pub traceTests : ℕ → List ℕ → ℕ → Tested
@@ -59,9 +59,9 @@ module _ (sizes : List ℕ) (L R : NodeLists) where
   traceCall α trace words = checkedUnless (traceTests α trace words) (traceAnswer sizes (policies L R) α trace)
 
   -- The call's promise. Where it answers, the answer says of each policy whether Figure 1 gives it the trace from the entering packet.
-  pub record Checked (α : ℕ) (trace work : List ℕ) (answer : TraceChecked) (work′ : List ℕ) : Type 0 where
+  pub record CheckedTrace (α : ℕ) (trace work : List ℕ) (answer : TraceChecked) (work′ : List ℕ) : Type 0 where
     pub answers : answer ≡ traceCall α trace (length work)
-    pub work-list : work′ ≡ workAfter (lentTests (length work)) work
+    pub work-list : work′ ≡ workAfter (listsTests (length work)) work
     pub left-trace : (a : TraceAnswer) → answer ≡ checkedAs a → T (has left a) ↔ Traces (numbered sizes) (policyOf L) α trace
     pub right-trace : (a : TraceAnswer) → answer ≡ checkedAs a → T (has right a) ↔ Traces (numbered sizes) (policyOf R) α trace
 

@@ -5,7 +5,7 @@ ghost use lib.ListN.{length};
 ghost use Rattle.packet.specs.Lowest.{lowest, optionOf};
 ghost use Rattle.policy.specs.AsLists.{asLists};
 ghost use Rattle.pair.specs.TraceCheck.{answerOf};
-ghost use Rattle.traces.specs.Checking.{badPacket, checkedAs, Checked, FollowReady, Followed, LoadedReady, LoadedFollowed};
+ghost use Rattle.traces.specs.Checking.{badPacket, checkedAs, CheckedTrace, FollowReady, Followed, LoadedReady, LoadedFollowed};
 use loaded::Nodes;
 use loaded::Tests;
 use packet::Place;
@@ -143,9 +143,9 @@ pub fn check(
     trace: &[u16],
     work: &mut [u32],
 ) -> TraceChecked
-    ensures { λ r. ⌜ Checked (now (sizes .entry)) (asLists (now («left_kind» .entry)) (now («left_first» .entry)) (now («left_second» .entry))) (asLists (now («right_kind» .entry)) (now («right_first» .entry)) (now («right_second» .entry))) entering (now (trace .entry)) (now (work .entry)) r (now (work .exit)) ⌝ }
+    ensures { λ r. ⌜ CheckedTrace (now (sizes .entry)) (asLists (now («left_kind» .entry)) (now («left_first» .entry)) (now («left_second» .entry))) (asLists (now («right_kind» .entry)) (now («right_first» .entry)) (now («right_second» .entry))) entering (now (trace .entry)) (now (work .entry)) r (now (work .exit)) ⌝ }
 {
-    let lists = lent::work_list(work.len());
+    let lists = lent_lists::work_list(work.len());
     let found = legality::front(
         sizes,
         left_kind,
@@ -161,7 +161,7 @@ pub fn check(
     match tested {
         Tested::Refused(r) => TraceChecked::Refused(r),
         Tested::Passed => {
-            lent::clear(work);
+            lent_lists::clear(work);
             match packet::refused_at(13, 0, lowest_bad(count, entering, trace)) {
                 Tested::Refused(r) => TraceChecked::Refused(r),
                 Tested::Passed => {

@@ -10,9 +10,9 @@ use Rattle.packet.specs.Refusals.{refusal}
 use Rattle.system.proofs.Basics.{length-snoc}
 use Rattle.pair.specs.Sides.{Side, left, right}
 use Rattle.pair.specs.Search.{SearchAnswer, different, traceShort, reported}
-use Rattle.lines.specs.Lines.{lineDepth, linePath, lineStart}
+use Rattle.parent_traces.specs.Lines.{lineDepth, linePath, lineStart}
 use Rattle.packet.specs.Written.{written}
-use Rattle.lines.proofs.Lines.{length-path}
+use Rattle.parent_traces.proofs.Lines.{length-path}
 use Rattle.verdict.specs.declared.Ended.{Ended}
 use Rattle.verdict.specs.declared.Ended.the-variants.{Done, Left as LeftTells, Right as RightTells, Full as FullUp}
 use Rattle.verdict.specs.declared.Stop.{Stop}

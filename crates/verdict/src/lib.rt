@@ -52,7 +52,7 @@ fn tell(
     requires { ⌜ CanRead (now packets) (now parents) row listed ⌝ }
     ensures { λ r. ⌜ Told (tellingAnswer (length (now (trace .entry))) (now (packets .entry)) (now (parents .entry)) row (cond «left_has» left right) last) (now (trace .entry)) r (now (trace .exit)) ⌝ }
 {
-    let needed = lines::trace_length(parents, listed, row);
+    let needed = parent_traces::trace_length(parents, listed, row);
     if trace.len() < needed {
         return Verdict::Refused(Refusal {
             number: 12,
@@ -60,8 +60,8 @@ fn tell(
             place: needed as u64,
         });
     }
-    lines::write_trace(packets, parents, listed, row, last, trace);
-    let alpha = lines::entering(packets, parents, listed, row);
+    parent_traces::write_trace(packets, parents, listed, row, last, trace);
+    let alpha = parent_traces::entering(packets, parents, listed, row);
     if left_has {
         return Verdict::Left(needed, alpha);
     }

@@ -1,6 +1,6 @@
 -- `netkat_number` meets its contract. Assumes nothing.
 use mathlib.Core.Path.{ap, _∙_}
-use Rattle.numbers.specs.Numbers.{numberNumbers}
+use Rattle.answer_numbers.specs.Numbers.{numberNumbers}
 use Rattle.exports.proofs.netkat_number.Statement.{statement}
 use Rattle.exports.proofs.netkat_number.Tie as tie
 

@@ -1,6 +1,6 @@
 -- `netkat_policies` meets its contract. Assumes nothing.
 use mathlib.Core.Path.{ap, _∙_}
-use Rattle.numbers.specs.Numbers.{pairNumbers}
+use Rattle.answer_numbers.specs.Numbers.{pairNumbers}
 use Rattle.exports.proofs.netkat_policies.Statement.{statement}
 use Rattle.exports.proofs.netkat_policies.Tie as tie
 

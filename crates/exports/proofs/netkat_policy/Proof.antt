@@ -1,6 +1,6 @@
 -- `netkat_policy` meets its contract. Assumes nothing.
 use mathlib.Core.Path.{ap, _∙_}
-use Rattle.numbers.specs.Numbers.{policyNumbers}
+use Rattle.answer_numbers.specs.Numbers.{policyNumbers}
 use Rattle.exports.proofs.netkat_policy.Statement.{statement}
 use Rattle.exports.proofs.netkat_policy.Tie as tie
 

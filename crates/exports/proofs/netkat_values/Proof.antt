@@ -1,7 +1,7 @@
 -- `netkat_values` meets its contract. Assumes nothing.
 use borrow.Author.Needs.{needs}
 use mathlib.Core.Path.{ap, _∙_}
-use Rattle.numbers.specs.Numbers.{valuesNumbers}
+use Rattle.answer_numbers.specs.Numbers.{valuesNumbers}
 use Rattle.exports.proofs.netkat_values.Statement.{statement}
 use Rattle.exports.proofs.netkat_values.Tie as tie
 

@@ -3,17 +3,17 @@ use borrow.Author.Needs.{needs}
 use mathlib.Core.Path.{_≡_}
 use Prim.Native.Nat.{_≤_, _-_}
 use native.Mathlib.Omega.{arith}
-use Rattle.index.specs.Columns.{policies}
+use Rattle.index.specs.Columns.{policyCount}
 use Rattle.index.specs.Index.{hashOf}
 use Rattle.index.proofs.Hashing.{hash-below, hash-none, hash-more, hash-all}
 use Rattle.index.proofs.hash.Statement.{statement}
 use Rattle.index.proofs.hash.Tie as tie
 
 abbrev Inv-loop : tie.InvT-loop
-Inv-loop states h₀ k₀ h k = (k ≤ policies) × (h ≡ hashOf k states)
+Inv-loop states h₀ k₀ h k = (k ≤ policyCount) × (h ≡ hashOf k states)
 
 abbrev μ-loop : tie.MeasureT-loop
-μ-loop states h₀ k₀ h k = policies - k
+μ-loop states h₀ k₀ h k = policyCount - k
 
 loop-holds : tie.Need-loop-holds Inv-loop μ-loop
 loop-holds c = (search needs, hash-none _)

@@ -3,16 +3,16 @@ use borrow.Author.Needs.{needs}
 use mathlib.Core.Path.{_≡_, sym}
 use mathlib.Core.Bool.{true}
 use Prim.Native.Nat.{_≤_, _-_}
-use Rattle.index.specs.Columns.{policies, sameStates}
+use Rattle.index.specs.Columns.{policyCount, sameStates}
 use Rattle.index.proofs.States.{states-none, states-more, states-differ, states-all}
 use Rattle.index.proofs.same_states.Statement.{statement}
 use Rattle.index.proofs.same_states.Tie as tie
 
 abbrev Inv-loop : tie.InvT-loop
-Inv-loop a b k₀ k = (k ≤ policies) × (sameStates k a b ≡ true)
+Inv-loop a b k₀ k = (k ≤ policyCount) × (sameStates k a b ≡ true)
 
 abbrev μ-loop : tie.MeasureT-loop
-μ-loop a b k₀ k = policies - k
+μ-loop a b k₀ k = policyCount - k
 
 loop-holds : tie.Need-loop-holds Inv-loop μ-loop
 loop-holds c = (search needs, states-none _ _)

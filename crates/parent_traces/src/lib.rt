@@ -1,0 +1,75 @@
+// A row's line of parents: the trace that ends at the row, and where it enters (document 01, "States and rows"). All
+// functions here are inner.
+ghost use mathlib.Core.Path.{_≡_};
+ghost use mathlib.Core.List.{[], _∷_, _++_};
+ghost use Prim.Native.Nat.{_+_, _<_, _≤_};
+ghost use lib.ListN.{length};
+ghost use Rattle.packet.specs.Written.{written};
+ghost use Rattle.parent_traces.specs.Lines.{lineDepth, linePath, lineStart, Rooted};
+
+// Inner: a number of 16 bits as an index.
+pub fn wide(x: u16) -> usize
+    ensures { λ r. ⌜ r ≡ x ⌝ }
+{
+    x as usize
+}
+
+// Inner: the length of the trace that ends at row h: one packet for each row above it, and the last.
+pub fn trace_length(parents: &[u16], listed: usize, h: usize) -> usize
+    requires { ⌜ Rooted (now parents) listed ⌝ }
+    requires { ⌜ h < listed ⌝ }
+    ensures { λ r. ⌜ r ≡ lineDepth (now (parents .entry)) h + 1 ⌝ }
+{
+    let mut length = 1;
+    let mut i = h;
+    let mut parent = wide(parents[i]);
+    while parent != i {
+        length += 1;
+        i = parent;
+        parent = wide(parents[i]);
+    }
+    length
+}
+
+// Inner: the packet that enters where row h's line of parents starts.
+pub fn entering(packets: &[u16], parents: &[u16], listed: usize, h: usize) -> u16
+    requires { ⌜ Rooted (now parents) listed ⌝ }
+    requires { ⌜ listed ≤ length (now packets) ⌝ }
+    requires { ⌜ h < listed ⌝ }
+    ensures { λ r. ⌜ r ≡ lineStart (now (packets .entry)) (now (parents .entry)) h ⌝ }
+{
+    let mut i = h;
+    let mut parent = wide(parents[i]);
+    while parent != i {
+        i = parent;
+        parent = wide(parents[i]);
+    }
+    packets[i]
+}
+
+// Inner: writes the trace that ends at row h with the packet `last`, which the list has room for.
+pub fn write_trace(
+    packets: &[u16],
+    parents: &[u16],
+    listed: usize,
+    h: usize,
+    last: u16,
+    trace: &mut [u16],
+)
+    requires { ⌜ Rooted (now parents) listed ⌝ }
+    requires { ⌜ listed ≤ length (now packets) ⌝ }
+    requires { ⌜ h < listed ⌝ }
+    requires { ⌜ lineDepth (now parents) h < length (now trace) ⌝ }
+    ensures { λ _. ⌜ now (trace .exit) ≡ written (linePath (now (packets .entry)) (now (parents .entry)) h ++ (last ∷ [])) (now (trace .entry)) ⌝ }
+{
+    let mut k = trace_length(parents, listed, h) - 1;
+    trace[k] = last;
+    let mut i = h;
+    let mut parent = wide(parents[i]);
+    while parent != i {
+        k -= 1;
+        trace[k] = packets[i];
+        i = parent;
+        parent = wide(parents[i]);
+    }
+}

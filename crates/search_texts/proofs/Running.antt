@@ -1,0 +1,162 @@
+-- From the search on the texts' nodes to the promise about the texts.
+use Prim.Native.Nat.{ℕ}
+use native.Mathlib.Omega.{arith}
+use mathlib.Core.List.{List, [], _∷_}
+use mathlib.Core.Logic.{_↔_}
+use mathlib.Core.Path.{_≡_, refl, sym, _∙_, ap, subst}
+use lib.ListN.{length, take}
+use Rattle.packet.specs.declared.Refusal.{Refusal}
+use Rattle.packet.specs.declared.Tested.{Tested}
+use Rattle.packet.specs.declared.Tested.the-variants.{Passed, Refused as Stopped}
+use Rattle.packet.specs.Refusals.{firstOf}
+use Rattle.packet.specs.Sizes.{fieldsStage, CountOf}
+use Rattle.packet.specs.declared.Counted.{Counted}
+use Rattle.packet.proofs.Stages.{firstOf-next, firstOf-last, firstOf-refused, firstOf-passed}
+use Rattle.policy.specs.Order.{inOrder, causes, cause, policiesStage, stagesOf, pairOf}
+use Rattle.policy.proofs.OrderLaws as order
+use Rattle.policy.specs.Meaning.{Traces, numbered, SameTraces, SameTracesBelow}
+use Rattle.policy.specs.NodeLists.{NodeLists, policyOf}
+use Rattle.policy.specs.NodesOfTree.{treeSize}
+use Rattle.pair.specs.Sides.{Side, left, right, other, at, policies}
+use Rattle.pair.specs.Pair.{SideTraces}
+use Rattle.pair.specs.Search.{Distinguishes}
+use Rattle.lent_lists.specs.Lent.{listsStage, lentTests}
+use Rattle.grammar.specs.Tokens.{fieldNames}
+use Rattle.grammar.specs.Answer.{textTree}
+use Rattle.grammar.proofs.NodeLaws.{text-traces}
+use Rattle.verdict.specs.declared.Verdict.{Verdict}
+use Rattle.verdict.specs.declared.Verdict.the-variants.{Equal, Full, Refused}
+use Rattle.verdict.specs.Verdicts.{tellingVerdict}
+use Rattle.search.specs.Call.{SearchLists, verdictAfter, lentAfter, searchTests, searchVerdict, searchLeaves, Searched}
+use Rattle.search_texts.specs.Call.{textNodes, textStage, textPolicies, textsTests, textsAnswer, textsRows, textsVerdict, textsLeaves, TextsSearched, Ran}
+use Rattle.search_texts.proofs.Reading.{stage-answer}
+
+zero≢one : _≡_ {A = ℕ} 0 1 → ⊥
+zero≢one z = omega arith
+
+passed≢stopped : {r : Refusal} → Passed ≡ Stopped r → ⊥
+passed≢stopped e = zero≢one (let z : _≡_ {A = ℕ} 0 1 = cc in z)
+
+-- ---- inner runs
+
+module _ {sizes : List ℕ} {L R : NodeLists} {x : SearchLists} where
+  pub ran-stopped : {before : Tested} {r : Refusal} → before ≡ Stopped r → Ran before sizes L R x (Refused r) x
+  ran-stopped {before} {r} e =
+      record {
+        stopped = λ q f. (ap Refused (let same : r ≡ q = (let t : Stopped r ≡ Stopped q = sym e ∙ f in cc) in same), refl);
+        searched = λ p. absurd (passed≢stopped (sym p ∙ e));
+      }
+
+  pub ran-searched : {before : Tested} {L′ R′ : NodeLists} {v : Verdict} {y : SearchLists} → before ≡ Passed → L′ ≡ L → R′ ≡ R → Searched sizes L′ R′ x v y → Ran before sizes L R x v y
+  ran-searched {L′ = L′} {v = v} {y = y} e p q s =
+      record {
+        stopped = λ r f. absurd (passed≢stopped (sym e ∙ f));
+        searched = λ _. subst (λ (M : NodeLists). Searched sizes M R x v y) p (subst (λ (M : NodeLists). Searched sizes L′ M x v y) q s);
+      }
+
+  -- the left text passes
+  pub ran-left : {a b : Tested} {L′ : NodeLists} {v : Verdict} {y : SearchLists} → a ≡ Passed → L′ ≡ L → Ran b sizes L′ R x v y → Ran (firstOf (a ∷ b ∷ [])) sizes L R x v y
+  ran-left {a} {b} {L′} {v} {y} e p s =
+      subst (λ (t : Tested). Ran t sizes L R x v y) (sym (firstOf-next a (b ∷ []) e ∙ firstOf-last b)) (subst (λ (M : NodeLists). Ran b sizes M R x v y) p s)
+
+  -- it does not
+  pub left-stopped : {a : Tested} (b : Tested) {r : Refusal} → a ≡ Stopped r → Ran (firstOf (a ∷ b ∷ [])) sizes L R x (Refused r) x
+  left-stopped {a} b {r} e = ran-stopped (firstOf-refused a (b ∷ []) r e)
+
+-- ---- the traces of the nodes are those of the text
+
+module _ (sizes left-text right-text : List ℕ) (el : textStage left-text ≡ Passed) (er : textStage right-text ≡ Passed) where
+  tree-traces : (text : List ℕ) → textStage text ≡ Passed → (α : ℕ) (t : List ℕ) → Traces (numbered sizes) (policyOf (textNodes text)) α t ≡ Traces (numbered sizes) (textTree fieldNames text) α t
+  unfolding textNodes
+  tree-traces text e α t = ap (λ X. X α t) (text-traces fieldNames text 512 (treeSize (textTree fieldNames text)) (stage-answer text e) (numbered sizes))
+
+  side-is : (s : Side) (α : ℕ) (t : List ℕ) → SideTraces sizes (policies (textNodes left-text) (textNodes right-text)) s α t ≡ SideTraces sizes (textPolicies left-text right-text) s α t
+  unfolding SideTraces at
+  side-is left α t = tree-traces left-text el α t
+  side-is right α t = tree-traces right-text er α t
+
+  both-are : {A A′ B B′ : Type 0} → A ≡ A′ → B ≡ B′ → A ↔ B → A′ ↔ B′
+  both-are {A} {A′} {B} {B′} p q f = subst (λ (X : Type 0). X ↔ B′) p (subst (λ (Y : Type 0). A ↔ Y) q f)
+
+  texts-same : SameTracesBelow sizes (policyOf (textNodes left-text)) (policyOf (textNodes right-text)) → SameTracesBelow sizes (textTree fieldNames left-text) (textTree fieldNames right-text)
+  unfolding SameTracesBelow SameTraces
+  texts-same f = λ α h t. both-are (tree-traces left-text el α t) (tree-traces right-text er α t) (f α h t)
+
+  texts-tell : (s : Side) (α : ℕ) (t : List ℕ) → Distinguishes sizes (policies (textNodes left-text) (textNodes right-text)) s α t → Distinguishes sizes (textPolicies left-text right-text) s α t
+  texts-tell s α t d =
+      record {
+        enters = d .enters;
+        has = subst (λ (X : Type 0). X) (side-is s α t) (d .has);
+        lacks = λ h. d .lacks (subst (λ (X : Type 0). X) (sym (side-is (other s) α t)) h);
+        shortest = λ β h u l. both-are (side-is left β u) (side-is right β u) (d .shortest β h u l);
+      }
+
+-- ---- the public call
+
+refused-equal : {r : Refusal} {n : ℕ} → Refused r ≡ Equal n → ⊥
+refused-equal e = zero≢one (let z : _≡_ {A = ℕ} 0 1 = cc in z)
+
+refused-telling : {r : Refusal} (s : Side) (n α : ℕ) → Refused r ≡ tellingVerdict s n α → ⊥
+refused-telling left n α e = zero≢one (let z : _≡_ {A = ℕ} 0 1 = cc in z)
+refused-telling right n α e = zero≢one (let z : _≡_ {A = ℕ} 0 1 = cc in z)
+
+refused-full : {r q : Refusal} → Refused r ≡ Full q → ⊥
+refused-full e = zero≢one (let z : _≡_ {A = ℕ} 0 1 = cc in z)
+
+module _ (sizes left-text right-text : List ℕ) (x : SearchLists) where
+  refused-by : {r : Refusal} → textsTests sizes left-text right-text x ≡ Stopped r → TextsSearched sizes left-text right-text x (Refused r) x
+  unfolding textsVerdict textsLeaves verdictAfter lentAfter
+  refused-by {r} e =
+      record {
+        answers = sym (ap (λ (t : Tested). verdictAfter t (textsAnswer sizes left-text right-text x)) e);
+        leaves = sym (ap (λ (t : Tested). lentAfter t (textsRows sizes left-text right-text x) (textsAnswer sizes left-text right-text x) x) e);
+        equal-same = λ rows q. absurd (refused-equal q);
+        different-tells = λ s n α q. absurd (refused-telling s n α q);
+        full-exactly = λ p. absurd (passed≢stopped (sym p ∙ e));
+        full-place = λ q f. absurd (refused-full f);
+      }
+
+  abbrev lists : Tested
+  lists = listsStage (length (x .packets) ∷ length (x .lefts) ∷ length (x .rights) ∷ length (x .parents) ∷ []) (length (x .work))
+
+  abbrev textTests : Tested
+  textTests = firstOf (textStage left-text ∷ textStage right-text ∷ [])
+
+  -- the tests of the sizes as they were made
+  module _ {c : Counted} (counted : CountOf sizes c) {f t : Tested} (fields : f ≡ fieldsStage sizes)
+      (made : t ≡ inOrder (record { fields = f; product = c .tested; texts = Passed; policies = Passed; lists = Passed; packets = Passed })) where
+    made-as : inOrder (stagesOf sizes Passed [] Passed Passed) ≡ t
+    unfolding stagesOf policiesStage causes cause firstOf
+    made-as = sym (made ∙ rw (fields, counted .says) refl)
+
+    pub sizes-refused : {r : Refusal} → t ≡ Stopped r → TextsSearched sizes left-text right-text x (Refused r) x
+    unfolding textsTests
+    sizes-refused e = refused-by (order.sizes-refused sizes _ _ _ _ (made-as ∙ e))
+
+    pub sizes-passed : {v : Verdict} {y : SearchLists} → t ≡ Passed → Ran textTests sizes (textNodes left-text) (textNodes right-text) x v y → TextsSearched sizes left-text right-text x v y
+    unfolding textsTests searchTests lentTests searchVerdict searchLeaves textsVerdict textsLeaves
+    sizes-passed {v} {y} e ran = go textTests refl
+      where
+        searched : textTests ≡ Passed → Searched sizes (textNodes left-text) (textNodes right-text) x v y → TextsSearched sizes left-text right-text x v y
+        searched q s =
+            let p = firstOf-passed (textStage left-text) (textStage right-text ∷ []) q in
+            let l : textStage left-text ≡ Passed = p .0 in
+            let r : textStage right-text ≡ Passed = firstOf-passed (textStage right-text) [] (p .1) .0 in
+            let same : textsTests sizes left-text right-text x ≡ searchTests sizes (textNodes left-text) (textNodes right-text) x =
+            ap (λ (u : Tested). inOrder (stagesOf sizes u (pairOf (textNodes left-text) (textNodes right-text)) lists Passed)) q in
+            record {
+              answers = s .answers ∙ sym (ap (λ (t : Tested). verdictAfter t (textsAnswer sizes left-text right-text x)) same);
+              leaves = s .leaves ∙ sym (ap (λ (t : Tested). lentAfter t (textsRows sizes left-text right-text x) (textsAnswer sizes left-text right-text x) x) same);
+              equal-same = λ rows f. texts-same sizes left-text right-text l r (s .equal-same rows f);
+              different-tells = λ sd n α f. (let t = s .different-tells sd n α f in record { long = t .long; tells = texts-tell sizes left-text right-text l r sd α (take n (y .trace)) (t .tells) });
+              full-exactly = λ f. s .full-exactly (sym same ∙ f);
+              full-place = s .full-place;
+            }
+
+        go : (t : Tested) → textTests ≡ t → TextsSearched sizes left-text right-text x v y
+        go Passed q = searched q (ran .searched q)
+        go (Stopped r) q =
+            let p = ran .stopped r q in
+            subst (λ (z : SearchLists). TextsSearched sizes left-text right-text x v z) (sym (p .1))
+            (subst (λ (w : Verdict). TextsSearched sizes left-text right-text x w x) (sym (p .0))
+            (refused-by (order.texts-refused sizes _ _ _ _ (made-as ∙ e) q)))
