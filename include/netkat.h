@@ -37,7 +37,7 @@
  *
  * Stack. A call needs up to NETKAT_STACK bytes of stack, 4 MiB. Measured on policies as deep as they may be, in KiB:
  *   netkat_values 1, netkat_number 1, netkat_policy 3, netkat_policies 3, netkat_read 66,
- *   netkat_search 787, netkat_search_texts 791, netkat_evidence 787, netkat_trace 362
+ *   netkat_search 836, netkat_search_texts 839, netkat_evidence 836, netkat_trace 386
  * A thread with too little meets its guard page, and the process ends.
  *
  * Time. Small calls take microseconds, searches and checks of evidence mostly milliseconds. On the costliest policies a row may take

@@ -195,7 +195,8 @@ def reached():
 
     def want(crate, module, name):
         if module.startswith("declared."):
-            types.add((crate, module.split(".")[1] if module.split(".")[1] != "sizes" else module.split(".")[2]))
+            # a type of the source, or one of a module of it
+            types.add((crate, next(part for part in module.split(".")[1:] if part[0].isupper())))
             return
         file = specs.get((crate, module))
         if file is None:

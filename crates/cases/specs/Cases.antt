@@ -243,7 +243,7 @@ cases =
     -- 64 parentheses pass, 65 don't
     ∷ gives (read (nested 64) (nines 2) (nines 2) (nines 2)) (readAs (Nodes 1) (lists (1 ∷ 9 ∷ []) (0 ∷ 9 ∷ []) (0 ∷ 9 ∷ [])))
     ∷ unread (nested 65) 2 15 64
-    -- the trace checker, on P7 and P1: left, right, both, neither; a trace of length 0 is neither
+    -- the trace checker: left and right on P7, both and neither on P2; a trace of length 0 is neither, also where both policies are id
     ∷ follows (1 ∷ []) (nodes "dup") (nodes "dup;dup") 0 (0 ∷ 0 ∷ []) OnlyLeft
     ∷ follows (1 ∷ []) (nodes "dup") (nodes "dup;dup") 0 (0 ∷ 0 ∷ 0 ∷ []) OnlyRight
     ∷ follows (2 ∷ []) P2-left P2-right 0 (0 ∷ 0 ∷ []) Both

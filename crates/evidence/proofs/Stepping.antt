@@ -44,7 +44,7 @@ module _ (sizes : List ℕ) (L R : NodeLists) (packets lefts rights : List ℕ) 
 
   module _ {count : ℕ} {work : List ℕ} (C : Cleared sizes L R packets lefts rights count work) where
     -- a list of 0 of this length can index the rows
-    pub vacant : (k : ℕ) → 4096 ≤ k / 3 → length packets ≤ k / 3 → Vacant sizes L R packets lefts rights count (replicate k 0)
+    pub vacant : (k : ℕ) → 4096 ≤ k / 3 → length packets ≤ k / 3 → Vacant packets lefts rights count (replicate k 0)
     vacant k wide room =
         let n = C .lent .numbered in
         let e = C .lent .allowed .packet-count in

@@ -25,6 +25,11 @@ rowTold i Keeps = accepted
 rowTold i Outputs = ruleC i
 rowTold i (Next γ) = ruleD i γ
 
+-- the list for the index is all 0, and long enough for the rows
+pub record Vacant (packets lefts rights : List ℕ) (count : ℕ) (trees : List ℕ) : Type 0 where
+  pub none : Indexed packets lefts rights count 0 trees
+  pub all : Indexable packets count (length packets) trees
+
 module _ (sizes : List ℕ) (L R : NodeLists) (packets lefts rights : List ℕ) where
   -- causes 1 to 9 don't hold, and N is `count`
   pub record Allowed (count : ℕ) : Type 0 where
@@ -45,11 +50,6 @@ module _ (sizes : List ℕ) (L R : NodeLists) (packets lefts rights : List ℕ) 
     pub lent : LentTable count work
     pub small : Small packets count
     pub zero : (i : ℕ) → i < 16384 → getD work i 0 ≡ 0
-
-  -- the list for the index is all 0, and long enough
-  pub record Vacant (count : ℕ) (trees : List ℕ) : Type 0 where
-    pub none : Indexed packets lefts rights count 0 trees
-    pub all : Indexable packets count (length packets) trees
 
   -- (b), then row by row
   pub record StartsChecked (work : List ℕ) (answer : Evidence) (work′ : List ℕ) : Type 0 where

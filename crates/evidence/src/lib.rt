@@ -128,7 +128,7 @@ fn starts_checked(
     work: &mut [u32],
 ) -> Evidence
     requires { ⌜ Cleared (now sizes) (asLists (now «left_kind») (now «left_first») (now «left_second»)) (asLists (now «right_kind») (now «right_first») (now «right_second»)) (now packets) (now lefts) (now rights) count (now work) ⌝ }
-    requires { ⌜ Vacant (now sizes) (asLists (now «left_kind») (now «left_first») (now «left_second»)) (asLists (now «right_kind») (now «right_first») (now «right_second»)) (now packets) (now lefts) (now rights) count (now trees) ⌝ }
+    requires { ⌜ Vacant (now packets) (now lefts) (now rights) count (now trees) ⌝ }
     ensures { λ r. ⌜ StartsChecked (now (sizes .entry)) (asLists (now («left_kind» .entry)) (now («left_first» .entry)) (now («left_second» .entry))) (asLists (now («right_kind» .entry)) (now («right_first» .entry)) (now («right_second» .entry))) (now (packets .entry)) (now (lefts .entry)) (now (rights .entry)) (now (work .entry)) r (now (work .exit)) ⌝ }
 {
     index::index_rows(packets, lefts, rights, packets.len(), count, trees);

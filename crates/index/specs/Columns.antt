@@ -7,7 +7,7 @@ use lib.Dec.{eqb}
 use lib.ListN.{length, getD, replicate}
 use Rattle.index.specs.declared.Row.{Row}
 
--- how many policyCount a row follows
+-- how many policies a row follows
 abbrev pub policyCount : ℕ
 policyCount = 2
 
@@ -31,7 +31,7 @@ pub record Small (P : List ℕ) (count : ℕ) : Type 0 where
 abbrev pub rowAt : List ℕ → List ℕ → List ℕ → ℕ → Row
 rowAt P L R i = record { packet = getD P i 0; states = getD L i 0 ∷ getD R i 0 ∷ [] }
 
--- the states of the first k policyCount are the same
+-- the states of the first k policies are the same
 unfoldable pub sameStates : ℕ → List ℕ → List ℕ → Bool
 sameStates zero a b = true
 sameStates (suc k) a b = sameStates k a b && eqb (getD a k 0) (getD b k 0)

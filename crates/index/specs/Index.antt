@@ -18,7 +18,7 @@ hashFactor = 1640531527
 abbrev pub hashPrime : ℕ
 hashPrime = 4294967291
 
--- the states of the first k policyCount, hashed
+-- the states of the first k policies, hashed
 unfoldable pub hashOf : ℕ → List ℕ → ℕ
 hashOf zero a = 0
 hashOf (suc k) a = (hashOf k a + getD a k 0) * hashFactor % hashPrime
@@ -35,7 +35,7 @@ sizeOf trees = length trees / 3
 abbrev pub childSlot : ℕ → ℕ → ℕ → ℕ
 childSlot size i side = size + 2 * i + side
 
--- the child that a look goes on to from a depth: a bit of a state, the policyCount in turn
+-- the child that a look goes on to from a depth: a bit of a state, the policies in turn
 unfoldable pub sideAt : ℕ → List ℕ → ℕ
 sideAt depth a = getD a (depth % policyCount) 0 / 2 ^ (depth / policyCount % 32) % 2
 

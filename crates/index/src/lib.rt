@@ -6,7 +6,7 @@ ghost use Rattle.index.specs.Columns.{policyCount, EvenColumns, rowAt, s
 ghost use Rattle.index.specs.Index.{hashOf, bucketOf, sideAt, Indexed, Indexable, RoomFor, Placed};
 ghost use Rattle.index.specs.Appending.{NewPlaced, lists, Appending};
 
-// How many policyCount a row follows.
+// How many policies a row follows.
 pub const POLICIES: usize = 2;
 
 // A state: bit 0 for the whole policy, bit i for what remains after dup i.
@@ -108,7 +108,7 @@ fn bucket(size: usize, count: u16, row: Row) -> usize
     wide(row.packet) * width + hash(states) % width
 }
 
-// Which child a look goes on to: a bit of a state, the policyCount in turn. The rows of a bucket have one packet, and those that agree in all
+// Which child a look goes on to: a bit of a state, the policies in turn. The rows of a bucket have one packet, and those that agree in all
 // 64 bits too are the same, so a look passes at most 64 rows, whoever chose them.
 fn side_at(states: [Mask; POLICIES], depth: usize) -> usize
     ensures { λ r. ⌜ (r ≡ sideAt depth states) × (r < 2) ⌝ }

@@ -63,7 +63,7 @@ module _ (sizes : List ℕ) (ps : Pair NumberedPolicy) where
     pub left-next : (γ : ℕ) → γ < product sizes → getD lefts γ 0 ≡ nextAt sizes ps left (r .packet) (r .state) γ
     pub right-next : (γ : ℕ) → γ < product sizes → getD rights γ 0 ≡ nextAt sizes ps right (r .packet) (r .state) γ
 
--- The starting rows are listed, whatever policyCount of so many packets the masks belong to.
+-- The starting rows are listed, whatever policies of so many packets the masks belong to.
 pub record Started (x y : Lists) (count : ℕ) (answer : Appended) : Type 0 where
   pub started : (sizes : List ℕ) (ps : Pair NumberedPolicy) → Lawful (pairSystem sizes ps) → product sizes ≡ count
       → Continues (pairSystem sizes ps) (pairMasks sizes ps) x y count (starts (pairSystem sizes ps) (product sizes)) answer

@@ -14,7 +14,8 @@ use Rattle.policy.specs.declared.order.Stages.{Stages}
 use Rattle.policy.specs.NodeLists.{NodeLists, nodeCount}
 use Rattle.policy.specs.Legality.{badLengths, badKind, badEntries, badChild, notOnce, tooManyDups}
 
--- The stages of a call, in the order tested. A request that moves a stage moves its line; 18 comes before them all, 11 and 12 after.
+-- The stages of a call, in the order tested: a stage that comes elsewhere is a line that moves, here and in `in_order`. 18 comes before them
+-- all, 11 and 12 after. The search on two texts reads them only where the stages before `texts` pass.
 unfoldable pub order : Stages → List Tested
 order stages =
     stages .fields  -- 1, 2

@@ -1,4 +1,4 @@
-// One round of the search: one row is handled (document 01, "States and rows"). All functions here are inner.
+// One row of the search is handled (document 01, "States and rows"). All functions here are inner.
 ghost use mathlib.Core.Path.{_≡_};
 ghost use Rattle.index.specs.Appending.{lists};
 ghost use Rattle.row_handling.specs.Step.{goesOn, HandleReady, StepDone};

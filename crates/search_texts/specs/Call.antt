@@ -33,11 +33,11 @@ unfoldable pub textStage : List ℕ → Tested
 textStage text = tested fieldNames text 512
 
 -- the texts' own trees
-abbrev pub textLabelled : List ℕ → NumberedPolicy
-textLabelled text = record { tree = textTree fieldNames text; dups = dupsBelow (textNodes text) (nodeCount (textNodes text)) }
+abbrev pub textPolicy : List ℕ → NumberedPolicy
+textPolicy text = record { tree = textTree fieldNames text; dups = dupsBelow (textNodes text) (nodeCount (textNodes text)) }
 
 abbrev pub textPolicies : List ℕ → List ℕ → Pair NumberedPolicy
-textPolicies left right = record { left = textLabelled left; right = textLabelled right }
+textPolicies left right = record { left = textPolicy left; right = textPolicy right }
 
 module _ (sizes left right : List ℕ) (x : SearchLists) where
   -- causes 1 to 3; 14 to 17 on the left text, then on the right; 4 to 9; 10

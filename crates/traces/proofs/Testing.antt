@@ -76,13 +76,13 @@ module _ (sizes : List ℕ) (L R : NodeLists) (words : ℕ) where
   tests-made e f = front-tests sizes L R _ e f
 
   -- what holds where they pass
-  pub record Lent : Type 0 where
+  pub record Passing : Type 0 where
     pub legal-sizes : LegalSizes sizes
     pub left-legal : Legal sizes L
     pub right-legal : Legal sizes R
     pub long : 16384 ≤ words
 
-  pub lent-passed : listsTests sizes L R words ≡ Passed → Lent
+  pub lent-passed : listsTests sizes L R words ≡ Passed → Passing
   unfolding listsTests
   lent-passed e =
       let h = tests-passed sizes L R _ e in
