@@ -18,7 +18,8 @@ pub struct Row {
     pub states: [Mask; POLICIES],
 }
 
-fn wide(x: u16) -> usize
+// Inner: a number of 16 bits as an index.
+pub fn wide(x: u16) -> usize
     ensures { λ r. ⌜ r ≡ x ⌝ }
 {
     x as usize

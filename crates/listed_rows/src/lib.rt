@@ -71,11 +71,11 @@ pub fn append_next(
     let count = progress.count;
     let handled = progress.handled as u16;
     let set = marks::either(&next[0], &next[1]);
-    let words = packet_set::words_for(parent_traces::wide(count));
+    let words = packet_set::words_for(index::wide(count));
     let mut n = progress.listed;
     let mut packet = marks::next_marked(&set, 0, words, count);
     while packet < count {
-        let i = parent_traces::wide(packet);
+        let i = index::wide(packet);
         let row = Row {
             packet,
             states: [next[0][i], next[1][i]],

@@ -7,13 +7,6 @@ ghost use lib.ListN.{length};
 ghost use Rattle.packet.specs.Written.{written};
 ghost use Rattle.parent_traces.specs.Lines.{lineDepth, linePath, lineStart, Rooted};
 
-// Inner: a number of 16 bits as an index.
-pub fn wide(x: u16) -> usize
-    ensures { λ r. ⌜ r ≡ x ⌝ }
-{
-    x as usize
-}
-
 // Inner: the length of the trace that ends at row h: one packet for each row above it, and the last.
 pub fn trace_length(parents: &[u16], listed: usize, h: usize) -> usize
     requires { ⌜ Rooted (now parents) listed ⌝ }
@@ -22,11 +15,11 @@ pub fn trace_length(parents: &[u16], listed: usize, h: usize) -> usize
 {
     let mut length = 1;
     let mut i = h;
-    let mut parent = wide(parents[i]);
+    let mut parent = index::wide(parents[i]);
     while parent != i {
         length += 1;
         i = parent;
-        parent = wide(parents[i]);
+        parent = index::wide(parents[i]);
     }
     length
 }
@@ -39,10 +32,10 @@ pub fn entering(packets: &[u16], parents: &[u16], listed: usize, h: usize) -> u1
     ensures { λ r. ⌜ r ≡ lineStart (now (packets .entry)) (now (parents .entry)) h ⌝ }
 {
     let mut i = h;
-    let mut parent = wide(parents[i]);
+    let mut parent = index::wide(parents[i]);
     while parent != i {
         i = parent;
-        parent = wide(parents[i]);
+        parent = index::wide(parents[i]);
     }
     packets[i]
 }
@@ -65,11 +58,11 @@ pub fn write_trace(
     let mut k = trace_length(parents, listed, h) - 1;
     trace[k] = last;
     let mut i = h;
-    let mut parent = wide(parents[i]);
+    let mut parent = index::wide(parents[i]);
     while parent != i {
         k -= 1;
         trace[k] = packets[i];
         i = parent;
-        parent = wide(parents[i]);
+        parent = index::wide(parents[i]);
     }
 }

@@ -22,12 +22,6 @@ pub enum Spot {
     Nowhere,
 }
 
-fn wide(x: u16) -> usize
-    ensures { λ r. ⌜ r ≡ x ⌝ }
-{
-    x as usize
-}
-
 // Rule (a) at one row.
 fn row_fits(row: Row, count: u16, left_dups: u32, right_dups: u32) -> bool
     requires { ⌜ («left_dups» < 32) × («right_dups» < 32) ⌝ }
@@ -146,10 +140,10 @@ pub fn first_next_missing(
     ensures { λ r. ⌜ spotOf r ≡ lowest (λ γ. nextMissing (now (packets .entry)) (now (lefts .entry)) (now (rights .entry)) γ (getD (leftOf (now (next .entry))) γ 0) (getD (rightOf (now (next .entry))) γ 0)) count ⌝ }
 {
     let set = marks::either(&next[0], &next[1]);
-    let words = packet_set::words_for(wide(count));
+    let words = packet_set::words_for(index::wide(count));
     let mut gamma = marks::next_marked(&set, 0, words, count);
     while gamma < count {
-        let i = wide(gamma);
+        let i = index::wide(gamma);
         if next_missing(
             packets,
             lefts,

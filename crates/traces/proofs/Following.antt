@@ -92,9 +92,8 @@ module _ {sizes nodes tests : List ℕ} {count α : ℕ} {trace work : List ℕ}
 
       module _ {from to : ℕ} {out next′ work₂ : List ℕ} (st : Stepped sizes nodes tests state β emptySet next work′ from to out next′ work₂) where
         -- what `forget` asks
-        pub few-marked : {n : ℕ} → n ≡ count → {words : ℕ} → words ≡ wordsFor n → (words ≤ 32) × Marking (32 * words) next′
-        few-marked {n} e {words} w =
-            forget-asks next′ (rw e count-small) w (rw (e, a .ready .packets) (step-marking (f .blank) st))
+        pub few-marked : {words : ℕ} → words ≡ wordsFor count → (words ≤ 32) × Marking (32 * words) next′
+        few-marked w = forget-asks next′ count-small w (rw (a .ready .packets) (step-marking (f .blank) st))
 
         -- the last packet: it is in the output or not
         pub last-packet : suc i ≡ length trace → (answer : Bool) → answer ≡ member out γ → LoadedFollowed sizes nodes tests α trace work answer work₂
@@ -109,13 +108,13 @@ module _ {sizes nodes tests : List ℕ} {count α : ℕ} {trace work : List ℕ}
             alone = drop-cons trace i 0 left-over ∙ ap (λ (t : List ℕ). γ ∷ t) (ap (λ (j : ℕ). drop j trace) e ∙ drop-length trace)
 
         -- a packet but the last: the state next there has the rest or not
-        module _ (more : suc i ≡ length trace → ⊥) {k : ℕ} (at : k ≡ γ) where
+        module _ (more : suc i ≡ length trace → ⊥) where
           onward : (L : NodeLists) → Stands sizes L nodes tests α
-              → runs sizes (policyOf L) (dupsBelow L (nodeCount L)) (getD next′ k 0) γ (drop (suc i) trace) ≡ hasTrace sizes (policyOf L) (dupsBelow L (nodeCount L)) α trace
+              → runs sizes (policyOf L) (dupsBelow L (nodeCount L)) (getD next′ γ 0) γ (drop (suc i) trace) ≡ hasTrace sizes (policyOf L) (dupsBelow L (nodeCount L)) α trace
           unfolding runs
           onward L s =
               ap₂ (λ (m : ℕ) (t : List ℕ). runs sizes (policyOf L) (dupsBelow L (nodeCount L)) m γ t)
-              (ap (λ (j : ℕ). getD next′ j 0) at ∙ next-is (f .blank) st (stands-at (f .packet) s) γ packet-inside)
+              (next-is (f .blank) st (stands-at (f .packet) s) γ packet-inside)
               rest-is
               ∙ sym (ap (runs sizes (policyOf L) (dupsBelow L (nodeCount L)) state β) (drop-cons trace i 0 left-over ∙ ap (λ (t : List ℕ). γ ∷ t) rest-is))
               ∙ f .rest L s
@@ -123,11 +122,11 @@ module _ {sizes nodes tests : List ℕ} {count α : ℕ} {trace work : List ℕ}
               rest-is : drop (suc i) trace ≡ getD trace (suc i) 0 ∷ drop (suc (suc i)) trace
               rest-is = drop-cons trace (suc i) 0 (omega arith)
 
-          pub following-more : {next″ : List ℕ} → Blank next″ → Following sizes nodes tests α trace work next″ (getD next′ k 0) γ work₂ (suc i)
+          pub following-more : {next″ : List ℕ} → Blank next″ → Following sizes nodes tests α trace work next″ (getD next′ γ 0) γ work₂ (suc i)
           following-more b = record { within = left-over; packet = packet-inside; blank = b; rest = onward; kept = st .kept ∙ f .kept }
 
           -- nothing can follow
-          pub dead-end : getD next′ k 0 ≡ 0 → LoadedFollowed sizes nodes tests α trace work false work₂
+          pub dead-end : getD next′ γ 0 ≡ 0 → LoadedFollowed sizes nodes tests α trace work false work₂
           dead-end e =
               record {
                 answers = λ L s.

@@ -40,12 +40,6 @@ fn lowest_bad(count: u16, entering: u16, trace: &[u16]) -> Place
     Place::Nowhere
 }
 
-fn wide(x: u16) -> usize
-    ensures { λ r. ⌜ r ≡ x ⌝ }
-{
-    x as usize
-}
-
 // Has the loaded policy the trace? Its state is followed along the trace; count is the packet count.
 // The work list is 0 in its first 16,384 words before, and as it was after.
 fn follows(
@@ -60,7 +54,7 @@ fn follows(
     requires { ⌜ LoadedReady (now sizes) (now nodes) (now tests) count entering (now trace) (now work) ⌝ }
     ensures { λ r. ⌜ LoadedFollowed (now (sizes .entry)) (now (nodes .entry)) (now (tests .entry)) entering (now (trace .entry)) (now (work .entry)) r (now (work .exit)) ⌝ }
 {
-    let words = packet_set::words_for(wide(count));
+    let words = packet_set::words_for(count as usize);
     let mut next = [0u32; 1056];
     let mut state = 1;
     let mut packet = entering;
@@ -83,7 +77,7 @@ fn follows(
         if i == trace.len() {
             return packet_set::contains(&output, packet);
         }
-        state = next[wide(packet)];
+        state = next[packet as usize];
         if state == 0 {
             return false;
         }
