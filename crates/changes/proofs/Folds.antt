@@ -19,7 +19,7 @@ use Rattle.packet.specs.Sizes.{product, LegalSizes}
 use Rattle.packet.proofs.Packets.{value-by-stride, changed-by-stride, changed-below, changed-reads}
 use Rattle.packet.proofs.Tests.{T-true, true-T, and-true, or-true}
 use Rattle.packet_set.specs.Bits.{bit}
-use Rattle.packet_set.specs.Members.{member, wordsFor, emptySet}
+use Rattle.packet_set.specs.InnerMembers.{member, wordsFor, emptySet}
 use Rattle.packet_set.proofs.Digits.{bit-or, bit-and, bit-shift, bit-of-zero}
 use Rattle.spans.proofs.Sets.{no-packet}
 use Rattle.loaded.specs.Loading.{SetOf, withValue}

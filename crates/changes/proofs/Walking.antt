@@ -17,7 +17,7 @@ use Rattle.packet.proofs.Legal.{product-positive}
 use Rattle.packet.proofs.Packets.{value-by-stride, changed-by-stride, changed-below, stride-positive}
 use Rattle.packet.proofs.Tests.{T-true, true-T, or-true, or-false}
 use Rattle.policy.specs.Legality.{badField}
-use Rattle.packet_set.specs.Members.{member, emptySet, withPacket, lowestIn, lowestAnswer}
+use Rattle.packet_set.specs.InnerMembers.{member, emptySet, withPacket, lowestIn, lowestAnswer}
 use Rattle.packet_set.specs.declared.Lowest.{Lowest}
 use Rattle.packet_set.specs.declared.Lowest.the-variants.{At, Nothing}
 use Rattle.packet_set.proofs.Words.{member-empty, member-with, length-with}

@@ -8,7 +8,7 @@ use lib.Dec.{T}
 use Rattle.packet.specs.Packets.{changed}
 use Rattle.packet.specs.Sizes.{product, LegalSizes}
 use Rattle.policy.specs.Legality.{badField}
-use Rattle.packet_set.specs.Members.{member}
+use Rattle.packet_set.specs.InnerMembers.{member}
 use Rattle.spans.specs.Spans.{Spanned}
 
 -- what a change asks: a field and a value of it that are declared, and a set of packets below N

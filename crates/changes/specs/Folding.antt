@@ -5,7 +5,7 @@ use mathlib.Core.Path.{_≡_}
 use lib.Dec.{T}
 use lib.ListN.{length, getD}
 use Rattle.packet_set.specs.Bits.{bit}
-use Rattle.packet_set.specs.Members.{member}
+use Rattle.packet_set.specs.InnerMembers.{member}
 
 -- the word has the 32 bits from bit b on of two words
 pub record Joined (low high b word : ℕ) : Type 0 where

@@ -15,7 +15,7 @@ use Rattle.packet.proofs.Tests.{xor-same}
 use Rattle.policy.specs.Legality.{Legal}
 use Rattle.policy.specs.NodeLists.{NodeLists}
 use Rattle.loaded.specs.Loaded.{Loaded}
-use Rattle.packet_set.specs.Members.{member, lowestIn, lowestAnswer, exclusiveOrOf, emptySet, wordsFor}
+use Rattle.packet_set.specs.InnerMembers.{member, lowestIn, lowestAnswer, exclusiveOrOf, emptySet, wordsFor}
 use Rattle.packet_set.specs.declared.Lowest.{Lowest}
 use Rattle.packet_set.specs.declared.Lowest.the-variants.{At, Nothing}
 use Rattle.packet_set.proofs.Walk.{lowest-in-only, lowest-as, found-at, found-none}

@@ -8,7 +8,7 @@ use lib.ListN.{length, getD}
 use Rattle.packet.specs.Sizes.{product, LegalSizes}
 use Rattle.policy.specs.Legality.{Legal}
 use Rattle.policy.specs.NodeLists.{NodeLists}
-use Rattle.packet_set.specs.Members.{member, lowestIn, exclusiveOrOf}
+use Rattle.packet_set.specs.InnerMembers.{member, lowestIn, exclusiveOrOf}
 use Rattle.system.specs.System as system
 use Rattle.system.specs.RowOrder.{lowestTelling}
 use Rattle.pair.specs.Sides.{Side, left, right, policies}

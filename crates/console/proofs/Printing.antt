@@ -9,7 +9,7 @@ use Rattle.packet.specs.declared.Tested.{Tested}
 use Rattle.packet.specs.declared.Tested.the-variants.{Passed, Refused as Stopped}
 use Rattle.packet.specs.Refusals.{refusal}
 use Rattle.policy.specs.Order.{sided}
-use Rattle.policy.specs.Each.{Each}
+use Rattle.policy.specs.InnerEach.{Each}
 use Rattle.policy.specs.Legality.{Legal}
 use Rattle.policy.proofs.OrderLaws.{passing, policies-legal}
 use Rattle.system.specs.RowOrder.{held}
@@ -27,7 +27,7 @@ use Rattle.verdict.specs.Verdicts.{tellingVerdict, verdictOf, traceAfter}
 use Rattle.search.specs.Call.{SearchLists, filled, verdictAfter, lentAfter}
 use Rattle.search_texts.specs.Call.{textNodes, textPolicies, textsTests, textsAnswer, textsRows, textsVerdict, textsLeaves, TextsSearched}
 use Rattle.printing.specs.ThreeFields.{verdictLine, rowLines, traceLines}
-use Rattle.printing.specs.Wrote.{Wrote}
+use Rattle.printing.specs.InnerWrote.{Wrote}
 use Rattle.input.specs.Input.{malformed, compare, asked}
 use Rattle.printed_verdict.specs.Inner.{verdictLines, Fits}
 use Rattle.console.specs.Answer.{programLent, outputOf, programOutput, TellingPrinted, Printed, Answered}

@@ -13,7 +13,7 @@ use Rattle.grammar.specs.Tokens.{fieldNames}
 use Rattle.grammar.specs.Answer.{textTree}
 use Rattle.search_texts.specs.Call.{textPolicies, textsTests, textsAnswer, textsRows}
 use Rattle.input.specs.Input.{Asked, malformed, compare, asked}
-use Rattle.printing.specs.Wrote.{Wrote}
+use Rattle.printing.specs.InnerWrote.{Wrote}
 use Rattle.printed_verdict.specs.Output.{wordEqual, wordOfSide, refusalLine, tellingLines, outputAfter}
 
 -- it lends 4,096 rows and as long a trace

@@ -13,7 +13,7 @@ use Rattle.packet.specs.Sizes.{product}
 use Rattle.packet.proofs.Tests.{T-false}
 use Rattle.policy.specs.NodeLists.{NodeLists, nodeCount, dupsBelow, policyOf}
 use Rattle.packet_set.specs.Bits.{bit}
-use Rattle.packet_set.specs.Members.{member, emptySet}
+use Rattle.packet_set.specs.InnerMembers.{member, emptySet}
 use Rattle.packet_set.proofs.Digits.{bit-high, bit-of-zero, bits-same}
 use Rattle.packet_set.proofs.Words.{member-empty}
 use Rattle.automaton.specs.State.{outputMask, nextMask}

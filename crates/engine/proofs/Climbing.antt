@@ -10,7 +10,7 @@ use Rattle.packet.specs.Sizes.{product}
 use Rattle.policy.specs.declared.Node.the-variants.{Seq, Star}
 use Rattle.policy.specs.Legality.{Legal}
 use Rattle.policy.specs.NodeLists.{NodeLists, nodeCount, nodeAt, children}
-use Rattle.packet_set.specs.Members.{Members, Within}
+use Rattle.packet_set.specs.InnerMembers.{Members, Within}
 use Rattle.loaded.specs.Nodes.{testsAt, upAt}
 use Rattle.loaded.specs.Loaded.{Linked, Rises, ends, rises, DupAt, Loaded}
 use Rattle.engine.specs.Going.{Way, by-rule, out-of, Goes, let-out, resting, repeating, Through}

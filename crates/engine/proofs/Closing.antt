@@ -16,7 +16,7 @@ use Rattle.policy.specs.declared.Node.the-variants.{Drop, Id, Field, Dup, Sum, 
 use Rattle.policy.specs.Legality.{Legal}
 use Rattle.policy.specs.Meaning.{numbered}
 use Rattle.policy.specs.NodeLists.{NodeLists, nodeCount, nodeAt, children, dupsBelow}
-use Rattle.packet_set.specs.Members.{Members}
+use Rattle.packet_set.specs.InnerMembers.{Members}
 use Rattle.automaton.specs.Remainder.{HasDup}
 use Rattle.automaton.specs.Reaches.{Passes, Reaches}
 use Rattle.automaton.proofs.Spines.{meets-iff, meets-has, rem-has, rem-meets-of}

@@ -6,7 +6,7 @@ use mathlib.Core.Logic.{_⊎_, inl, inr, ⊎-elim}
 use mathlib.Core.Path.{_≡_, refl, sym, subst}
 use lib.Dec.{T, eqb, eqb→eq}
 use lib.ListN.{getD}
-use Rattle.packet_set.specs.Members.{Members, Within}
+use Rattle.packet_set.specs.InnerMembers.{Members, Within}
 use Rattle.automaton.proofs.Tests.{both, either, eqb-true}
 use Rattle.loaded.specs.Nodes.{slotIn, guardAt}
 

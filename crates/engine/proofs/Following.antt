@@ -16,7 +16,7 @@ use Rattle.policy.specs.declared.Node.the-variants.{Seq, Star}
 use Rattle.policy.specs.Legality.{maxDups}
 use Rattle.policy.specs.NodeLists.{NodeLists, nodeCount, nodeAt, dupsBelow, policyOf, children}
 use Rattle.packet_set.specs.Bits.{bit}
-use Rattle.packet_set.specs.Members.{Members, member, emptySet, withPacket}
+use Rattle.packet_set.specs.InnerMembers.{Members, member, emptySet, withPacket}
 use Rattle.packet_set.specs.declared.Lowest.{Lowest}
 use Rattle.packet_set.proofs.Digits.{bit-of-zero}
 use Rattle.packet_set.proofs.Walk.{LowestIn, found-at, found-none}

@@ -4,7 +4,7 @@ use mathlib.Core.List.{List}
 use mathlib.Core.Path.{_≡_, _∙_, sym}
 use lib.Dec.{T}
 use Rattle.policy.specs.NodeLists.{NodeLists}
-use Rattle.packet_set.specs.Members.{Members, Within}
+use Rattle.packet_set.specs.InnerMembers.{Members, Within}
 use Rattle.loaded.specs.Nodes.{upAt}
 use Rattle.engine.specs.Going.{Way, out-of, Goes, blocked, noted, ruled, tested, changing, recorded, branching, starting, turning, let-out, resting, repeating}
 

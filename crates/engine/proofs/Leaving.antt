@@ -13,11 +13,11 @@ use Rattle.policy.specs.declared.FieldAction.the-variants.{Equals, Differs, Set
 use Rattle.policy.specs.declared.Node.{Node}
 use Rattle.policy.specs.declared.Node.the-variants.{Drop, Id, Field, Dup, Sum, Seq, Star}
 use Rattle.policy.specs.Legality.{InFields, badField, fieldOf, valueOf, maxDups}
-use Rattle.policy.specs.Each.{Each}
+use Rattle.policy.specs.InnerEach.{Each}
 use Rattle.policy.specs.NodeLists.{NodeLists, nodeCount, nodeAt, dupsBelow, children, grow}
 use Rattle.policy.proofs.LabelLaws.{dups-more}
 use Rattle.policy.proofs.Trees.{children-below, tree-fields}
-use Rattle.packet_set.specs.Members.{Members, Within, member, emptySet}
+use Rattle.packet_set.specs.InnerMembers.{Members, Within, member, emptySet}
 use Rattle.packet_set.proofs.Words.{member-empty}
 use Rattle.automaton.proofs.Tests.{both, either, eqb-true, T-true}
 use Rattle.spans.proofs.Sets.{no-packet}

@@ -9,7 +9,7 @@ use Rattle.packet.specs.Sizes.{product}
 use Rattle.policy.specs.declared.FieldAction.the-variants.{Set}
 use Rattle.policy.specs.declared.Node.{Node}
 use Rattle.policy.specs.declared.Node.the-variants.{Drop, Id, Field, Dup, Sum, Seq, Star}
-use Rattle.policy.specs.Each.{Each}
+use Rattle.policy.specs.InnerEach.{Each}
 use Rattle.policy.specs.Legality.{Legal}
 use Rattle.policy.specs.Meaning.{Packets, numbered, Traces}
 use Rattle.policy.specs.NodeLists.{NodeLists, nodeCount, nodeAt, children, dupsBelow, grow, treeAt, policyOf}

@@ -10,7 +10,7 @@ use native.Mathlib.Omega.{arith}
 use lib.Dec.{T, eqb, eqb→eq, ltb, ltb→lt}
 use lib.ListN.{length, getD, replicate}
 use Rattle.packet.specs.Sizes.{product}
-use Rattle.packet_set.specs.Members.{Members, Within, member}
+use Rattle.packet_set.specs.InnerMembers.{Members, Within, member}
 use Rattle.packet_set.specs.Bits.{bit}
 use Rattle.packet_set.proofs.Digits.{bit-of-zero}
 use Rattle.automaton.proofs.Tests.{both, either, eqb-true}

@@ -10,7 +10,7 @@ use Rattle.policy.specs.declared.Node.the-variants.{Star}
 use Rattle.policy.specs.Legality.{Legal}
 use Rattle.policy.specs.Meaning.{numbered}
 use Rattle.policy.specs.NodeLists.{NodeLists, nodeCount, nodeAt}
-use Rattle.packet_set.specs.Members.{Members, Within}
+use Rattle.packet_set.specs.InnerMembers.{Members, Within}
 use Rattle.automaton.specs.Reaches.{Passes, Reaches}
 use Rattle.automaton.proofs.Tests.{both, either, eqb-true}
 use Rattle.loaded.specs.Nodes.{testsAt, upAt, guardAt}

@@ -14,7 +14,7 @@ use Rattle.packet.specs.Sizes.{product}
 use Rattle.policy.specs.Legality.{maxDups}
 use Rattle.policy.specs.NodeLists.{NodeLists, nodeCount, dupsBelow}
 use Rattle.packet_set.specs.Bits.{bit}
-use Rattle.packet_set.specs.Members.{member}
+use Rattle.packet_set.specs.InnerMembers.{member}
 use Rattle.packet_set.proofs.Digits.{bit-of-zero, bit-shift}
 use Rattle.automaton.proofs.Tests.{true-T}
 use Rattle.spans.specs.Spans.{slot, hasMark, Spanned, Unseen}

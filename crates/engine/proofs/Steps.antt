@@ -15,7 +15,7 @@ use Rattle.policy.specs.Meaning.{numbered}
 use Rattle.policy.specs.NodeLists.{NodeLists, nodeCount, dupsBelow, policyOf}
 use Rattle.policy.specs.Tree.{Policy}
 use Rattle.packet_set.specs.Bits.{bit}
-use Rattle.packet_set.specs.Members.{Members, Within}
+use Rattle.packet_set.specs.InnerMembers.{Members, Within}
 use Rattle.automaton.specs.Remainder.{remainder, HasDup, Evaluable}
 use Rattle.automaton.specs.Reaches.{Passes, Reaches}
 use Rattle.automaton.specs.State.{Marks, outputMask, nextMask, StateTraces}

@@ -11,7 +11,7 @@ use Rattle.policy.specs.declared.FieldAction.the-variants.{Set}
 use Rattle.policy.specs.declared.Node.the-variants.{Field, Dup, Sum, Seq}
 use Rattle.policy.specs.Legality.{Legal}
 use Rattle.policy.specs.NodeLists.{NodeLists, nodeCount, nodeAt, dupsBelow}
-use Rattle.packet_set.specs.Members.{Members, Within}
+use Rattle.packet_set.specs.InnerMembers.{Members, Within}
 use Rattle.automaton.specs.Reaches.{Passes}
 use Rattle.automaton.proofs.Tests.{both, either, eqb-true}
 use Rattle.loaded.specs.Nodes.{testsAt, upAt, guardAt}

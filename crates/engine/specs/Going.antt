@@ -13,7 +13,7 @@ use Rattle.policy.specs.declared.Node.the-variants.{Drop, Id, Field, Dup, Sum, 
 use Rattle.policy.specs.Legality.{Legal}
 use Rattle.policy.specs.Meaning.{numbered}
 use Rattle.policy.specs.NodeLists.{NodeLists, nodeCount, nodeAt, dupsBelow}
-use Rattle.packet_set.specs.Members.{Members, Within, member}
+use Rattle.packet_set.specs.InnerMembers.{Members, Within, member}
 use Rattle.automaton.specs.Reaches.{Passes, Reaches}
 use Rattle.spans.specs.Spans.{slot, hasMark, touched, Spanned}
 use Rattle.loaded.specs.Nodes.{testsAt, upAt, guardAt}

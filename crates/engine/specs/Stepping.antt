@@ -12,7 +12,7 @@ use Rattle.policy.specs.Legality.{Legal}
 use Rattle.policy.specs.Meaning.{numbered}
 use Rattle.policy.specs.NodeLists.{NodeLists, nodeCount, dupsBelow, policyOf}
 use Rattle.packet_set.specs.Bits.{bit}
-use Rattle.packet_set.specs.Members.{Members, Within, member}
+use Rattle.packet_set.specs.InnerMembers.{Members, Within, member}
 use Rattle.automaton.specs.Remainder.{remainder}
 use Rattle.automaton.specs.Reaches.{Passes, Reaches}
 use Rattle.automaton.specs.State.{Marks, outputMask, nextMask}

@@ -10,7 +10,7 @@ use Rattle.policy.specs.declared.FieldAction.the-variants.{Set}
 use Rattle.policy.specs.declared.Node.{Node}
 use Rattle.policy.specs.declared.Node.the-variants.{Drop, Id, Field, Dup, Sum, Seq, Star}
 use Rattle.policy.specs.NodeLists.{NodeLists}
-use Rattle.packet_set.specs.Members.{member}
+use Rattle.packet_set.specs.InnerMembers.{member}
 use Rattle.spans.specs.Spans.{slot, Spanned, Holds, Noted}
 use Rattle.changes.specs.Changes.{Changed}
 use Rattle.engine.specs.Going.{ThroughLists, VisitReady}

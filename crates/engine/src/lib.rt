@@ -5,7 +5,7 @@ ghost use mathlib.Core.Bool.{false, _&&_};
 ghost use mathlib.Core.Path.{_≡_};
 ghost use lib.ListN.{length, getD};
 ghost use Rattle.policy.specs.Legality.{fieldOf, valueOf};
-ghost use Rattle.packet_set.specs.Members.{member};
+ghost use Rattle.packet_set.specs.InnerMembers.{member};
 ghost use Rattle.spans.specs.Spans.{Spanned};
 ghost use Rattle.loaded.specs.Nodes.{setIn, guardAt};
 ghost use Rattle.changes.specs.Changes.{Changing};

@@ -36,7 +36,7 @@ use Rattle.lent_lists.proofs.Testing.{front-tests, tests-passed, pair-lent, len
 use Rattle.evidence.specs.declared.Evidence.{Evidence}
 use Rattle.evidence.specs.declared.Evidence.the-variants.{Accepted, RuleA, RuleB, RuleC, RuleD, Refused as NotChecked}
 use Rattle.evidence.specs.Calls.{asEvidence, evidenceOf, evidenceTests, evidenceCall, HoldRowOrder, CheckedRows}
-use Rattle.evidence.specs.Steps.{LentTable, TableChecked}
+use Rattle.evidence.specs.InnerSteps.{LentTable, TableChecked}
 
 -- ---- the cases of the answer tell the rule and the spot
 

@@ -38,7 +38,7 @@ use Rattle.row_rules.specs.declared.Spot.{Spot}
 use Rattle.row_rules.specs.declared.Spot.the-variants.{At, Nowhere}
 use Rattle.row_rules.specs.Presence.{spotOf, nextMissing, Repeated}
 use Rattle.evidence.specs.Calls.{asEvidence}
-use Rattle.evidence.specs.Steps.{rowTold, TableReady, RowChecked, RowsChecked}
+use Rattle.evidence.specs.InnerSteps.{rowTold, TableReady, RowChecked, RowsChecked}
 use Rattle.evidence.proofs.Joining.{lowest-agree, missing-is}
 use Rattle.evidence.proofs.Repeats.{repeat-keeps}
 

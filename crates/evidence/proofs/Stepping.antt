@@ -26,7 +26,7 @@ use Rattle.row_rules.specs.declared.Spot.{Spot}
 use Rattle.row_rules.specs.declared.Spot.the-variants.{At, Nowhere}
 use Rattle.row_rules.specs.Presence.{spotOf, strays, startMissing}
 use Rattle.evidence.specs.Calls.{asEvidence}
-use Rattle.evidence.specs.Steps.{LentTable, Cleared, Vacant, TableReady, RowsChecked, StartsChecked, TableChecked}
+use Rattle.evidence.specs.InnerSteps.{LentTable, Cleared, Vacant, TableReady, RowsChecked, StartsChecked, TableChecked}
 use Rattle.evidence.proofs.Joining.{lowest-stray, packets-small, lowest-start}
 
 -- the spot found, as the lowest of a test

@@ -6,7 +6,7 @@ ghost use Rattle.policy.specs.AsLists.{asLists};
 ghost use Rattle.policy.specs.NodeLists.{dupsBelow, nodeCount};
 ghost use Rattle.compare.specs.Comparison.{BothBlank};
 ghost use Rattle.evidence.specs.Calls.{CheckedRows};
-ghost use Rattle.evidence.specs.Steps.{LentTable, Cleared, Vacant, TableReady, RowChecked, RowsChecked, StartsChecked, TableChecked};
+ghost use Rattle.evidence.specs.InnerSteps.{LentTable, Cleared, Vacant, TableReady, RowChecked, RowsChecked, StartsChecked, TableChecked};
 use compare::Compared;
 use index::Mask;
 use index::POLICIES;

@@ -17,7 +17,7 @@ use Rattle.policy.specs.NodesOfTree.{treeSize}
 use Rattle.grammar.specs.declared.Answer.{Answer}
 use Rattle.grammar.specs.declared.Answer.the-variants.{Nodes, Refused}
 use Rattle.grammar.specs.Tokens.{Token, Placed, constant, field, number, comparison, plus, semicolon, asterisk, opening, closing, bad, isBad, tokens, fieldNames}
-use Rattle.grammar.specs.Kinds.{kindOf, frontKind, frontPlace, afterFront, openAfterKind}
+use Rattle.grammar.specs.InnerKinds.{kindOf, frontKind, frontPlace, afterFront, openAfterKind}
 use Rattle.grammar.specs.Reading.{tree}
 use Rattle.grammar.specs.Answer.{badPlace, openAfter, deepPlace, stopPlace, treeRead, tooMany, answered, outcome, textTree, tested, answerTo, leftBy, shortest, TextRead}
 

@@ -13,7 +13,7 @@ use Rattle.policy.specs.Tree
 use Rattle.policy.specs.NodesOfTree.{treeSize}
 use Rattle.grammar.specs.declared.Answer.the-variants.{Nodes}
 use Rattle.grammar.specs.Tokens.{Token, Placed, Constant, Comparison, passed, equals, constant, field, number, comparison, plus, semicolon, asterisk, opening, closing, bad, isBad, tokens}
-use Rattle.grammar.specs.Kinds.{frontPlace}
+use Rattle.grammar.specs.InnerKinds.{frontPlace}
 use Rattle.grammar.specs.Grammar.{constantPolicy, fieldAction, Item, Starred, Sequence, Sum, word, action, parentheses, item, starred, single, sequenced, alone, summed}
 use Rattle.grammar.specs.Reading.{Before, nothing, joinSequence, joinSum, upTo, whole, State, wants, named, compared, has, start, close, step, Outcome, tree, stop, finish, readOn}
 use Rattle.grammar.specs.Answer.{badPlace, deepPlace, stopPlace, treeRead, outcome, textTree, answerTo}

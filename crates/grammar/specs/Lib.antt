@@ -1,6 +1,6 @@
 pub mod Bytes
 pub mod Tokens
-pub mod Kinds
+pub mod InnerKinds
 pub mod Grammar
 pub mod Reading
 pub mod Answer

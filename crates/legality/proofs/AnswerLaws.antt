@@ -22,7 +22,7 @@ use Rattle.legality.specs.declared.PolicyTested.{PolicyTested}
 use Rattle.legality.specs.declared.PairTested.{PairTested}
 use Rattle.tree_causes.specs.declared.DupCount.{DupCount}
 use Rattle.policy.specs.AsLists.{asLists}
-use Rattle.policy.specs.Each.{Each}
+use Rattle.policy.specs.InnerEach.{Each}
 use Rattle.policy.specs.NodeLists.{NodeLists, nodeCount, dupsBelow}
 use Rattle.policy.specs.Legality.{badLengths, badKind, badEntries, badChild, notOnce, Legal}
 use Rattle.policy.specs.Order.{inOrder, Cause, causes, Sided, sided, cause, policiesStage, stagesOf, pairOf, policyTests, pairTests, oneOr, placeAmong, causePlace}

@@ -13,7 +13,7 @@ use Rattle.packet.proofs.Stages.{refusedAt-passed, atPlace-none}
 use Rattle.policy.specs.Order.{inOrder, sided, stagesOf, pairOf, pairTests}
 use Rattle.legality.specs.declared.PairTested.{PairTested}
 use Rattle.legality.specs.Answers.{FrontOf}
-use Rattle.policy.specs.Each.{Each}
+use Rattle.policy.specs.InnerEach.{Each}
 use Rattle.policy.specs.Legality.{Legal}
 use Rattle.policy.specs.NodeLists.{NodeLists}
 use Rattle.policy.proofs.OrderLaws.{passing, sizes-legal, policies-legal, still-passing}

@@ -13,7 +13,7 @@ use Rattle.packet.specs.Sizes.{product}
 use Rattle.policy.specs.declared.FieldAction.the-variants.{Equals, Differs, Set}
 use Rattle.policy.specs.declared.Node.{Node}
 use Rattle.policy.specs.declared.Node.the-variants.{Drop, Id, Field, Dup, Sum, Seq, Star}
-use Rattle.policy.specs.Each.{Each}
+use Rattle.policy.specs.InnerEach.{Each}
 use Rattle.policy.specs.Meaning.{numbered, Traces}
 use Rattle.policy.specs.NodeLists.{NodeLists, nodeCount, nodeAt, nodeOf, children, dupsBelow, grow, one}
 use Rattle.policy.specs.Tree.{Policy}

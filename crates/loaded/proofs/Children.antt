@@ -5,7 +5,7 @@ use mathlib.Core.Logic.{by-cases}
 use mathlib.Core.Path.{_≡_, refl, sym, ap, subst}
 use native.Mathlib.Decide.{ℕ-discrete}
 use native.Mathlib.Omega.{arith}
-use Rattle.policy.specs.Each.{Each}
+use Rattle.policy.specs.InnerEach.{Each}
 use Rattle.policy.specs.Legality.{occurrences, timesChild}
 use Rattle.policy.specs.NodeLists.{NodeLists, nodeCount, nodeAt, children}
 use Rattle.policy.proofs.EachLaws.{each-map, one-same}

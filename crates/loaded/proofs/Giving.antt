@@ -12,13 +12,13 @@ use lib.Seq.{getD-set-same, getD-set-other}
 use Rattle.packet.proofs.Tests.{lt-or-le, clash}
 use Rattle.policy.specs.declared.Node.{Node}
 use Rattle.policy.specs.declared.Node.the-variants.{Drop, Id, Field, Dup, Sum, Seq, Star}
-use Rattle.policy.specs.Each.{Each}
+use Rattle.policy.specs.InnerEach.{Each}
 use Rattle.policy.specs.Legality.{occurrences, timesChild}
 use Rattle.policy.specs.NodeLists.{NodeLists, nodeCount, nodeAt, children, grow, one}
 use Rattle.policy.proofs.EachLaws.{each-map, one-same}
 use Rattle.policy.proofs.Trees.{two-below, one-below}
 use Rattle.policy.proofs.VisitLaws.{no-child}
-use Rattle.packet_set.specs.Members.{member}
+use Rattle.packet_set.specs.InnerMembers.{member}
 use Rattle.spans.specs.Spans.{slot}
 use Rattle.loaded.specs.Loaded.{treeOf}
 use Rattle.loaded.specs.Loading.{Formed, Alone, TestNode, pick, testUnder, SetOf, Kept, Gave, Numbered}

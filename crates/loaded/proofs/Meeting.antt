@@ -13,7 +13,7 @@ use lib.ListN.{length, getD, set, length-set, List·getD-eq-default}
 use lib.Seq.{getD-set-same, getD-set-other}
 use Rattle.packet.proofs.Tests.{lt-or-le}
 use Rattle.packet_set.specs.Bits.{bit}
-use Rattle.packet_set.specs.Members.{member, wordwise}
+use Rattle.packet_set.specs.InnerMembers.{member, wordwise}
 use Rattle.packet_set.proofs.Digits.{bit-and, bit-of-zero}
 use Rattle.packet_set.proofs.Words.{length-wordwise, wordwise-below}
 use Rattle.spans.specs.Spans.{slot}

@@ -15,7 +15,7 @@ use Rattle.packet.proofs.Packets.{value-by-stride, stride-positive}
 use Rattle.packet.proofs.Sizes.{product-from}
 use Rattle.packet.proofs.Tests.{lt-or-le}
 use Rattle.policy.specs.Legality.{badField}
-use Rattle.packet_set.specs.Members.{member, emptySet, withPacket}
+use Rattle.packet_set.specs.InnerMembers.{member, emptySet, withPacket}
 use Rattle.packet_set.proofs.Words.{member-empty, member-with, length-with}
 use Rattle.automaton.proofs.Tests.{T-false, eqb-true, same-test, both, either}
 use Rattle.loaded.specs.Loading.{SetOf, Ran, everyPacket, withValue}

@@ -18,10 +18,10 @@ use Rattle.policy.specs.declared.Node.{Node}
 use Rattle.policy.specs.declared.Node.the-variants.{Drop, Id, Field, Dup, Sum, Seq, Star}
 use Rattle.policy.specs.Legality.{badField, fieldOf, valueOf, InFields}
 use Rattle.policy.specs.NodeLists.{NodeLists, nodeAt, children, dupsBelow, grow}
-use Rattle.policy.specs.Transport.{EachAction}
+use Rattle.policy.specs.InnerTransport.{EachAction}
 use Rattle.policy.specs.Tree.{Policy, drop, field, dup, star}
 use Rattle.policy.proofs.Trees.{two-below, tree-fields}
-use Rattle.packet_set.specs.Members.{member, emptySet, unionOf, exclusiveOrOf}
+use Rattle.packet_set.specs.InnerMembers.{member, emptySet, unionOf, exclusiveOrOf}
 use Rattle.packet_set.proofs.Words.{length-wordwise, member-empty, member-union, member-exclusive-or, length-union}
 use Rattle.loaded.specs.Loaded.{treeOf}
 use Rattle.loaded.specs.Loading.{Formed, SetOf, Met, everyPacket, withValue, Fielding, Loading, TestNode}

@@ -9,7 +9,7 @@ use lib.ListN.{length, getD, set, replicate, length-set, getD-replicate}
 use lib.Seq.{getD-set-same, getD-set-other}
 use Rattle.policy.specs.declared.Node.{Node}
 use Rattle.policy.specs.declared.Node.the-variants.{Drop, Id, Field, Dup, Sum, Seq, Star}
-use Rattle.policy.specs.Each.{Each}
+use Rattle.policy.specs.InnerEach.{Each}
 use Rattle.policy.specs.Legality.{occurrences}
 use Rattle.policy.specs.NodeLists.{NodeLists, nodeCount, nodeAt, children, one}
 use Rattle.policy.proofs.EachLaws.{each-map}

@@ -11,11 +11,11 @@ use Rattle.policy.specs.declared.FieldAction.{FieldAction}
 use Rattle.policy.specs.declared.FieldAction.the-variants.{Equals, Differs, Set}
 use Rattle.policy.specs.declared.Node.{Node}
 use Rattle.policy.specs.declared.Node.the-variants.{Drop, Id, Field, Dup, Sum, Seq, Star}
-use Rattle.policy.specs.Each.{Each}
+use Rattle.policy.specs.InnerEach.{Each}
 use Rattle.policy.specs.Legality.{Legal, badField, fieldOf, valueOf}
 use Rattle.policy.specs.Meaning.{numbered}
 use Rattle.policy.specs.NodeLists.{NodeLists, nodeCount, nodeAt, children, dupsBelow, one}
-use Rattle.packet_set.specs.Members.{Members, member}
+use Rattle.packet_set.specs.InnerMembers.{Members, member}
 use Rattle.spans.specs.Spans.{slot}
 use Rattle.loaded.specs.Loaded.{treeOf, Linked, Rises, DupAt}
 use Rattle.loaded.specs.Tests.{isTest, passing}

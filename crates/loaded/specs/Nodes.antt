@@ -8,7 +8,7 @@ use lib.Dec.{eqb}
 use lib.ListN.{getD}
 use Rattle.policy.specs.declared.Node.{Node}
 use Rattle.policy.specs.NodeLists.{nodeOf}
-use Rattle.packet_set.specs.Members.{Members}
+use Rattle.packet_set.specs.InnerMembers.{Members}
 use Rattle.spans.specs.Spans.{slot}
 
 unfoldable pub nodeIn : ℕ → Node

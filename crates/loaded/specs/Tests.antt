@@ -7,7 +7,7 @@ use Rattle.packet.specs.Packets.{valueAt}
 use Rattle.packet.specs.Sizes.{product}
 use Rattle.policy.specs.declared.FieldAction.the-variants.{Equals, Differs, Set}
 use Rattle.policy.specs.Tree.{Policy, drop, id, field, dup, sum, seq, star}
-use Rattle.packet_set.specs.Members.{Members}
+use Rattle.packet_set.specs.InnerMembers.{Members}
 
 -- made of tests alone
 unfoldable pub isTest : Policy → Bool

@@ -7,7 +7,7 @@ ghost use Rattle.packet.specs.Sizes.{product, LegalSizes};
 ghost use Rattle.policy.specs.AsLists.{asLists};
 ghost use Rattle.policy.specs.Legality.{badField};
 ghost use Rattle.policy.specs.Tree.{field};
-ghost use Rattle.packet_set.specs.Members.{member};
+ghost use Rattle.packet_set.specs.InnerMembers.{member};
 ghost use Rattle.loaded.specs.Loaded.{treeOf};
 ghost use Rattle.loaded.specs.Loading.{Ran, SetOf, Met, everyPacket, withValue, Fielding, Loading, TestNode, Kept};
 ghost use Rattle.loaded.specs.Tests.{passing};

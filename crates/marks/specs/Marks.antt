@@ -7,7 +7,7 @@ use mathlib.Core.Path.{_≡_}
 use lib.Dec.{T}
 use lib.ListN.{length, getD}
 use Rattle.packet_set.specs.Bits.{bit}
-use Rattle.packet_set.specs.Members.{Members}
+use Rattle.packet_set.specs.InnerMembers.{Members}
 use Rattle.spans.specs.Spans.{touched}
 
 -- a packet that is not touched has no mark, and touched packets are below N

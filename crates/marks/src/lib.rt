@@ -5,7 +5,7 @@ ghost use mathlib.Core.Path.{_≡_};
 ghost use mathlib.Core.Bool.{_||_};
 ghost use lib.Dec.{T};
 ghost use lib.ListN.{length};
-ghost use Rattle.packet_set.specs.Members.{member};
+ghost use Rattle.packet_set.specs.InnerMembers.{member};
 ghost use Rattle.spans.specs.Spans.{touched};
 ghost use Rattle.marks.specs.Marks.{Blank, Marking, Unmarked, NextMarked, Forgotten};
 use packet_set::Lowest;

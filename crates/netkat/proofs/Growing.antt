@@ -17,8 +17,8 @@ use mir.ValLaws.{toZ-ofZ}
 use borrow.Author.Tests.{lt-ltb, ltb-true}
 use Rattle.io.specs.Counts.{clamped}
 use Rattle.libc.specs.Io.{Moved}
-use Rattle.printing.specs.Wrote.{Wrote}
-use Rattle.netkat.specs.Reading.{added, lengthAfter, bytesAfter, goesOn, AfterRead, ReadOnce, GoneOn, ReadAll, to-end, endless}
+use Rattle.printing.specs.InnerWrote.{Wrote}
+use Rattle.netkat.specs.InnerReading.{added, lengthAfter, bytesAfter, goesOn, AfterRead, ReadOnce, GoneOn, ReadAll, to-end, endless}
 
 -- what there is room for is written where no more than the whole chunk is
 pub wrote-room : {old new : List ℕ} (chunk : List ℕ) (room : ℕ) {at end n : ℕ} → n ≡ min room (length chunk) → Wrote old new at end (take n chunk) → Wrote old new at end (take room chunk)

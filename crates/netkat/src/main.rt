@@ -4,9 +4,9 @@ use libc::STDOUT_FILENO;
 ghost use mathlib.Core.Path.{_≡_};
 ghost use Prim.Native.Nat.{_-_, _≤_, min};
 ghost use lib.ListN.{length, take};
-ghost use Rattle.printing.specs.Wrote.{Wrote};
+ghost use Rattle.printing.specs.InnerWrote.{Wrote};
 ghost use Rattle.libc.specs.Io.{Moved};
-ghost use Rattle.netkat.specs.Reading.{AfterRead, ReadOnce, ReadAll};
+ghost use Rattle.netkat.specs.InnerReading.{AfterRead, ReadOnce, ReadAll};
 
 // How much of the input is kept, and whether there may be more.
 struct Kept {

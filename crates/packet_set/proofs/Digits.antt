@@ -11,7 +11,7 @@ use lib.Arith.{lt-one, bin-ind}
 use lib.Pow.{pow-pos, pow-mono, shr-shr, shl-exact}
 use lib.Bits.{bitOr, bitAnd, bitXor, or-shr, or-mod, and-shr, and-mod, xor-shr, xor-mod, and-mask}
 use Rattle.packet_set.specs.Bits.{bit, marked, onlyBits}
-use Rattle.packet_set.specs.Members.{without}
+use Rattle.packet_set.specs.InnerMembers.{without}
 
 -- ---- the lowest bit and the rest
 

@@ -14,7 +14,7 @@ use lib.Pow.{shr-le}
 use Rattle.packet_set.specs.Bits.{bit}
 use Rattle.packet.specs.Lowest.{lowest}
 use Rattle.packet.proofs.Lowest.{IsLowest, Found, lowest-is, lowest-only}
-use Rattle.packet_set.specs.Members.{member, lowestIn, lowestAnswer}
+use Rattle.packet_set.specs.InnerMembers.{member, lowestIn, lowestAnswer}
 use Rattle.packet_set.specs.declared.Lowest.{Lowest}
 use Rattle.packet_set.specs.declared.Lowest.the-variants.{At, Nothing}
 use Rattle.packet_set.proofs.Digits.{bit-of-zero, bit-high, bit-shift}

@@ -12,7 +12,7 @@ use lib.ListN.{length, getD, set, replicate, length-set}
 use lib.Seq.{getD-set-same, getD-set-other}
 use lib.Bits.{bitOr, bitXor}
 use Rattle.packet_set.specs.Bits.{bit, marked}
-use Rattle.packet_set.specs.Members.{member, wordsFor, emptySet, withPacket, wordwise, unionOf, exclusiveOrOf}
+use Rattle.packet_set.specs.InnerMembers.{member, wordsFor, emptySet, withPacket, wordwise, unionOf, exclusiveOrOf}
 use Rattle.packet_set.proofs.Digits.{bit-or, bit-xor, bit-of-zero, bit-marked}
 
 -- ---- a word loop: f done below i, the first set's words from i on

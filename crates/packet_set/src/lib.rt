@@ -3,7 +3,7 @@ ghost use mathlib.Core.Path.{_≡_};
 ghost use Prim.Native.Nat.{_+_, _*_, _<_, _≤_};
 ghost use lib.ListN.{length};
 ghost use Rattle.packet_set.specs.Bits.{maskBits, bit, marked, onlyBits};
-ghost use Rattle.packet_set.specs.Members.{member, wordsFor, emptySet, withPacket, unionOf, exclusiveOrOf, lowestIn, lowestAnswer};
+ghost use Rattle.packet_set.specs.InnerMembers.{member, wordsFor, emptySet, withPacket, unionOf, exclusiveOrOf, lowestIn, lowestAnswer};
 
 pub type PacketSet = [u32; 32];
 

@@ -17,7 +17,7 @@ use Rattle.packet_set.proofs.Digits.{bits-same}
 use Rattle.automaton.proofs.Laws.{outputMask-fits}
 use Rattle.system.specs.System.{System, Row}
 use Rattle.system.specs.RowOrder.{startEntry, NeedsMore, run, answer, equal as allHandled, held}
-use Rattle.system.specs.Tables.{Listed}
+use Rattle.system.specs.InnerTables.{Listed}
 use Rattle.system.proofs.Answers.{full-iff}
 use Rattle.system.proofs.Verdicts.{equal-is, silent-is}
 use Rattle.pair.specs.Sides.{Side, left, right, Pair, at, NumberedPolicy}

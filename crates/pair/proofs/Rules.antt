@@ -16,8 +16,8 @@ use Rattle.automaton.proofs.Tests.{T-true, true-T}
 use Rattle.automaton.proofs.Sets.{anyBelow-iff}
 use Rattle.system.specs.System.{System, Lawful, Row, startRow, nextRow, tells}
 use Rattle.system.specs.RowOrder.{Entry, entryAt, run, sameRow, answer, equal, held}
-use Rattle.system.specs.Tables.{Closed, InRange, Listed}
-use Rattle.system.specs.Words.{Silent}
+use Rattle.system.specs.InnerTables.{Closed, InRange, Listed}
+use Rattle.system.specs.InnerWords.{Silent}
 use Rattle.packet.proofs.Tests.{or-true, and-true, last-or-before}
 use Rattle.system.proofs.Listing.{sameRow-true, sameRow-refl}
 use Rattle.system.proofs.Runs.{invariant}

@@ -16,7 +16,7 @@ use Rattle.automaton.specs.State.{StateTraces}
 use Rattle.automaton.proofs.Tests.{same-test}
 use Rattle.automaton.proofs.Laws.{split-last, outputMask-iff, nextMask-iff, whole-iff, traces-below}
 use Rattle.system.specs.System.{Row, startRow, nextRow, tells}
-use Rattle.system.specs.Words.{Word, end, then, follow, SilentBelow, Silent}
+use Rattle.system.specs.InnerWords.{Word, end, then, follow, SilentBelow, Silent}
 use Rattle.system.proofs.Basics.{length-snoc}
 use Rattle.pair.specs.Sides.{Side, left, right, other, Pair, at, NumberedPolicy}
 use Rattle.pair.specs.Pair.{SideTraces, outputAt, nextAt, inOneOutput, pairSystem}

@@ -10,7 +10,7 @@ use lib.Seq.{getD-append-seam}
 use borrow.Author.Tests.{lt-ltb, le-ltb}
 use Rattle.policy.specs.Meaning.{SameTracesBelow}
 use Rattle.system.specs.System.{System, startRow}
-use Rattle.system.specs.Words.{follow}
+use Rattle.system.specs.InnerWords.{follow}
 use Rattle.system.specs.RowOrder.{Answer, full as moreRows, equal as allHandled, different as tellingRow, entryAt, NeedsMore, finished, telling, turn, current, run, entering, path, answer, held}
 use Rattle.packet.proofs.Tests.{lt-or-le}
 use Rattle.system.proofs.Basics.{length-snoc}

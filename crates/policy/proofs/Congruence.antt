@@ -6,7 +6,7 @@ use mathlib.Core.Path.{_≡_, refl, ap, ap₂}
 use Rattle.policy.specs.Tree.{Policy, drop, id, field, dup, sum, seq, star}
 use Rattle.policy.specs.NodesOfTree.{unlabelled}
 use Rattle.policy.specs.Meaning.{Packets, TraceSet, Seq, Power, Traces, SameTraces}
-use Rattle.policy.specs.Transport.{EachAction, Keeps}
+use Rattle.policy.specs.InnerTransport.{EachAction, Keeps}
 use Rattle.policy.proofs.TraceLaws.{Trace, in-turn, Stays, turn-declared, traces-stay}
 
 module _ (P : Packets) (Declared : P .Packet → Type 0) where

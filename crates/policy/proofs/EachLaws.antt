@@ -10,7 +10,7 @@ use lib.Dec.{eqb, leb}
 use lib.ListN.{getD}
 use borrow.Author.Tests.{leb-false, lt-leb, eq-eqb, ne-eqb}
 pub use Rattle.packet.proofs.Tests.{or-false}
-use Rattle.policy.specs.Each.{Each}
+use Rattle.policy.specs.InnerEach.{Each}
 use Rattle.policy.specs.NodeLists.{one}
 use Rattle.policy.specs.Legality.{someNotBelow, occurrences}
 

@@ -4,7 +4,7 @@ use mathlib.Core.Logic.{_⊎_, inl, inr, ⊎-elim, _↔_, Iff·trans}
 use mathlib.Core.Path.{_≡_, refl, sym, ap, _∙_, subst}
 use Rattle.policy.specs.Tree.{Policy, drop, id, sum, seq}
 use Rattle.policy.specs.Meaning.{Packets, TraceSet, Seq, Traces}
-use Rattle.policy.specs.Folds.{sums, seqs, OneOf, InTurn}
+use Rattle.policy.specs.InnerFolds.{sums, seqs, OneOf, InTurn}
 use Rattle.policy.proofs.TraceLaws.{Trace, in-turn, AllEnd, snoc-injective, traces-end}
 
 module _ (P : Packets) where

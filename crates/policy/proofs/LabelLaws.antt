@@ -13,7 +13,7 @@ use Rattle.policy.specs.declared.Node.the-variants.{Drop, Id, Field, Dup
 use Rattle.policy.specs.Tree.{Policy, sum, seq, star}
 use Rattle.policy.specs.NodeLists.{NodeLists, nodeCount, nodeAt, children, one, isDup, dupsBelow, grow, treeAt, policyOf}
 use Rattle.policy.specs.Legality.{WellFormed, Legal, occurrences}
-use Rattle.policy.specs.Each.{Each}
+use Rattle.policy.specs.InnerEach.{Each}
 use Rattle.policy.specs.Visits.{joined, visit, labels, Labelled}
 use Rattle.policy.proofs.EachLaws.{one-same, one-other, occurrences-append}
 use Rattle.policy.proofs.Trees.{ChildrenBelow, children-below, each-child}

@@ -18,7 +18,7 @@ use Rattle.packet.proofs.Stages.{firstOf-next, firstOf-passed, refusedAt-passed
 use Rattle.policy.specs.NodeLists.{NodeLists, nodeCount, nodeAt, children, dupsBelow}
 use Rattle.policy.specs.Legality.{badLengths, badKind, badEntries, badChild, notOnce, tooManyDups, maxDups, timesChild, Legal}
 use Rattle.policy.specs.Order.{Cause, causes, Sided, cause, policiesStage}
-use Rattle.policy.specs.Each.{Each}
+use Rattle.policy.specs.InnerEach.{Each}
 use Rattle.policy.proofs.EachLaws.{each-map, each-swap, or-false, below-each}
 use Rattle.policy.proofs.Trees.{ChildrenBelow}
 use Rattle.policy.proofs.VisitLaws.{no-child}

@@ -18,9 +18,9 @@ use Rattle.policy.specs.NodeLists.{nodeCount, nodeOf, nodeAt, children, 
 use Rattle.policy.specs.NodesOfTree.{Entry, entry, actionEntry, treeSize, entriesFrom, listsOf, nodesOf, unlabelled}
 use Rattle.policy.specs.Legality.{badLengths, badKind, badChild, notOnce, timesChild, maxDups, Legal}
 use Rattle.policy.specs.Legality.{InFields, badEntries, wrongEntries, used, badField, fieldOf, valueOf}
-use Rattle.policy.specs.Each.{Each}
+use Rattle.policy.specs.InnerEach.{Each}
 use Rattle.policy.specs.Visits.{labels}
-use Rattle.policy.specs.Transport.{EachAction}
+use Rattle.policy.specs.InnerTransport.{EachAction}
 use Rattle.policy.proofs.EachLaws.{each-append, each-at, below-each}
 use Rattle.policy.proofs.LegalityLaws.{Lengths, lengths}
 use Rattle.policy.proofs.Numbered.{each-action}

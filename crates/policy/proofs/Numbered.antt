@@ -15,8 +15,8 @@ use Rattle.policy.specs.declared.FieldAction.the-variants.{Equals, Diffe
 use Rattle.policy.specs.Tree.{Policy, drop, id, field, dup, sum, seq, star}
 use Rattle.policy.specs.Meaning.{Traces, declared, numbered, SameTraces, SameTracesBelow}
 use Rattle.policy.specs.Legality.{InFields, badField, fieldOf, valueOf}
-use Rattle.policy.specs.Each.{Each}
-use Rattle.policy.specs.Transport.{EachAction, Keeps, Commutes, Respects}
+use Rattle.policy.specs.InnerEach.{Each}
+use Rattle.policy.specs.InnerTransport.{EachAction, Keeps, Commutes, Respects}
 use Rattle.packet.proofs.Tests.{or-false}
 use Rattle.policy.proofs.TraceLaws.{traces-stay}
 use Rattle.policy.proofs.Congruence.{same-sum, same-seq, same-star}

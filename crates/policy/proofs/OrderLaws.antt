@@ -9,7 +9,7 @@ use Rattle.packet.specs.Refusals.{firstOf}
 use Rattle.packet.specs.Sizes.{fieldsStage, productStage, LegalSizes}
 use Rattle.packet.proofs.Legal.{passed-legal}
 use Rattle.packet.proofs.Stages.{firstOf-refused, refused≢passed}
-use Rattle.policy.specs.Each.{Each}
+use Rattle.policy.specs.InnerEach.{Each}
 use Rattle.policy.specs.Legality.{Legal}
 use Rattle.policy.specs.Order.{order, inOrder, causes, Sided, cause, policiesStage, stagesOf}
 use Rattle.policy.proofs.LegalityLaws.{firstOf-each, stage-passes}

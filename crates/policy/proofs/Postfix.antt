@@ -15,7 +15,7 @@ use Rattle.policy.specs.Tree.{Policy, drop, id, field, dup, sum, seq, st
 use Rattle.policy.specs.NodeLists.{NodeLists, nodeAt, children, one, isDup, dupsBelow, grow, treeAt}
 use Rattle.policy.specs.NodesOfTree.{treeSize, unlabelled}
 use Rattle.policy.specs.Legality.{occurrences, timesChild}
-use Rattle.policy.specs.Each.{Each}
+use Rattle.policy.specs.InnerEach.{Each}
 use Rattle.policy.specs.Visits.{labels}
 use Rattle.policy.proofs.EachLaws.{one-same, one-other}
 

@@ -7,8 +7,8 @@ use Rattle.policy.specs.declared.FieldAction.{FieldAction}
 use Rattle.policy.specs.declared.FieldAction.the-variants.{Equals, Differs, Set}
 use Rattle.policy.specs.Tree.{Policy, drop, id, field, dup, sum, seq, star}
 use Rattle.policy.specs.Meaning.{Packets, TraceSet, ActionTraces, Seq, Power, Traces}
-use Rattle.policy.specs.Each.{Each}
-use Rattle.policy.specs.Transport.{EachAction, Keeps}
+use Rattle.policy.specs.InnerEach.{Each}
+use Rattle.policy.specs.InnerTransport.{EachAction, Keeps}
 use Rattle.policy.proofs.EachLaws.{each-append}
 
 abbrev pub Trace : Packets → Type 0

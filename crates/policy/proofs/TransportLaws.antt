@@ -7,8 +7,8 @@ use Rattle.policy.specs.declared.FieldAction.{FieldAction}
 use Rattle.policy.specs.declared.FieldAction.the-variants.{Equals, Differs, Set}
 use Rattle.policy.specs.Tree.{Policy, drop, id, field, dup, sum, seq, star}
 use Rattle.policy.specs.Meaning.{Packets, TraceSet, ActionTraces, Seq, Power, Traces, SameTraces}
-use Rattle.policy.specs.Each.{Each}
-use Rattle.policy.specs.Transport.{EachAction, Keeps, Commutes, Respects}
+use Rattle.policy.specs.InnerEach.{Each}
+use Rattle.policy.specs.InnerTransport.{EachAction, Keeps, Commutes, Respects}
 use Rattle.policy.proofs.TraceLaws.{Trace, in-turn, AllEnd, snoc-injective, seq-ends, traces-end, Stays, turn-declared, seq-stays, traces-stay, single-stays}
 
 module _ (P Q : Packets) (Declared : P .Packet → Type 0) (r : P .Packet → Q .Packet) where

@@ -11,7 +11,7 @@ use Rattle.policy.specs.declared.Node.the-variants.{Drop, Id, Field, Dup
 use Rattle.policy.specs.Tree.{Policy, drop, id, field, dup, sum, seq, star}
 use Rattle.policy.specs.NodeLists.{NodeLists, nodeCount, nodeAt, nodeOf, children, dupsBelow, grow, treeAt, policyOf, TreeOf}
 use Rattle.policy.specs.Legality.{WellFormed, Legal, InFields, badEntries, wrongEntries, badChild, fieldOf, valueOf}
-use Rattle.policy.specs.Each.{Each}
+use Rattle.policy.specs.InnerEach.{Each}
 use Rattle.policy.proofs.EachLaws.{each-map, below-each}
 
 -- children stand below their parents: all that the laws on trees ask of the lists

@@ -9,7 +9,7 @@ use native.Mathlib.Omega.{arith}
 use lib.Dec.{eqb}
 use Rattle.policy.specs.NodeLists.{NodeLists, nodeCount, nodeAt, children, one}
 use Rattle.policy.specs.Legality.{WellFormed, Legal, occurrences, timesChild}
-use Rattle.policy.specs.Each.{Each}
+use Rattle.policy.specs.InnerEach.{Each}
 use Rattle.policy.specs.Visits.{joined, visit, timesIn, InTree}
 use Rattle.policy.proofs.EachLaws.{one-same, one-other, occurrences-append, occurrences-none}
 use Rattle.policy.proofs.Trees.{ChildrenBelow, children-below, each-child, two-below, one-below}

@@ -8,7 +8,7 @@ use lib.ListN.{length, getD}
 use Rattle.policy.specs.declared.FieldAction.{FieldAction}
 use Rattle.policy.specs.declared.FieldAction.the-variants.{Equals, Differs, Set}
 use Rattle.policy.specs.Tree.{Policy}
-use Rattle.policy.specs.Transport.{EachAction}
+use Rattle.policy.specs.InnerTransport.{EachAction}
 use Rattle.policy.specs.NodeLists.{NodeLists, nodeCount, nodeAt, children, one, dupsBelow}
 
 -- cause 4: lists unequal, empty or over 512

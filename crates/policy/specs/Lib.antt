@@ -4,8 +4,8 @@ pub mod NodeLists
 pub mod Legality
 pub mod Order
 pub mod NodesOfTree
-pub mod Each
+pub mod InnerEach
 pub mod Visits
-pub mod Transport
-pub mod Folds
+pub mod InnerTransport
+pub mod InnerFolds
 pub mod AsLists

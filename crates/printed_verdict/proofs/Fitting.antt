@@ -5,7 +5,7 @@ use mathlib.Core.List.{List}
 use mathlib.Core.Path.{_≡_, sym, _∙_, subst}
 use lib.ListN.{length, take}
 use Rattle.verdict.specs.declared.Verdict.{Verdict}
-use Rattle.printing.specs.Wrote.{Wrote}
+use Rattle.printing.specs.InnerWrote.{Wrote}
 use Rattle.printing.proofs.PrintLaws.{front-length}
 use Rattle.printed_verdict.specs.Inner.{verdictLines, Fits}
 

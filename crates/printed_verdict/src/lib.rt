@@ -4,7 +4,7 @@ ghost use Prim.Native.Nat.{_≤_};
 ghost use lib.ListN.{length, take};
 ghost use Rattle.packet.specs.Refusals.{refusal};
 ghost use Rattle.printing.specs.ThreeFields.{verdictLine, rowLines, traceLines};
-ghost use Rattle.printing.specs.Wrote.{Wrote};
+ghost use Rattle.printing.specs.InnerWrote.{Wrote};
 ghost use Rattle.printed_verdict.specs.Output.{wordEqual, refusalLine};
 ghost use Rattle.printed_verdict.specs.Inner.{verdictLines, Fits};
 use packet::Refusal;

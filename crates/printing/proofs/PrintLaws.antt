@@ -12,7 +12,7 @@ use lib.Seq.{append-snoc, drop-cons, drop-drop, drop-at, take-at, take-all, leng
 use borrow.Author.Tests.{lt-ltb, le-ltb, eqb-true, eqb-false}
 use Rattle.io.specs.Digits.{digits, glyph, Fewest}
 use Rattle.printing.specs.ThreeFields.{digitsUpTo, numeral, lineRest, numberLine, rowLines, lastFlag, traceLines}
-use Rattle.printing.specs.Wrote.{Wrote}
+use Rattle.printing.specs.InnerWrote.{Wrote}
 
 -- ---- places
 

@@ -1,2 +1,2 @@
 pub mod ThreeFields
-pub mod Wrote
+pub mod InnerWrote

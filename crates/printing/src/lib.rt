@@ -6,7 +6,7 @@ ghost use lib.Dec.{eqb};
 ghost use Prim.Native.Nat.{_+_, _*_, _<_, _≤_};
 ghost use lib.ListN.{length};
 ghost use Rattle.printing.specs.ThreeFields.{numeral, lineRest, numberLine, verdictLine, rowLines, traceLines};
-ghost use Rattle.printing.specs.Wrote.{Wrote};
+ghost use Rattle.printing.specs.InnerWrote.{Wrote};
 
 // Writes a byte at a place, and returns the next place; so do all that write here.
 fn byte(out: &mut [u8], at: usize, b: u8) -> usize

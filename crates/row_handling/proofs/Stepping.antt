@@ -36,7 +36,7 @@ use Rattle.row_handling.specs.declared.Handled.{Handled}
 use Rattle.row_handling.specs.declared.Handled.the-variants.{Open, Stopped}
 use Rattle.verdict.specs.declared.Ended.{Ended}
 use Rattle.verdict.specs.declared.Ended.the-variants.{Done, Full}
-use Rattle.verdict.specs.Ending.{tellingAt}
+use Rattle.verdict.specs.InnerEnding.{tellingAt}
 use Rattle.row_handling.specs.Step.{goesOn, runAt, afterRow, stepAnswer, stepRows, RowHandled, HandleReady, StepDone}
 
 pub goes-open : (h n : ℕ) → h < n → Open n ≡ goesOn h n

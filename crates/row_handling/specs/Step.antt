@@ -18,7 +18,7 @@ use Rattle.listed_rows.specs.declared.Progress.{Progress}
 use Rattle.listed_rows.specs.Standing.{rowsIn, Standing, pairMasks}
 use Rattle.compare.specs.Comparison.{BothLoaded, BothBlank}
 use Rattle.verdict.specs.declared.Ended.the-variants.{Done, Full}
-use Rattle.verdict.specs.Ending.{tellingAt}
+use Rattle.verdict.specs.InnerEnding.{tellingAt}
 use Rattle.row_handling.specs.declared.Handled.{Handled}
 use Rattle.row_handling.specs.declared.Handled.the-variants.{Open, Stopped}
 

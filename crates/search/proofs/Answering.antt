@@ -29,9 +29,9 @@ use Rattle.verdict.specs.declared.Verdict.{Verdict}
 use Rattle.verdict.specs.declared.Verdict.the-variants.{Equal, Full, Refused}
 use Rattle.compare.specs.Comparison.{LoadReady, BothLoaded}
 use Rattle.compare.proofs.Comparing.{load-asks}
-use Rattle.verdict.specs.Ending.{endedAnswer}
+use Rattle.verdict.specs.InnerEnding.{endedAnswer}
 use Rattle.verdict.specs.Verdicts.{tellingVerdict, verdictOf, traceAfter, Told}
-use Rattle.search.specs.Rows.{RowsRun, RunReady}
+use Rattle.search.specs.InnerRows.{RowsRun, RunReady}
 use Rattle.search.specs.Call.{SearchLists, lent, filled, verdictAfter, lentAfter, searchTests, answerHere, rowsHere, searchVerdict, searchLeaves, Telling, Searched, Accepted, SearchDone}
 
 zero≢one : _≡_ {A = ℕ} 0 1 → ⊥

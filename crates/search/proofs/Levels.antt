@@ -23,7 +23,7 @@ use Rattle.verdict.specs.declared.Ended.the-variants.{Full}
 use Rattle.verdict.specs.declared.Stop.{Stop}
 use Rattle.search.specs.declared.Level.{Level}
 use Rattle.search.specs.declared.Level.the-variants.{Ended, Outgrown}
-use Rattle.search.specs.Rows.{withIndex, RowsRun, Underway, Leads, Prepared, RoundsReady, RoundsDone, RestReady, RestDone, RunReady, RunDone}
+use Rattle.search.specs.InnerRows.{withIndex, RowsRun, Underway, Leads, Prepared, RoundsReady, RoundsDone, RestReady, RestDone, RunReady, RunDone}
 use Rattle.search.proofs.Underway.{Kept, kept-more, Led, started-full, started-rows, starts-full, starts-underway, underway-few, underway-within, underway-small, indexable, reindexed, round-next, round-stops}
 
 prepared-still : {sizes : List ℕ} {nodes tests : List (List ℕ)} {count count′ : ℕ} {work work′ : List ℕ} → Prepared sizes nodes tests count work → count′ ≡ count → work′ ≡ work → Prepared sizes nodes tests count′ work′

@@ -38,8 +38,8 @@ use Rattle.verdict.specs.declared.Ended.the-variants.{Done, Full}
 use Rattle.row_handling.specs.declared.Handled.{Handled}
 use Rattle.row_handling.specs.declared.Handled.the-variants.{Open, Stopped}
 use Rattle.row_handling.specs.Step.{goesOn, runAt, afterRow, stepAnswer, stepRows, RowHandled, HandleReady}
-use Rattle.verdict.specs.Ending.{tellingAt, CanRead, tellingAnswer, answerAtEnd, endedAnswer, ReadableAt, Readable}
-use Rattle.search.specs.Rows.{withIndex, RowsRun, Underway}
+use Rattle.verdict.specs.InnerEnding.{tellingAt, CanRead, tellingAnswer, answerAtEnd, endedAnswer, ReadableAt, Readable}
+use Rattle.search.specs.InnerRows.{withIndex, RowsRun, Underway}
 
 module _ (sizes : List ℕ) (L R : NodeLists) where
   abbrev S : System

@@ -5,7 +5,7 @@ ghost use mathlib.Core.List.{[]};
 ghost use mathlib.Core.Path.{_≡_};
 ghost use Rattle.policy.specs.AsLists.{asLists};
 ghost use Rattle.index.specs.Appending.{lists};
-ghost use Rattle.search.specs.Rows.{RoundsReady, RoundsDone, RestReady, RestDone, RunReady, RunDone};
+ghost use Rattle.search.specs.InnerRows.{RoundsReady, RoundsDone, RestReady, RestDone, RunReady, RunDone};
 ghost use Rattle.search.specs.Call.{lent, Accepted, SearchDone, Searched};
 use index::Appended;
 use index::Mask;

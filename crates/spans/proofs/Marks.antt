@@ -16,7 +16,7 @@ use lib.Seq.{getD-set-same, getD-set-other}
 use Rattle.packet.proofs.Lowest.{IsLowest}
 use Rattle.packet.proofs.Tests.{and-true as both-true}
 use Rattle.packet_set.specs.Bits.{bit, marked}
-use Rattle.packet_set.specs.Members.{member}
+use Rattle.packet_set.specs.InnerMembers.{member}
 use Rattle.packet_set.proofs.Digits.{bit-zero, bit-suc, bit-of-zero, bit-or, bit-and, bit-marked, shift-marks}
 use Rattle.packet_set.proofs.Trailing.{trailing-lowest}
 use Rattle.spans.specs.Spans.{hasMark, touched, Spanned, Rewritten, markedEntry, GotMark}

@@ -14,7 +14,7 @@ use lib.ListN.{length, getD, set, length-set}
 use lib.Seq.{getD-set-same, getD-set-other}
 use Rattle.packet.proofs.Tests.{T-true, true-T, and-true, or-true, or-false}
 use Rattle.packet_set.specs.Bits.{bit}
-use Rattle.packet_set.specs.Members.{Members}
+use Rattle.packet_set.specs.InnerMembers.{Members}
 use Rattle.packet_set.proofs.Digits.{bit-of-zero, bit-or, bits-below}
 use Rattle.packet_set.proofs.Trailing.{trailing-lowest}
 use Rattle.spans.specs.Spans.{Rewritten, Tells}

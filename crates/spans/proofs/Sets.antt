@@ -13,7 +13,7 @@ use lib.ListN as L
 use lib.ListN.{length, getD, replicate, length-replicate}
 use lib.Seq.{getD-set-other, ext-getD}
 use Rattle.packet_set.specs.Bits.{bit}
-use Rattle.packet_set.specs.Members.{Members, member, emptySet, withPacket, without}
+use Rattle.packet_set.specs.InnerMembers.{Members, member, emptySet, withPacket, without}
 use Rattle.packet_set.proofs.Digits.{bit-or, bit-and, bit-without, bit-of-zero, shift-marks}
 use Rattle.packet_set.proofs.Words.{length-with, member-with}
 use Rattle.spans.specs.Spans.{slot, Spanned, Rewritten, Hull, Holds, Tells, Left, Noted}

@@ -12,7 +12,7 @@ use mir.Syntax.{w32}
 use mir.Val.{Fits}
 use Rattle.packet.proofs.Tests.{T-false}
 use Rattle.packet_set.specs.Bits.{bit}
-use Rattle.packet_set.specs.Members.{member, lowestIn, lowestAnswer}
+use Rattle.packet_set.specs.InnerMembers.{member, lowestIn, lowestAnswer}
 use Rattle.packet_set.specs.declared.Lowest.{Lowest}
 use Rattle.packet_set.specs.declared.Lowest.the-variants.{At, Nothing}
 use Rattle.packet_set.proofs.Digits.{bits-same, bit-of-zero}

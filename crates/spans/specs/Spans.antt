@@ -7,7 +7,7 @@ use mathlib.Core.Path.{_≡_}
 use lib.Dec.{T, eqb, ltb}
 use lib.ListN.{length, getD}
 use Rattle.packet_set.specs.Bits.{bit, marked}
-use Rattle.packet_set.specs.Members.{Members, member}
+use Rattle.packet_set.specs.InnerMembers.{Members, member}
 
 -- the packet set in the 32 words from word 32 n on
 unfoldable pub slot : List ℕ → ℕ → Members

@@ -6,7 +6,7 @@ ghost use mathlib.Core.Bool.{false, _&&_, _||_};
 ghost use lib.Dec.{T, ltb};
 ghost use lib.ListN.{length};
 ghost use Rattle.packet_set.specs.Bits.{bit};
-ghost use Rattle.packet_set.specs.Members.{member, emptySet, withPacket};
+ghost use Rattle.packet_set.specs.InnerMembers.{member, emptySet, withPacket};
 ghost use Rattle.spans.specs.Spans.{slot, Spanned, Rewritten, clearedWord, markedEntry, Hull, Holds, Tells, Left, Noted, GotMark, Unseen};
 use packet_set::Lowest;
 use packet_set::PacketSet;

@@ -11,7 +11,7 @@ use lib.ListN.{length}
 use borrow.Author.Tests.{eqb-true, eqb-false}
 use Rattle.system.specs.System.{System, Lawful, Row}
 use Rattle.system.specs.RowOrder.{Entry, entryAt, NeedsMore, equal, answer, held}
-use Rattle.system.specs.Tables.{Closed}
+use Rattle.system.specs.InnerTables.{Closed}
 use Rattle.system.proofs.Listing.{Listing}
 use Rattle.system.proofs.Runs.{invariant}
 use Rattle.system.proofs.Tables.{closed-silent, closed-contains}

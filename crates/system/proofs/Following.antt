@@ -4,7 +4,7 @@ use mathlib.Core.Bool.{true, false}
 use mathlib.Core.List.{List, [], _∷_, _++_}
 use Prim.Native.Nat.{ℕ, _<_}
 use Rattle.system.specs.System.{System, Lawful, Row, nextRow, tells}
-use Rattle.system.specs.Words.{Word, end, then, follow}
+use Rattle.system.specs.InnerWords.{Word, end, then, follow}
 
 pub word-append : {n : ℕ} {v w : List ℕ} → Word n v → Word n w → Word n (v ++ w)
 word-append end b = b

@@ -6,7 +6,7 @@ use Prim.Native.Nat.{ℕ, suc, _≤_, _<_}
 use native.Mathlib.Omega.{arith}
 use lib.ListN.{length}
 use Rattle.system.specs.System.{System, startRow, nextRow}
-use Rattle.system.specs.Words.{Word, end, follow}
+use Rattle.system.specs.InnerWords.{Word, end, follow}
 use Rattle.system.specs.RowOrder.{Entry, startEntry, entryAt, climb, depth, path, entering}
 use Rattle.system.proofs.Basics.{lt-or-le, induction, Prefix, length-snoc}
 use Rattle.system.proofs.Climb.{climb-first, climb-below, climb-kept}

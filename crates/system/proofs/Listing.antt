@@ -12,7 +12,7 @@ use lib.Seq.{getD-append-seam}
 use borrow.Author.Tests.{eqb-true, eq-eqb}
 use Rattle.system.specs.System.{System, Lawful, Row, nextRow}
 use Rattle.system.specs.RowOrder.{Entry, startEntry, entryAt, starts, sameRow, listed, append, appendNext}
-use Rattle.system.specs.Tables.{Listed}
+use Rattle.system.specs.InnerTables.{Listed}
 use Rattle.system.proofs.Basics.{clash, or-true, or-false, and-true, last-or-before, lt-or-le, Prefix, prefix-refl, prefix-trans, prefix-snoc, prefix-length, prefix-at, Place, old, last, length-snoc, place}
 use Rattle.system.proofs.Climb.{Earlier}
 

@@ -14,7 +14,7 @@ use Rattle.packet.specs.Lowest.{lowest}
 use Rattle.packet.proofs.Lowest.{IsLowest, Found, lowest-is, lowest-only, none-lowest}
 use Rattle.system.specs.System.{System, Lawful, Row, nextRow, tells}
 use Rattle.system.specs.RowOrder.{Entry, startEntry, entryAt, Run, Turn, finished, telling, handling, lowestTelling, current, turn, handle, runFrom, begin, run}
-use Rattle.system.specs.Tables.{Listed}
+use Rattle.system.specs.InnerTables.{Listed}
 use Rattle.system.proofs.Basics.{clash, last-or-before, Prefix, prefix-length, prefix-at}
 use Rattle.system.proofs.Listing.{Listing, listing-starts, weaken, Grown, grown, listed-kept}
 

@@ -8,9 +8,9 @@ use native.Mathlib.Nat.{add-zero, zero-add}
 use native.Mathlib.Omega.{arith}
 use lib.ListN.{length}
 use Rattle.system.specs.System.{System, Lawful, Row, startRow, nextRow, tells}
-use Rattle.system.specs.Words.{Word, end, then, follow, SilentBelow}
+use Rattle.system.specs.InnerWords.{Word, end, then, follow, SilentBelow}
 use Rattle.system.specs.RowOrder.{Entry, Run, current, telling, turn, depth, path, entering}
-use Rattle.system.specs.Tables.{Listed}
+use Rattle.system.specs.InnerTables.{Listed}
 use Rattle.system.proofs.Basics.{lt-or-le}
 use Rattle.packet.proofs.Lowest.{IsLowest}
 use Rattle.system.proofs.Following.{follow-small, follow-dead, dead-tells}

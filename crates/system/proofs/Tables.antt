@@ -7,9 +7,9 @@ use Prim.Native.Nat.{ℕ, _≤_, _<_}
 use native.Mathlib.Omega.{arith}
 use lib.ListN.{length}
 use Rattle.system.specs.System.{System, Lawful, Row, startRow, nextRow, tells}
-use Rattle.system.specs.Words.{Word, end, then, follow, Silent}
+use Rattle.system.specs.InnerWords.{Word, end, then, follow, Silent}
 use Rattle.system.specs.RowOrder.{Entry, entryAt, Run, finished, telling, turn, path, entering}
-use Rattle.system.specs.Tables.{Closed, InRange, Listed}
+use Rattle.system.specs.InnerTables.{Closed, InRange, Listed}
 use Rattle.system.proofs.Basics.{clash}
 use Rattle.system.proofs.Listing.{Listing}
 use Rattle.system.proofs.Following.{follow-small, follow-dead, dead-tells}

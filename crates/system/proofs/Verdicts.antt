@@ -5,9 +5,9 @@ use mathlib.Core.Logic.{_⊎_, inl, inr}
 use Prim.Native.Nat.{ℕ, suc, _<_}
 use lib.ListN.{length}
 use Rattle.system.specs.System.{System, Lawful}
-use Rattle.system.specs.Words.{Silent}
+use Rattle.system.specs.InnerWords.{Silent}
 use Rattle.system.specs.RowOrder.{run, depth, path, entering, Answer, full, equal, different, answer, held}
-use Rattle.system.specs.Tables.{Closed, InRange, Listed}
+use Rattle.system.specs.InnerTables.{Closed, InRange, Listed}
 use Rattle.system.proofs.Basics.{length-snoc}
 use Rattle.system.proofs.Runs.{Invariant, invariant, telling-turn}
 use Rattle.system.proofs.Lines.{line-of}

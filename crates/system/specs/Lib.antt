@@ -1,4 +1,4 @@
 pub mod System
-pub mod Words
+pub mod InnerWords
 pub mod RowOrder
-pub mod Tables
+pub mod InnerTables

@@ -9,7 +9,7 @@ use lib.ListN.{length}
 use Rattle.policy.specs.NodeLists.{NodeLists}
 use Rattle.policy.specs.NodesOfTree.{entry}
 use Rattle.grammar.specs.Tokens.{tokensFrom, fieldNames}
-use Rattle.grammar.specs.Kinds.{frontKind}
+use Rattle.grammar.specs.InnerKinds.{frontKind}
 use Rattle.tokens.specs.Inner.{TokenFrom}
 use Rattle.text.specs.Inner.{Level, item, starred, joined, sequence, added, sum, Entered, lists, putEntry, ReaderReady, LeafDone, Joined, Got, Done}
 use Rattle.tokens.specs.declared.Token as Found

@@ -16,7 +16,7 @@ use Rattle.policy.proofs.Nodes.{entries-length}
 use Rattle.grammar.specs.declared.Answer.{Answer}
 use Rattle.grammar.specs.declared.Answer.the-variants.{Nodes}
 use Rattle.grammar.specs.Tokens.{tokensFrom, tokens, fieldNames}
-use Rattle.grammar.specs.Kinds.{frontKind, frontPlace}
+use Rattle.grammar.specs.InnerKinds.{frontKind, frontPlace}
 use Rattle.grammar.specs.Reading.{nothing, whole, upTo, joinSequence, joinSum, has, start, Outcome, tree, stop, readOn}
 use Rattle.grammar.specs.Answer.{stopPlace, treeRead, outcome, textTree, answerTo, leftBy, TextRead}
 use Rattle.packet.specs.Written.{written}

@@ -11,7 +11,7 @@ use Rattle.policy.specs.Tree
 use Rattle.policy.specs.NodeLists.{NodeLists}
 use Rattle.policy.specs.NodesOfTree.{Entry, entry, actionEntry, treeSize, entriesFrom}
 use Rattle.grammar.specs.Tokens.{Placed, Constant, Comparison, dropped, passed, recorded, equals, differs, assigned, tokensFrom, fieldNames}
-use Rattle.grammar.specs.Kinds.{frontKind, constantKind, comparisonKind}
+use Rattle.grammar.specs.InnerKinds.{frontKind, constantKind, comparisonKind}
 use Rattle.grammar.specs.Grammar.{constantPolicy, fieldAction}
 use Rattle.grammar.specs.Reading.{Before, nothing, joinSequence, joinSum, upTo, whole, wants, named, compared, has, stop, readOn}
 use Rattle.tokens.specs.Inner.{TokenFrom}

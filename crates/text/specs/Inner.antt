@@ -10,7 +10,7 @@ use Rattle.policy.specs.Tree.{Policy}
 use Rattle.policy.specs.NodeLists.{NodeLists}
 use Rattle.policy.specs.NodesOfTree.{Entry, entry, treeSize, entriesFrom}
 use Rattle.grammar.specs.Tokens.{tokensFrom, fieldNames}
-use Rattle.grammar.specs.Kinds.{frontKind, frontPlace, afterFront}
+use Rattle.grammar.specs.InnerKinds.{frontKind, frontPlace, afterFront}
 use Rattle.grammar.specs.Reading.{Before, nothing, wants, has, stop, readOn}
 use Rattle.grammar.specs.Answer.{stopPlace, outcome, textTree}
 use Rattle.text.specs.declared.Step as Stepped

@@ -11,7 +11,7 @@ ghost use Rattle.packet.specs.Refusals.{refusal, refusedAt, firstOf};
 ghost use Rattle.policy.specs.NodesOfTree.{entry, treeSize};
 ghost use Rattle.grammar.specs.Tokens.{tokens, tokensFrom, fieldNames};
 ghost use Rattle.grammar.specs.Answer.{badPlace, deepPlace, stopPlace, tooMany, answered, outcome, textTree, answerTo, TextRead};
-ghost use Rattle.grammar.specs.Kinds.{frontKind, openAfterKind};
+ghost use Rattle.grammar.specs.InnerKinds.{frontKind, openAfterKind};
 ghost use Rattle.text.specs.Inner;
 ghost use Rattle.text.specs.Inner.{LeafDone, Closed, Joined, lists, putEntry, ReaderReady, Done, Ended, Counted};
 

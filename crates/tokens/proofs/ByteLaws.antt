@@ -9,7 +9,7 @@ use lib.Dec.{T, eqb}
 use lib.ListN.{length, getD}
 use Rattle.grammar.specs.Bytes.{isBlank, isLetter, isDigit, inWord}
 use Rattle.grammar.specs.Tokens.{singleMark, beginsDouble}
-use Rattle.grammar.specs.Kinds.{classOf, classesFrom, classTable, kindOf}
+use Rattle.grammar.specs.InnerKinds.{classOf, classesFrom, classTable, kindOf}
 use Rattle.tokens.proofs.Below.{below}
 
 pub beq-true : (a b : Bool) → T (Bool·beq a b) → a ≡ b

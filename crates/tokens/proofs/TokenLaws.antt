@@ -12,7 +12,7 @@ use lib.Seq.{drop-cons, drop-drop, getD-drop}
 use borrow.Author.Tests.{ne-eqb, eqb-true}
 use Rattle.grammar.specs.Bytes.{isBlank, isLetter, isDigit, inWord}
 use Rattle.grammar.specs.Tokens.{Token, Placed, bad, isBad, wordToken, singleMark, doubleMark, beginsDouble, markToken, wordOf, frontToken, restOfToken, placedFrom, tokensFrom, fieldNames}
-use Rattle.grammar.specs.Kinds.{kindOf, valueOf, comparisonKind, classOf, frontKind, frontValue, frontPlace, afterFront}
+use Rattle.grammar.specs.InnerKinds.{kindOf, valueOf, comparisonKind, classOf, frontKind, frontValue, frontPlace, afterFront}
 use Rattle.tokens.specs.Inner.{NumbersOf, FrontAt, Skipped, TokenFrom}
 use Rattle.tokens.specs.declared.Token as Found
 use Rattle.tokens.proofs.Below.{below}

@@ -9,7 +9,7 @@ use lib.Seq.{drop-drop}
 use borrow.Author.Tests.{ne-eqb}
 use Rattle.grammar.specs.Bytes.{isBlank, isLetter, isDigit, inWord}
 use Rattle.grammar.specs.Tokens.{Placed, isBad, doubleMark, wordOf, restOfToken, placedFrom, tokensFrom, fieldNames}
-use Rattle.grammar.specs.Kinds.{frontKind, afterFront}
+use Rattle.grammar.specs.InnerKinds.{frontKind, afterFront}
 use Rattle.tokens.specs.Inner.{TokenFrom}
 use Rattle.tokens.specs.declared.Token as Found
 use Rattle.tokens.proofs.TokenLaws.{placed-over, placed-blank, placed-front}

@@ -14,7 +14,7 @@ use Rattle.packet.proofs.Lowest.{lowest-found, lowest-none-whole}
 use Rattle.packet.proofs.Tests.{and-true, T-true}
 use Rattle.grammar.specs.Bytes.{isDigit}
 use Rattle.grammar.specs.Tokens.{Token, number, bad, sameWord, allDigits, decimal, leadingZero, isNumber, numberToken, fieldNames, fieldNamed, fieldToken, wordToken}
-use Rattle.grammar.specs.Kinds.{kindOf, valueOf, constantKind}
+use Rattle.grammar.specs.InnerKinds.{kindOf, valueOf, constantKind}
 use Rattle.tokens.specs.Inner.{numberFrom, Named, NumbersOf}
 use Rattle.tokens.proofs.Below.{below}
 

@@ -8,7 +8,7 @@ use lib.Dec.{leb}
 use lib.ListN.{length, getD, drop}
 use Rattle.grammar.specs.Bytes.{isBlank}
 use Rattle.grammar.specs.Tokens.{Token, allDigits, decimal, frontToken, restOfToken, tokensFrom, fieldNames}
-use Rattle.grammar.specs.Kinds.{kindOf, valueOf, frontKind, frontValue, frontPlace, afterFront}
+use Rattle.grammar.specs.InnerKinds.{kindOf, valueOf, frontKind, frontValue, frontPlace, afterFront}
 use Rattle.tokens.specs.declared.Token as Found
 
 -- the value of digits that follow others of value n, or 65,536 where they are no digits or make more than 65,535

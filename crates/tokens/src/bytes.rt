@@ -1,7 +1,7 @@
 // Classes of bytes.
 ghost use mathlib.Core.Path.{_≡_};
 ghost use Rattle.grammar.specs.Bytes.{isBlank, isDigit, inWord};
-ghost use Rattle.grammar.specs.Kinds.{classOf, classTable};
+ghost use Rattle.grammar.specs.InnerKinds.{classOf, classTable};
 ghost use lib.ListN.{length};
 
 // The class of each byte: 0 starts no token, 1 blank, 2 letter, 3 digit, 4 begins a mark of two bytes, else the kind of the mark that it is.

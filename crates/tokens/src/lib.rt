@@ -9,7 +9,7 @@ ghost use Prim.Native.Nat.{_+_, _≤_, _<_};
 ghost use lib.ListN.{length, getD, drop};
 ghost use Rattle.grammar.specs.Bytes.{isBlank, inWord};
 ghost use Rattle.grammar.specs.Tokens.{wordOf, doubleMark, beginsDouble};
-ghost use Rattle.grammar.specs.Kinds.{classTable, valueOf};
+ghost use Rattle.grammar.specs.InnerKinds.{classTable, valueOf};
 ghost use Rattle.tokens.specs.Inner.{Skipped, FrontAt, TokenFrom};
 
 // A token by its numbers, with the byte at which it starts and the byte after it.

@@ -10,7 +10,7 @@ use Rattle.packet.specs.Sizes.{product}
 use Rattle.policy.specs.NodeLists.{NodeLists, nodeCount, dupsBelow, policyOf}
 use Rattle.policy.specs.Tree.{Policy}
 use Rattle.packet_set.specs.Bits.{bit}
-use Rattle.packet_set.specs.Members.{member, wordsFor, emptySet}
+use Rattle.packet_set.specs.InnerMembers.{member, wordsFor, emptySet}
 use Rattle.packet_set.proofs.Digits.{bit-of-zero}
 use Rattle.packet_set.proofs.Words.{words-hold, words-within}
 use Rattle.automaton.specs.Remainder.{Evaluable}

@@ -17,7 +17,7 @@ use Rattle.packet.proofs.Lowest.{lowest-more, lowest-found}
 use Rattle.policy.specs.declared.Node.{Node}
 use Rattle.policy.specs.declared.Node.the-variants.{Drop, Id, Field, Dup, Sum, Seq, Star}
 use Rattle.policy.specs.AsLists.{asLists}
-use Rattle.policy.specs.Each.{Each}
+use Rattle.policy.specs.InnerEach.{Each}
 use Rattle.policy.specs.NodeLists.{NodeLists, nodeCount, nodeOf, nodeAt, children, one, isDup, dupsBelow}
 use Rattle.policy.specs.Legality.{badChild, occurrences, timesChild, notOnce, tooManyDups, maxDups}
 use Rattle.tree_causes.specs.Counting.{CountableChildren, withChild, withChildren, Countable, ChildCounts, DupWeight, DupCountOf}

@@ -8,7 +8,7 @@ use lib.ListN.{length, getD, set}
 use Rattle.packet.specs.Lowest.{lowest, optionOf}
 use Rattle.tree_causes.specs.declared.DupCount.{DupCount}
 use Rattle.policy.specs.AsLists.{asLists}
-use Rattle.policy.specs.Each.{Each}
+use Rattle.policy.specs.InnerEach.{Each}
 use Rattle.policy.specs.NodeLists.{NodeLists, nodeCount, nodeOf, one, isDup, dupsBelow}
 use Rattle.policy.specs.Legality.{badChild, timesChild, tooManyDups}
 

@@ -18,7 +18,7 @@ use Rattle.verdict.specs.declared.Ended.the-variants.{Done, Left as Left
 use Rattle.verdict.specs.declared.Stop.{Stop}
 use Rattle.verdict.specs.declared.Verdict.{Verdict}
 use Rattle.verdict.specs.declared.Verdict.the-variants.{Equal, Full, Refused}
-use Rattle.verdict.specs.Ending.{tellingAt, CanRead, tellingAnswer, answerAtEnd, endedAnswer, ReadableAt, Readable}
+use Rattle.verdict.specs.InnerEnding.{tellingAt, CanRead, tellingAnswer, answerAtEnd, endedAnswer, ReadableAt, Readable}
 use Rattle.verdict.specs.Verdicts.{tellingVerdict, verdictOf, traceAfter, Told}
 
 -- ---- a telling row

@@ -1,2 +1,2 @@
-pub mod Ending
+pub mod InnerEnding
 pub mod Verdicts

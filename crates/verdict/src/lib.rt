@@ -4,7 +4,7 @@ ghost use mathlib.Core.Path.{_≡_};
 ghost use mathlib.Core.Bool.{cond};
 ghost use lib.ListN.{length};
 ghost use Rattle.pair.specs.Sides.{left, right};
-ghost use Rattle.verdict.specs.Ending.{CanRead, Readable, tellingAnswer, endedAnswer};
+ghost use Rattle.verdict.specs.InnerEnding.{CanRead, Readable, tellingAnswer, endedAnswer};
 ghost use Rattle.verdict.specs.Verdicts.{Told};
 use packet::Refusal;
 

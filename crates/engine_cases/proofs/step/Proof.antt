@@ -4,7 +4,7 @@ use native.Mathlib.Omega.{arith}
 use mathlib.Core.Path.{sym, _∙_}
 use lib.Dec.{lit≤}
 use lib.ListN.{length-replicate, getD-replicate}
-use Rattle.packet_set.specs.Members.{emptySet}
+use Rattle.packet_set.specs.InnerMembers.{emptySet}
 use Rattle.legality.proofs.AnswerLaws.{legal-answer}
 use Rattle.spans.proofs.Sets.{no-packet}
 use borrow.Author.Needs.{needs}

@@ -1,5 +1,5 @@
 -- `contains` meets its contract. Assumes nothing.
-use Rattle.packet_set.specs.Members.{member}
+use Rattle.packet_set.specs.InnerMembers.{member}
 use Rattle.packet_set.proofs.Digits.{shift-tests}
 use borrow.Author.Needs.{needs}
 use Rattle.packet_set.proofs.contains.Statement.{statement}

@@ -1,6 +1,6 @@
 -- `empty` meets its contract. Assumes nothing.
 use mathlib.Core.Path.{refl}
-use Rattle.packet_set.specs.Members.{emptySet}
+use Rattle.packet_set.specs.InnerMembers.{emptySet}
 use Rattle.packet_set.proofs.empty.Statement.{statement}
 use Rattle.packet_set.proofs.empty.Tie as tie
 

@@ -3,7 +3,7 @@ use Prim.Native.Nat.{_/_, _%_}
 use mathlib.Core.Path.{ap}
 use native.Mathlib.Omega.{arith}
 use lib.ListN.{set, getD}
-use Rattle.packet_set.specs.Members.{withPacket}
+use Rattle.packet_set.specs.InnerMembers.{withPacket}
 use Rattle.packet_set.proofs.Digits.{shift-marks}
 use borrow.Author.Needs.{needs}
 use Rattle.packet_set.proofs.insert.Statement.{statement}

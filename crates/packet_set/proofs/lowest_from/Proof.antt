@@ -6,7 +6,7 @@ use borrow.Author.Needs.{needs}
 use borrow.Author.Count.{below-more}
 use lib.ListN.{getD}
 use lib.Count.{trailing-le}
-use Rattle.packet_set.specs.Members.{lowestAnswer}
+use Rattle.packet_set.specs.InnerMembers.{lowestAnswer}
 use Rattle.packet_set.proofs.Walk.{lowest-at, lowest-nothing}
 use Rattle.packet_set.proofs.lowest_from.Statement.{statement}
 use Rattle.packet_set.proofs.lowest_from.Tie as tie

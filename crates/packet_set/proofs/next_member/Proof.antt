@@ -4,7 +4,7 @@ use mathlib.Core.Path.{ap, sym, _∙_}
 use native.Mathlib.Omega.{arith}
 use lib.ListN.{getD}
 use lib.Count.{trailing-le}
-use Rattle.packet_set.specs.Members.{lowestAnswer}
+use Rattle.packet_set.specs.InnerMembers.{lowestAnswer}
 use Rattle.packet_set.proofs.Walk.{next-nowhere, next-here, next-beyond}
 use borrow.Author.Needs.{needs}
 use Rattle.packet_set.proofs.next_member.Statement.{statement}

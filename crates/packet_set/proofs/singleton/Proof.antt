@@ -2,7 +2,7 @@
 use mathlib.Core.Path.{ap, _∙_}
 use mathlib.Core.List.{List}
 use Prim.Native.Nat.{ℕ}
-use Rattle.packet_set.specs.Members.{withPacket}
+use Rattle.packet_set.specs.InnerMembers.{withPacket}
 use borrow.Author.Needs.{needs}
 use Rattle.packet_set.proofs.singleton.Statement.{statement}
 use Rattle.packet_set.proofs.singleton.Tie as tie

@@ -4,7 +4,7 @@ use borrow.Author.Needs.{needs}
 use mathlib.Core.Path.{refl}
 use lib.Bits.{bitOr}
 use lib.ListN.{length}
-use Rattle.packet_set.specs.Members.{wordwise, unionOf}
+use Rattle.packet_set.specs.InnerMembers.{wordwise, unionOf}
 use Rattle.packet_set.proofs.Loops.{Loop, none-done, one-done, all-done}
 use Rattle.packet_set.proofs.Words.{wordwise-none, wordwise-turn}
 use Rattle.packet_set.proofs.union.Statement.{statement}

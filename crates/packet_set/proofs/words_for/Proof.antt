@@ -1,6 +1,6 @@
 -- `words_for` meets its contract. Assumes nothing.
 use mathlib.Core.Path.{refl}
-use Rattle.packet_set.specs.Members.{wordsFor}
+use Rattle.packet_set.specs.InnerMembers.{wordsFor}
 use borrow.Author.Needs.{needs}
 use Rattle.packet_set.proofs.words_for.Statement.{statement}
 use Rattle.packet_set.proofs.words_for.Tie as tie

@@ -6,7 +6,7 @@ use native.Mathlib.Omega.{arith}
 use lib.ListN.{length}
 use Rattle.grammar.specs.Tokens.{tokens, tokensFrom, fieldNames}
 use Rattle.grammar.specs.Answer.{deepPlace}
-use Rattle.grammar.specs.Kinds.{openAfterKind}
+use Rattle.grammar.specs.InnerKinds.{openAfterKind}
 use Rattle.text.proofs.StepLaws.{kind-at, kind-not}
 use Rattle.grammar.proofs.AnswerLaws.{deep-end, deep-here, deep-on, stage-passes, stage-refuses}
 use Rattle.text.proofs.depth_stage.Statement.{statement}

@@ -1,7 +1,7 @@
 -- `double` meets its contract.
 use mathlib.Core.Path.{sym, ap}
 use borrow.Author.Tests.{eq-eqb, ne-eqb}
-use Rattle.grammar.specs.Kinds.{valueOf}
+use Rattle.grammar.specs.InnerKinds.{valueOf}
 use Rattle.tokens.proofs.TokenLaws.{double-33, double-60, double-other}
 use Rattle.tokens.proofs.double.Statement.{statement}
 use Rattle.tokens.proofs.double.Tie as tie

@@ -5,7 +5,7 @@ use native.Mathlib.Numerals.{add-one}
 use native.Mathlib.Omega.{arith}
 use mathlib.Core.Path.{sym, ap, _∙_}
 use lib.ListN.{length}
-use Rattle.packet_set.specs.Members.{emptySet}
+use Rattle.packet_set.specs.InnerMembers.{emptySet}
 use Rattle.traces.proofs.Following.{Following, count-small, following-none, step-ready, few-marked, none-left, packet-small, last-packet, following-more, dead-end}
 use Rattle.traces.proofs.follows.Statement.{statement}
 use Rattle.traces.proofs.follows.Tie as tie

@@ -1,7 +1,7 @@
 -- `flag_of` meets its contract, case by case. Assumes nothing.
 use mathlib.Core.Path.{_∙_, subst}
 use native.Mathlib.Omega.{arith}
-use Rattle.policy.specs.Each.{Each}
+use Rattle.policy.specs.InnerEach.{Each}
 use Rattle.policy.specs.NodeLists.{children}
 use Rattle.loaded.specs.Loading.{Placed, aloneOf}
 use Rattle.loaded.proofs.Flags.{flag-is, flag-action, and-none, and-some}

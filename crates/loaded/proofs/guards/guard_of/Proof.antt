@@ -1,7 +1,7 @@
 -- `guard_of` meets its contract, case by case. Assumes nothing.
 use mathlib.Core.Path.{subst}
 use native.Mathlib.Omega.{arith}
-use Rattle.policy.specs.Each.{Each}
+use Rattle.policy.specs.InnerEach.{Each}
 use Rattle.policy.specs.NodeLists.{children}
 use Rattle.loaded.specs.Loading.{Placed, guardOf}
 use Rattle.loaded.proofs.Guarding.{guard-flag, guard-is}

@@ -1,6 +1,6 @@
 -- `test_under` meets its contract, case by case. Assumes nothing.
 use mathlib.Core.Path.{_∙_, subst}
-use Rattle.policy.specs.Each.{Each}
+use Rattle.policy.specs.InnerEach.{Each}
 use Rattle.policy.specs.NodeLists.{children}
 use Rattle.loaded.specs.Loading.{Placed, testUnder}
 use Rattle.loaded.proofs.Giving.{under-flag, under-is, pick-twice}

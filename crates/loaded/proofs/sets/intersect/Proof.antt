@@ -3,7 +3,7 @@ use Prim.Native.Nat.{_-_}
 use mathlib.Core.Path.{refl}
 use lib.Bits.{bitAnd}
 use lib.ListN.{length}
-use Rattle.packet_set.specs.Members.{wordwise}
+use Rattle.packet_set.specs.InnerMembers.{wordwise}
 use Rattle.packet_set.proofs.Loops.{Loop, none-done, one-done, all-done}
 use Rattle.packet_set.proofs.Words.{wordwise-none, wordwise-turn}
 use Rattle.loaded.proofs.Meeting.{met}

@@ -2,7 +2,7 @@
 use mathlib.Core.Path.{refl}
 use Rattle.grammar.specs.Bytes.{isBlank, isLetter, isDigit}
 use Rattle.grammar.specs.Tokens.{singleMark, beginsDouble}
-use Rattle.grammar.specs.Kinds.{classOf, classesFrom, classTable, kindOf}
+use Rattle.grammar.specs.InnerKinds.{classOf, classesFrom, classTable, kindOf}
 use Rattle.tokens.proofs.bytes.classes.Statement.{statement}
 use Rattle.tokens.proofs.bytes.classes.Tie as tie
 

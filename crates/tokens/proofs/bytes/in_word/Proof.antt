@@ -4,7 +4,7 @@ use mathlib.Core.Bool.{Bool, _||_}
 use borrow.Author.Tests.{eq-eqb, ne-eqb}
 use Prim.Native.Nat.{ℕ}
 use lib.Dec.{eqb}
-use Rattle.grammar.specs.Kinds.{classOf}
+use Rattle.grammar.specs.InnerKinds.{classOf}
 use Rattle.tokens.proofs.ByteLaws.{class-word}
 use borrow.Author.Needs.{needs}
 use Rattle.tokens.proofs.bytes.in_word.Statement.{statement}

@@ -16,7 +16,7 @@ use Rattle.listed_rows.specs.declared.Progress.{Progress}
 use Rattle.listed_rows.specs.Standing.{Standing, pairMasks}
 use Rattle.compare.specs.Comparison.{BothLoaded}
 use Rattle.verdict.specs.declared.Stop.{Stop}
-use Rattle.verdict.specs.Ending.{endedAnswer, Readable}
+use Rattle.verdict.specs.InnerEnding.{endedAnswer, Readable}
 use Rattle.search.specs.declared.Level.{Level}
 use Rattle.search.specs.declared.Level.the-variants.{Ended, Outgrown}
 
