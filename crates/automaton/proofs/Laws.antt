@@ -1,8 +1,8 @@
 -- Output and next say exactly what document 01 says of them, and the traces of a state follow from them.
 use Prim.Native.Nat.{ℕ, zero, suc, _^_, _<_, suc-le-suc}
 use mathlib.Core.Bool.{cond}
-use mathlib.Core.List.{List, [], _∷_, _++_, List·Memᴰ, List·Memᴰ·not-nil, List·Memᴰ·cases-cons}
-use mathlib.Core.Logic.{_⊎_, inl, inr, _↔_}
+use mathlib.Core.List.{List, [], _∷_, _++_}
+use mathlib.Core.Logic.{_↔_}
 use mathlib.Core.Path.{_≡_, refl, sym, ap, _∙_, subst}
 use native.Mathlib.Nat.{zero-lt-suc}
 use native.Mathlib.Decide.{decLt}
@@ -93,11 +93,7 @@ module _ (sizes : List ℕ) (dups : ℕ) (p : Policy) (ok : Evaluable sizes dups
     pub next-marks-dups : (γ i : ℕ) → T (next sizes p marks β γ i) → HasDup p i
     next-marks-dups γ i t = let h = next-exact γ i .0 t .1 in reached-has P p (ok .labelled) (h .0) β γ i (h .2)
 
-    -- packets of the output, and packets at which something is marked next, are below N
-    pub output-below : (γ : ℕ) → T (output sizes p marks β γ) → γ < product sizes
-    unfolding output outputSet
-    output-below γ t = below sizes (outputSet sizes p marks β) (marked-fits marks (λ r. flow sizes r (single sizes β))) γ t
-
+    -- packets at which something is marked next are below N
     pub next-below : (γ i : ℕ) → T (next sizes p marks β γ i) → γ < product sizes
     unfolding next enteredSet
     next-below γ i t = below sizes (enteredSet sizes p marks β i) (marked-fits marks (λ r. enter sizes r (single sizes β) i)) γ t
@@ -239,23 +235,3 @@ module _ (sizes : List ℕ) (dups : ℕ) (p : Policy) (ok : Evaluable sizes dups
       let e = runs-iff t 1 β in
       let k = whole-iff β t in
       (λ h. k .0 (e .0 h .1), λ h. e .1 (l, k .1 h))
-
-  -- all packets of a trace are below N
-  pub state-below : (t : List ℕ) (m β : ℕ) → β < product sizes → StateTraces sizes p (bit m) β t → (γ : ℕ) → List·Memᴰ γ t → γ < product sizes
-  state-below [] m β l h γ i = absurd (List·Memᴰ·not-nil i)
-  state-below (c ∷ []) m β l h γ i = go (List·Memᴰ·cases-cons i)
-    where
-      go : (γ ≡ c) ⊎ List·Memᴰ γ [] → γ < product sizes
-      go (inl e) = subst (λ x. x < product sizes) (sym e) (output-below (bit m) β c (output-iff (bit m) β l c .1 h))
-      go (inr n) = absurd (List·Memᴰ·not-nil n)
-  state-below (c ∷ d ∷ t) m β l h γ i =
-      let k = nextMask-iff m β l c d t .0 h in
-      let b = next-inside m β c (d ∷ t) k in
-      go b (List·Memᴰ·cases-cons i) (state-below (d ∷ t) (nextMask sizes p dups m β c) c b k γ)
-    where
-      go : c < product sizes → (γ ≡ c) ⊎ List·Memᴰ γ (d ∷ t) → (List·Memᴰ γ (d ∷ t) → γ < product sizes) → γ < product sizes
-      go b (inl e) f = subst (λ x. x < product sizes) (sym e) b
-      go b (inr n) f = f n
-
-  pub traces-below : (β : ℕ) → β < product sizes → (t : List ℕ) → Traces P p β t → (γ : ℕ) → List·Memᴰ γ t → γ < product sizes
-  traces-below β l t h = state-below t 1 β l (whole-iff β t .1 h)

@@ -23,10 +23,6 @@ fn output(set: PacketSet) {
     }
 }
 
-fn wide(x: u32) -> u64 {
-    x as u64
-}
-
 fn states(next: &Next) {
     let mut i = 0;
     while i < 1024 {
@@ -34,7 +30,7 @@ fn states(next: &Next) {
             harness::space();
             harness::number(i as u64);
             io::write_all(1, b":");
-            harness::number(wide(next[i]));
+            harness::number(harness::wide32(next[i]));
         }
         i += 1;
     }
@@ -76,20 +72,20 @@ fn step(sizes: &[u16], kind: &[u8], first: &[u16], second: &[u16], state: u32, p
 }
 
 fn one_case(input: &[u8], from: usize) -> usize {
-    let declared = harness::scan_short(input, from);
-    let kinds = harness::scan_long_bytes(input, declared.at);
-    let firsts = harness::scan_long(input, kinds.at);
-    let seconds = harness::scan_long(input, firsts.at);
+    let mut sizes = [0u16; 16];
+    let declared = harness::scan_list(input, from, &mut sizes);
+    let mut kind = [0u8; 520];
+    let kinds = harness::scan_bytes(input, declared.at, &mut kind);
+    let mut first = [0u16; 520];
+    let firsts = harness::scan_list(input, kinds.at, &mut first);
+    let mut second = [0u16; 520];
+    let seconds = harness::scan_list(input, firsts.at, &mut second);
     let state = harness::scan(input, seconds.at);
     let packet = harness::scan(input, state.at);
-    let sizes = declared.numbers;
-    let d = declared.count;
-    let kind = kinds.numbers;
-    let k = kinds.count;
-    let first = firsts.numbers;
-    let f = firsts.count;
-    let second = seconds.numbers;
-    let s = seconds.count;
+    let d = declared.len;
+    let k = kinds.len;
+    let f = firsts.len;
+    let s = seconds.len;
     step(
         &sizes[..d],
         &kind[..k],

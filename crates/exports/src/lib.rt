@@ -5,7 +5,7 @@ ghost use Rattle.packet.specs.Packets.{numberOf};
 ghost use Rattle.policy.specs.AsLists.{asLists};
 ghost use Rattle.legality.specs.Answers.{policyLegality, pairLegality};
 ghost use Rattle.turning.specs.Turning.{valuesTests, valuesAnswer, valuesLeft, numberTests, numberAnswer};
-ghost use Rattle.search.specs.Call.{lent};
+ghost use Rattle.search.specs.Call.{lentAtEntry, lentAtExit};
 ghost use Rattle.answer_numbers.specs.Numbers.{valuesNumbers, numberNumbers, policyNumbers, pairNumbers};
 ghost use Rattle.exports.specs.Promises.{ReadOut, SearchedOut, TextsOut, EvidenceOut, TraceOut};
 
@@ -102,7 +102,7 @@ pub extern "C" fn netkat_search(
     work: &mut [u32],
     answer: &mut [u64; 8],
 )
-    ensures { λ _. ⌜ SearchedOut (now (sizes .entry)) (asLists (now («left_kind» .entry)) (now («left_first» .entry)) (now («left_second» .entry))) (asLists (now («right_kind» .entry)) (now («right_first» .entry)) (now («right_second» .entry))) (lent (now (packet .entry)) (now (left .entry)) (now (right .entry)) (now (parent .entry)) (now (trace .entry)) (now (work .entry))) (now (answer .exit)) (lent (now (packet .exit)) (now (left .exit)) (now (right .exit)) (now (parent .exit)) (now (trace .exit)) (now (work .exit))) ⌝ }
+    ensures { λ _. ⌜ SearchedOut (now (sizes .entry)) (asLists (now («left_kind» .entry)) (now («left_first» .entry)) (now («left_second» .entry))) (asLists (now («right_kind» .entry)) (now («right_first» .entry)) (now («right_second» .entry))) (lentAtEntry packet left right parent trace work) (now (answer .exit)) (lentAtExit packet left right parent trace work) ⌝ }
 {
     *answer = answer_numbers::of_verdict(search::search(
         sizes,
@@ -135,7 +135,7 @@ pub extern "C" fn netkat_search_texts(
     work: &mut [u32],
     answer: &mut [u64; 8],
 )
-    ensures { λ _. ⌜ TextsOut (now (sizes .entry)) (now («left_text» .entry)) (now («right_text» .entry)) (lent (now (packet .entry)) (now (left .entry)) (now (right .entry)) (now (parent .entry)) (now (trace .entry)) (now (work .entry))) (now (answer .exit)) (lent (now (packet .exit)) (now (left .exit)) (now (right .exit)) (now (parent .exit)) (now (trace .exit)) (now (work .exit))) ⌝ }
+    ensures { λ _. ⌜ TextsOut (now (sizes .entry)) (now («left_text» .entry)) (now («right_text» .entry)) (lentAtEntry packet left right parent trace work) (now (answer .exit)) (lentAtExit packet left right parent trace work) ⌝ }
 {
     *answer = answer_numbers::of_verdict(search_texts::search(
         sizes,

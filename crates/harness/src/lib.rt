@@ -55,110 +55,7 @@ pub fn scan(input: &[u8], from: usize) -> Scanned {
     digits(input, next_digit(input, from))
 }
 
-// A short list of the input: its length, at most 16, then its numbers; and the place behind them.
-pub struct Short {
-    pub numbers: [u16; 16],
-    pub count: usize,
-    pub at: usize,
-}
-
-pub fn scan_short(input: &[u8], from: usize) -> Short
-    ensures { λ r. ⌜ (r .count ≤ 16) × (16 ≡ length (r .numbers)) ⌝ }
-{
-    let wanted = scan(input, from);
-    let mut at = wanted.at;
-    let mut numbers = [0u16; 16];
-    let mut i: usize = 0;
-    while i < 16 {
-        if wanted.value <= i as u32 {
-            return Short {
-                numbers,
-                count: i,
-                at,
-            };
-        }
-        let s = scan(input, at);
-        numbers[i] = (s.value % 65536) as u16;
-        at = s.at;
-        i += 1;
-    }
-    Short {
-        numbers,
-        count: 16,
-        at,
-    }
-}
-
-// A list of the input long enough for a policy with more nodes than are legal: its length, at most 520, then its
-// numbers; and the place behind them.
-pub struct Long {
-    pub numbers: [u16; 520],
-    pub count: usize,
-    pub at: usize,
-}
-
-pub fn scan_long(input: &[u8], from: usize) -> Long
-    ensures { λ r. ⌜ (r .count ≤ 520) × (520 ≡ length (r .numbers)) ⌝ }
-{
-    let wanted = scan(input, from);
-    let mut at = wanted.at;
-    let mut numbers = [0u16; 520];
-    let mut i: usize = 0;
-    while i < 520 {
-        if wanted.value <= i as u32 {
-            return Long {
-                numbers,
-                count: i,
-                at,
-            };
-        }
-        let s = scan(input, at);
-        numbers[i] = (s.value % 65536) as u16;
-        at = s.at;
-        i += 1;
-    }
-    Long {
-        numbers,
-        count: 520,
-        at,
-    }
-}
-
-// The same of numbers of 8 bits.
-pub struct LongBytes {
-    pub numbers: [u8; 520],
-    pub count: usize,
-    pub at: usize,
-}
-
-pub fn scan_long_bytes(input: &[u8], from: usize) -> LongBytes
-    ensures { λ r. ⌜ (r .count ≤ 520) × (520 ≡ length (r .numbers)) ⌝ }
-{
-    let wanted = scan(input, from);
-    let mut at = wanted.at;
-    let mut numbers = [0u8; 520];
-    let mut i: usize = 0;
-    while i < 520 {
-        if wanted.value <= i as u32 {
-            return LongBytes {
-                numbers,
-                count: i,
-                at,
-            };
-        }
-        let s = scan(input, at);
-        numbers[i] = (s.value % 256) as u8;
-        at = s.at;
-        i += 1;
-    }
-    LongBytes {
-        numbers,
-        count: 520,
-        at,
-    }
-}
-
-// How long a text is so far, and the place of the input behind what was read.
+// How many entries a list has so far, and the place of the input behind what was read.
 pub struct Built {
     pub len: usize,
     pub at: usize,
@@ -177,6 +74,46 @@ pub fn least(a: usize, b: usize) -> usize
         return a;
     }
     b
+}
+
+// The length of a list, at most as many as there is room for.
+pub fn lent(input: &[u8], from: usize, most: usize) -> Built
+    ensures { λ r. ⌜ r .len ≤ most ⌝ }
+{
+    let wanted = scan(input, from);
+    Built {
+        len: least(size(wanted.value), most),
+        at: wanted.at,
+    }
+}
+
+// A list of the input: its length, then its numbers.
+pub fn scan_list(input: &[u8], from: usize, list: &mut [u16]) -> Built
+    ensures { λ r. ⌜ r .len ≤ length (now (list .exit)) ⌝ }
+{
+    let b = lent(input, from, list.len());
+    let len = b.len;
+    let mut at = b.at;
+    let mut i: usize = 0;
+    while i < len {
+        let s = scan(input, at);
+        list[i] = (s.value % 65536) as u16;
+        at = s.at;
+        i += 1;
+    }
+    Built { len, at }
+}
+
+// The same of numbers of 8 bits.
+pub fn scan_bytes(input: &[u8], from: usize, list: &mut [u8]) -> Built
+    ensures { λ r. ⌜ r .len ≤ length (now (list .exit)) ⌝ }
+{
+    let b = lent(input, from, list.len());
+    let read = once(input, b.at, b.len, list, 0);
+    Built {
+        len: b.len,
+        at: read.at,
+    }
 }
 
 fn put(text: &mut [u8], len: usize, b: u8) -> usize {
@@ -216,7 +153,9 @@ fn part(input: &[u8], from: usize, text: &mut [u8], start: usize) -> Built {
 }
 
 // A text of the input: the number of its parts, and for each part how often it stands there, its length and its bytes.
-pub fn build(input: &[u8], from: usize, text: &mut [u8]) -> Built {
+pub fn build(input: &[u8], from: usize, text: &mut [u8]) -> Built
+    ensures { λ r. ⌜ r .len ≤ length (now (text .exit)) ⌝ }
+{
     let parts = scan(input, from);
     let count = size(parts.value);
     let mut len = 0;
@@ -226,10 +165,19 @@ pub fn build(input: &[u8], from: usize, text: &mut [u8]) -> Built {
         len = b.len;
         at = b.at;
     }
-    Built { len, at }
+    Built {
+        len: least(len, text.len()),
+        at,
+    }
 }
 
 pub fn wide(x: u16) -> u64
+    ensures { λ r. ⌜ r ≡ x ⌝ }
+{
+    x as u64
+}
+
+pub fn wide32(x: u32) -> u64
     ensures { λ r. ⌜ r ≡ x ⌝ }
 {
     x as u64

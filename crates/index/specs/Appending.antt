@@ -5,6 +5,8 @@ use mathlib.Core.List.{List}
 use Prim.Native.Nat.{ℕ, suc}
 use lib.Dec.{ltb}
 use lib.ListN.{length, getD, set}
+use denote.Ref.{RefT}
+use denote.Triple.Both.{Both}
 use Rattle.index.specs.declared.Row.{Row}
 use Rattle.index.specs.declared.Vacancy.{Vacancy}
 use Rattle.index.specs.declared.Vacancy.the-variants.{At, Nowhere}
@@ -32,6 +34,16 @@ pub record Lists : Type 0 where
 
 abbrev pub lists : List ℕ → List ℕ → List ℕ → List ℕ → List ℕ → Lists
 lists P L R Q trees = record { packets = P; left = L; right = R; parents = Q; trees = trees }
+
+-- a lent list in an `ensures`: the reference at entry and at exit
+abbrev pub LentList : Type 0
+LentList = Both (RefT (List ℕ)) (RefT (List ℕ))
+
+abbrev pub listsAtEntry : LentList → LentList → LentList → LentList → LentList → Lists
+listsAtEntry P L R Q trees = lists (P .entry .now) (L .entry .now) (R .entry .now) (Q .entry .now) (trees .entry .now)
+
+abbrev pub listsAtExit : LentList → LentList → LentList → LentList → LentList → Lists
+listsAtExit P L R Q trees = lists (P .exit .now) (L .exit .now) (R .exit .now) (Q .exit .now) (trees .exit .now)
 
 -- the answer: how many rows are listed now, or full
 unfoldable pub answerOf : Bool → Bool → ℕ → Appended

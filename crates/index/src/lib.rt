@@ -4,7 +4,7 @@ ghost use Prim.Native.Nat.{_+_, _<_, _≤_};
 ghost use lib.ListN.{length, getD, set};
 ghost use Rattle.index.specs.Columns.{policyCount, EvenColumns, rowAt, sameStates, sameRow, listedBelow};
 ghost use Rattle.index.specs.Index.{hashOf, bucketOf, sideAt, Indexed, Indexable, RoomFor, Placed};
-ghost use Rattle.index.specs.Appending.{NewPlaced, lists, Appending};
+ghost use Rattle.index.specs.Appending.{NewPlaced, listsAtEntry, listsAtExit, Appending};
 
 // How many policies a row follows.
 pub const POLICIES: usize = 2;
@@ -268,7 +268,7 @@ pub fn append(
     requires { ⌜ length (now parents) ≡ length (now packets) ⌝ }
     requires { ⌜ RoomFor (now packets) n 1 (now trees) ⌝ }
     requires { ⌜ row .packet < count ⌝ }
-    ensures { λ r. ⌜ Appending (lists (now (packets .entry)) (now (left .entry)) (now (right .entry)) (now (parents .entry)) (now (trees .entry))) (lists (now (packets .exit)) (now (left .exit)) (now (right .exit)) (now (parents .exit)) (now (trees .exit))) count n row parent r ⌝ }
+    ensures { λ r. ⌜ Appending (listsAtEntry packets left right parents trees) (listsAtExit packets left right parents trees) count n row parent r ⌝ }
 {
     let Vacancy::At(slot) = place_new(packets, left, right, n, count, trees, row) else {
         return Appended::Rows(n);

@@ -4,7 +4,7 @@ ghost use Prim.Native.Nat.{_+_, _<_, _≤_};
 ghost use lib.ListN.{length};
 ghost use Rattle.index.specs.Columns.{leftOf, rightOf};
 ghost use Rattle.index.specs.Index.{Indexed, RoomFor};
-ghost use Rattle.index.specs.Appending.{lists};
+ghost use Rattle.index.specs.Appending.{listsAtEntry, listsAtExit};
 ghost use Rattle.marks.specs.Marks.{Marking};
 ghost use Rattle.listed_rows.specs.Standing.{Started, NextAppended};
 use index::Appended;
@@ -25,7 +25,7 @@ pub fn start(
 ) -> Appended
     requires { ⌜ Indexed (now packets) (now left) (now right) count 0 (now trees) ⌝ }
     requires { ⌜ length (now parents) ≡ length (now packets) ⌝ }
-    ensures { λ r. ⌜ Started (lists (now (packets .entry)) (now (left .entry)) (now (right .entry)) (now (parents .entry)) (now (trees .entry))) (lists (now (packets .exit)) (now (left .exit)) (now (right .exit)) (now (parents .exit)) (now (trees .exit))) count r ⌝ }
+    ensures { λ r. ⌜ Started (listsAtEntry packets left right parents trees) (listsAtExit packets left right parents trees) count r ⌝ }
 {
     let mut n = 0;
     let mut packet: u16 = 0;
@@ -66,7 +66,7 @@ pub fn append_next(
     requires { ⌜ length (now parents) ≡ length (now packets) ⌝ }
     requires { ⌜ RoomFor (now packets) (progress .listed) (progress .count) (now trees) ⌝ }
     requires { ⌜ (Marking (progress .count) (leftOf (now next))) × (Marking (progress .count) (rightOf (now next))) × (progress .count ≤ 1024) × (progress .handled < 65536) ⌝ }
-    ensures { λ r. ⌜ NextAppended (lists (now (packets .entry)) (now (left .entry)) (now (right .entry)) (now (parents .entry)) (now (trees .entry))) (lists (now (packets .exit)) (now (left .exit)) (now (right .exit)) (now (parents .exit)) (now (trees .exit))) (progress .count) (progress .listed) (progress .handled) (leftOf (now (next .entry))) (rightOf (now (next .entry))) r ⌝ }
+    ensures { λ r. ⌜ NextAppended (listsAtEntry packets left right parents trees) (listsAtExit packets left right parents trees) (progress .count) (progress .listed) (progress .handled) (leftOf (now (next .entry))) (rightOf (now (next .entry))) r ⌝ }
 {
     let count = progress.count;
     let handled = progress.handled as u16;

@@ -2,7 +2,7 @@
 use libc::STDIN_FILENO;
 use libc::STDOUT_FILENO;
 ghost use mathlib.Core.Path.{_≡_};
-ghost use Prim.Native.Nat.{_-_, _≤_, min};
+ghost use Prim.Native.Nat.{_-_, _≤_};
 ghost use lib.ListN.{length, take};
 ghost use Rattle.printing.specs.InnerWrote.{Wrote};
 ghost use Rattle.libc.specs.Io.{Moved};
@@ -14,21 +14,12 @@ struct Kept {
     more: bool,
 }
 
-fn least(a: usize, b: usize) -> usize
-    ensures { λ r. ⌜ (r ≤ a) × (r ≤ b) × (r ≡ min a b) ⌝ }
-{
-    if a < b {
-        return a;
-    }
-    b
-}
-
 // Keeps what there is room for behind the first bytes.
 fn keep(input: &mut [u8], len: usize, chunk: &[u8]) -> usize
     requires { ⌜ len ≤ length (now input) ⌝ }
     ensures { λ r. ⌜ Wrote (now (input .entry)) (now (input .exit)) len r (take (length (now (input .entry)) - len) (now (chunk .entry))) ⌝ }
 {
-    let n = least(input.len() - len, chunk.len());
+    let n = text::least(input.len() - len, chunk.len());
     printing::bytes(input, len, &chunk[..n])
 }
 

@@ -1,7 +1,7 @@
 -- Where a word leads in the system of two policies, in terms of Figure 1; nothing tells exactly when the traces are the same.
 use Prim.Native.Nat.{ℕ, _<_, _≤_}
 use mathlib.Core.Bool.{Bool, true, false, xor, cond}
-use mathlib.Core.List.{List, [], _∷_, _++_, List·Memᴰ, List·Memᴰ·head, List·Memᴰ·tail, Memᴰ·append-left, Memᴰ·append-right}
+use mathlib.Core.List.{List, [], _∷_, _++_}
 use mathlib.Core.Logic.{_↔_}
 use mathlib.Core.Path.{_≡_, refl, sym, ap, ap₂, subst}
 use native.Mathlib.Omega.{arith}
@@ -10,11 +10,14 @@ use lib.ListN.{length}
 use Rattle.packet.specs.Sizes.{product}
 use Rattle.packet.proofs.Tests.{clash, xor-same, xor-false, T-true, true-T, T-false}
 use Rattle.policy.specs.Meaning.{numbered, Traces, SameTraces, SameTracesBelow}
+use Rattle.policy.specs.Each.{Each}
+use Rattle.policy.proofs.EachLaws.{each-append}
 use Rattle.policy.proofs.TraceLaws.{traces-non-empty}
+use Rattle.policy.proofs.Numbered.{traces-below}
 use Rattle.packet_set.specs.Bits.{bit}
 use Rattle.automaton.specs.State.{StateTraces}
 use Rattle.automaton.proofs.Tests.{same-test}
-use Rattle.automaton.proofs.Laws.{split-last, outputMask-iff, nextMask-iff, whole-iff, traces-below}
+use Rattle.automaton.proofs.Laws.{split-last, outputMask-iff, nextMask-iff, whole-iff}
 use Rattle.system.specs.System.{Row, startRow, nextRow, tells}
 use Rattle.system.specs.InnerWords.{Word, end, then, follow, SilentBelow, Silent}
 use Rattle.system.proofs.Basics.{length-snoc}
@@ -24,9 +27,10 @@ use Rattle.pair.proofs.Sides.{at-each}
 use Rattle.pair.proofs.Lawful.{EvaluablePair}
 
 -- a list of packets below n is a word
-pub word-of : (n : ℕ) (t : List ℕ) → ((γ : ℕ) → List·Memᴰ γ t → γ < n) → Word n t
-word-of n [] f = end
-word-of n (γ ∷ t) f = then (f γ (List·Memᴰ·head refl)) (word-of n t (λ δ m. f δ (List·Memᴰ·tail m)))
+word-of : (n : ℕ) (t : List ℕ) → Each (λ γ. γ < n) t → Word n t
+unfolding Each
+word-of n [] e = end
+word-of n (γ ∷ t) e = then (e .0) (word-of n t (e .1))
 
 -- one side of the two passes, the left one if it does
 pub one-side : (test : Side → Bool) → xor (test left) (test right) ≡ true → T (test (cond (test left) left right)) × (T (test (other (cond (test left) left right))) → ⊥)
@@ -131,17 +135,17 @@ module _ (sizes : List ℕ) (ps : Pair NumberedPolicy) (ok : EvaluablePair sizes
   -- where nothing tells after fewer than d packets, traces of at most d packets are the same
   pub silent-below-traces : (d : ℕ) → SilentBelow (pairSystem sizes ps) d → (α : ℕ) → α < product sizes → (t : List ℕ) → length t ≤ d
       → (s z : Side) → SideTraces sizes ps s α t → SideTraces sizes ps z α t
-  unfolding SideTraces
+  unfolding SideTraces Each
   silent-below-traces d Q α h [] l s z t = absurd (traces-non-empty (numbered sizes) (at s ps .tree) α t)
   silent-below-traces d Q α h (δ ∷ u) l s z t = go (split-last δ u)
     where
       go : (w : List ℕ) × (ε : ℕ) × (δ ∷ u ≡ w ++ (ε ∷ [])) → SideTraces sizes ps z α (δ ∷ u)
       go (w, ε, e) =
-          let small : (γ : ℕ) → List·Memᴰ γ (w ++ (ε ∷ [])) → γ < product sizes = subst (λ x. (γ : ℕ) → List·Memᴰ γ x → γ < product sizes) e (traces-below sizes (at s ps .dups) (at s ps .tree) (ok s) α h (δ ∷ u) t) in
-          let word : Word (product sizes) w = word-of (product sizes) w (λ γ m. small γ (Memᴰ·append-left (ε ∷ []) m)) in
+          let below = each-append (λ γ. γ < product sizes) w (ε ∷ []) .0 (subst (Each (λ γ. γ < product sizes)) e (traces-below sizes (at s ps .tree) (ok s .inFields) α h (δ ∷ u) t)) in
+          let word : Word (product sizes) w = word-of (product sizes) w (below .0) in
           let short : length w < d = omega (arith, length-snoc w ε, ap length e) in
           subst (λ x. SideTraces sizes ps z α x) (sym e)
-          (silent-after α h word ε (Q .silent α h w word short ε (small ε (Memᴰ·append-right w (List·Memᴰ·head refl)))) s z (subst (λ x. SideTraces sizes ps s α x) e t))
+          (silent-after α h word ε (Q .silent α h w word short ε (below .1 .0)) s z (subst (λ x. SideTraces sizes ps s α x) e t))
 
   -- nothing tells exactly when both policies have the same traces from every packet
   pub silent-iff : Silent (pairSystem sizes ps) ↔ SameTracesBelow sizes (ps .left .tree) (ps .right .tree)

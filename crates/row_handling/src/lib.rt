@@ -1,6 +1,6 @@
 // One row of the search is handled (document 01, "States and rows"). All functions here are inner.
 ghost use mathlib.Core.Path.{_≡_};
-ghost use Rattle.index.specs.Appending.{lists};
+ghost use Rattle.index.specs.Appending.{lists, listsAtEntry, listsAtExit};
 ghost use Rattle.row_handling.specs.Step.{goesOn, HandleReady, StepDone};
 use compare::Compared;
 use index::Appended;
@@ -45,7 +45,7 @@ pub fn handle(
     work: &mut [u32],
 ) -> Handled
     requires { ⌜ HandleReady (now sizes) (now nodes) (now tests) (lists (now packets) (now lefts) (now rights) (now parents) (now trees)) progress (now next) (now work) ⌝ }
-    ensures { λ r. ⌜ StepDone (now (sizes .entry)) (now (nodes .entry)) (now (tests .entry)) (lists (now (packets .entry)) (now (lefts .entry)) (now (rights .entry)) (now (parents .entry)) (now (trees .entry))) (lists (now (packets .exit)) (now (lefts .exit)) (now (rights .exit)) (now (parents .exit)) (now (trees .exit))) progress (now (work .entry)) r (now (next .exit)) (now (work .exit)) ⌝ }
+    ensures { λ r. ⌜ StepDone (now (sizes .entry)) (now (nodes .entry)) (now (tests .entry)) (listsAtEntry packets lefts rights parents trees) (listsAtExit packets lefts rights parents trees) progress (now (work .entry)) r (now (next .exit)) (now (work .exit)) ⌝ }
 {
     let row = index::row_at(packets, lefts, rights, progress.handled);
     match compare::compare(sizes, nodes, tests, row, next, work) {

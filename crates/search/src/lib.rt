@@ -4,9 +4,9 @@ ghost use mathlib.Core.Bool.{true, false};
 ghost use mathlib.Core.List.{[]};
 ghost use mathlib.Core.Path.{_≡_};
 ghost use Rattle.policy.specs.AsLists.{asLists};
-ghost use Rattle.index.specs.Appending.{lists};
+ghost use Rattle.index.specs.Appending.{lists, listsAtEntry, listsAtExit};
 ghost use Rattle.search.specs.InnerRows.{RoundsReady, RoundsDone, RestReady, RestDone, RunReady, RunDone};
-ghost use Rattle.search.specs.Call.{lent, Accepted, SearchDone, Searched};
+ghost use Rattle.search.specs.Call.{lent, lentAtEntry, lentAtExit, Accepted, SearchDone, Searched};
 use index::Appended;
 use index::Mask;
 use index::POLICIES;
@@ -52,7 +52,7 @@ fn rounds(
     work: &mut [u32],
 ) -> Level
     requires { ⌜ RoundsReady (now sizes) (now nodes) (now tests) (lists (now packets) (now lefts) (now rights) (now parents) (now trees)) start (now work) ⌝ }
-    ensures { λ r. ⌜ RoundsDone (now (sizes .entry)) (now (nodes .entry)) (now (tests .entry)) (lists (now (packets .entry)) (now (lefts .entry)) (now (rights .entry)) (now (parents .entry)) (now (trees .entry))) (lists (now (packets .exit)) (now (lefts .exit)) (now (rights .exit)) (now (parents .exit)) (now (trees .exit))) start (now (work .entry)) r (now (work .exit)) ⌝ }
+    ensures { λ r. ⌜ RoundsDone (now (sizes .entry)) (now (nodes .entry)) (now (tests .entry)) (listsAtEntry packets lefts rights parents trees) (listsAtExit packets lefts rights parents trees) start (now (work .entry)) r (now (work .exit)) ⌝ }
 {
     let mut next = [[0u32; 1056]; POLICIES];
     let mut progress = start;
@@ -217,7 +217,7 @@ fn search_accepted(
     work: &mut [u32],
 ) -> Verdict
     requires { ⌜ Accepted (now sizes) (asLists (now «left_kind») (now «left_first») (now «left_second»)) (asLists (now «right_kind») (now «right_first») (now «right_second»)) count (lent (now packets) (now lefts) (now rights) (now parents) (now trace) (now work)) ⌝ }
-    ensures { λ r. ⌜ SearchDone (now (sizes .entry)) (asLists (now («left_kind» .entry)) (now («left_first» .entry)) (now («left_second» .entry))) (asLists (now («right_kind» .entry)) (now («right_first» .entry)) (now («right_second» .entry))) (lent (now (packets .entry)) (now (lefts .entry)) (now (rights .entry)) (now (parents .entry)) (now (trace .entry)) (now (work .entry))) r (lent (now (packets .exit)) (now (lefts .exit)) (now (rights .exit)) (now (parents .exit)) (now (trace .exit)) (now (work .exit))) ⌝ }
+    ensures { λ r. ⌜ SearchDone (now (sizes .entry)) (asLists (now («left_kind» .entry)) (now («left_first» .entry)) (now («left_second» .entry))) (asLists (now («right_kind» .entry)) (now («right_first» .entry)) (now («right_second» .entry))) (lentAtEntry packets lefts rights parents trace work) r (lentAtExit packets lefts rights parents trace work) ⌝ }
 {
     lent_lists::clear(work);
     let mut nodes = [[0u64; 544]; POLICIES];
@@ -265,7 +265,7 @@ pub fn search(
     trace: &mut [u16],
     work: &mut [u32],
 ) -> Verdict
-    ensures { λ r. ⌜ Searched (now (sizes .entry)) (asLists (now («left_kind» .entry)) (now («left_first» .entry)) (now («left_second» .entry))) (asLists (now («right_kind» .entry)) (now («right_first» .entry)) (now («right_second» .entry))) (lent (now (packets .entry)) (now (lefts .entry)) (now (rights .entry)) (now (parents .entry)) (now (trace .entry)) (now (work .entry))) r (lent (now (packets .exit)) (now (lefts .exit)) (now (rights .exit)) (now (parents .exit)) (now (trace .exit)) (now (work .exit))) ⌝ }
+    ensures { λ r. ⌜ Searched (now (sizes .entry)) (asLists (now («left_kind» .entry)) (now («left_first» .entry)) (now («left_second» .entry))) (asLists (now («right_kind» .entry)) (now («right_first» .entry)) (now («right_second» .entry))) (lentAtEntry packets lefts rights parents trace work) r (lentAtExit packets lefts rights parents trace work) ⌝ }
 {
     let lists = lent_lists::search_lists(
         packets.len(),

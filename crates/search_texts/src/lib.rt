@@ -2,7 +2,7 @@
 ghost use mathlib.Core.List.{[], _∷_};
 ghost use Rattle.packet.specs.Refusals.{firstOf};
 ghost use Rattle.policy.specs.AsLists.{asLists};
-ghost use Rattle.search.specs.Call.{lent};
+ghost use Rattle.search.specs.Call.{lentAtEntry, lentAtExit};
 ghost use Rattle.search_texts.specs.Call.{textNodes, textStage, Ran, TextsSearched};
 use grammar::Answer;
 use index::Mask;
@@ -24,7 +24,7 @@ fn search_right(
     trace: &mut [u16],
     work: &mut [u32],
 ) -> Verdict
-    ensures { λ r. ⌜ Ran (textStage (now (right .entry))) (now (sizes .entry)) (asLists (now («left_kind» .entry)) (now («left_first» .entry)) (now («left_second» .entry))) (textNodes (now (right .entry))) (lent (now (packets .entry)) (now (lefts .entry)) (now (rights .entry)) (now (parents .entry)) (now (trace .entry)) (now (work .entry))) r (lent (now (packets .exit)) (now (lefts .exit)) (now (rights .exit)) (now (parents .exit)) (now (trace .exit)) (now (work .exit))) ⌝ }
+    ensures { λ r. ⌜ Ran (textStage (now (right .entry))) (now (sizes .entry)) (asLists (now («left_kind» .entry)) (now («left_first» .entry)) (now («left_second» .entry))) (textNodes (now (right .entry))) (lentAtEntry packets lefts rights parents trace work) r (lentAtExit packets lefts rights parents trace work) ⌝ }
 {
     let mut kind = [0u8; 512];
     let mut first = [0u16; 512];
@@ -61,7 +61,7 @@ fn search_left(
     trace: &mut [u16],
     work: &mut [u32],
 ) -> Verdict
-    ensures { λ r. ⌜ Ran (firstOf (textStage (now (left .entry)) ∷ textStage (now (right .entry)) ∷ [])) (now (sizes .entry)) (textNodes (now (left .entry))) (textNodes (now (right .entry))) (lent (now (packets .entry)) (now (lefts .entry)) (now (rights .entry)) (now (parents .entry)) (now (trace .entry)) (now (work .entry))) r (lent (now (packets .exit)) (now (lefts .exit)) (now (rights .exit)) (now (parents .exit)) (now (trace .exit)) (now (work .exit))) ⌝ }
+    ensures { λ r. ⌜ Ran (firstOf (textStage (now (left .entry)) ∷ textStage (now (right .entry)) ∷ [])) (now (sizes .entry)) (textNodes (now (left .entry))) (textNodes (now (right .entry))) (lentAtEntry packets lefts rights parents trace work) r (lentAtExit packets lefts rights parents trace work) ⌝ }
 {
     let mut kind = [0u8; 512];
     let mut first = [0u16; 512];
@@ -97,7 +97,7 @@ pub fn search(
     trace: &mut [u16],
     work: &mut [u32],
 ) -> Verdict
-    ensures { λ r. ⌜ TextsSearched (now (sizes .entry)) (now (left .entry)) (now (right .entry)) (lent (now (packets .entry)) (now (lefts .entry)) (now (rights .entry)) (now (parents .entry)) (now (trace .entry)) (now (work .entry))) r (lent (now (packets .exit)) (now (lefts .exit)) (now (rights .exit)) (now (parents .exit)) (now (trace .exit)) (now (work .exit))) ⌝ }
+    ensures { λ r. ⌜ TextsSearched (now (sizes .entry)) (now (left .entry)) (now (right .entry)) (lentAtEntry packets lefts rights parents trace work) r (lentAtExit packets lefts rights parents trace work) ⌝ }
 {
     let fields = packet::fields_stage(sizes);
     let counted = packet::packet_count(sizes);

@@ -438,8 +438,8 @@ fn test(text: &[u8], room: usize) -> Answer
     size_stage(text, room)
 }
 
-// The lesser of two lengths.
-fn least(a: usize, b: usize) -> usize
+// Inner: the lesser of two lengths.
+pub fn least(a: usize, b: usize) -> usize
     ensures { λ r. ⌜ r ≡ min a b ⌝ }
 {
     if a < b {

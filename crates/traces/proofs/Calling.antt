@@ -1,10 +1,9 @@
 -- The trace checker's answer from its parts, in terms of Figure 1, and on the search's trace. Assumes nothing.
-use Prim.Native.Nat.{ℕ, zero, suc, _<_, _≤_}
+use Prim.Native.Nat.{ℕ, _<_, _≤_}
 use mathlib.Core.Bool.{Bool, true, false, true≢false}
-use mathlib.Core.List.{List, [], _∷_, List·Memᴰ, List·Memᴰ·head, List·Memᴰ·tail}
+use mathlib.Core.List.{List, []}
 use mathlib.Core.Logic.{_↔_}
 use mathlib.Core.Path.{_≡_, refl, sym, ap, ap₂, _∙_, subst}
-use native.Mathlib.Nat.{not-suc-le-zero, le-of-suc-le-suc}
 use native.Mathlib.Omega.{arith}
 use lib.Dec.{T}
 use lib.ListN.{length, getD, replicate, getD-replicate, length-replicate}
@@ -15,7 +14,8 @@ use Rattle.packet.specs.Sizes.{product}
 use Rattle.policy.specs.Order.{pairTests}
 use Rattle.policy.specs.Legality.{Legal}
 use Rattle.policy.specs.NodeLists.{NodeLists}
-use Rattle.automaton.proofs.Laws.{traces-below}
+use Rattle.policy.proofs.EachLaws.{each-at}
+use Rattle.policy.proofs.Numbered.{traces-below}
 use Rattle.pair.specs.Sides.{Side, left, right, at, policies}
 use Rattle.pair.specs.Pair.{SideTraces}
 use Rattle.pair.specs.Search.{searchAnswer, different}
@@ -64,11 +64,6 @@ unless-answer : (t : Tested) (a b : TraceAnswer) → checkedUnless t a ≡ check
 unfolding checkedUnless isRefused
 unless-answer Passed a b e = (refl, sym (answer-in a) ∙ ap answerIn e ∙ answer-in b)
 unless-answer (Refused r) a b e = absurd (true≢false (ap isRefused e ∙ not-refused b))
-
-mem-at : (t : List ℕ) (i : ℕ) → i < length t → List·Memᴰ (getD t i 0) t
-mem-at [] i l = absurd (not-suc-le-zero l)
-mem-at (γ ∷ t) zero l = List·Memᴰ·head refl
-mem-at (γ ∷ t) (suc i) l = List·Memᴰ·tail (mem-at t i (le-of-suc-le-suc l))
 
 module _ (sizes : List ℕ) (L R : NodeLists) where
   evaluable : (words : ℕ) → listsTests sizes L R words ≡ Passed → EvaluablePair sizes (policies L R)
@@ -168,5 +163,5 @@ module _ (sizes : List ℕ) (L R : NodeLists) where
       let tells = different-tells sizes (policies L R) ok rows lent s α trace d in
       ap₂ checkedUnless
       (trace-tested sizes L R words α trace passed
-      ∙ inside-packets _ _ _ (tells .enters) (λ i l. traces-below sizes (at s (policies L R) .dups) (at s (policies L R) .tree) (ok s) α (tells .enters) trace (tells .has) _ (mem-at trace i l)))
+      ∙ inside-packets _ _ _ (tells .enters) (λ i l. each-at (λ γ. γ < product sizes) trace 0 (omega (arith, tells .enters)) (traces-below sizes (at s (policies L R) .tree) (ok s .inFields) α (tells .enters) trace (tells .has)) i))
       (different-only sizes (policies L R) ok rows lent s α trace d)

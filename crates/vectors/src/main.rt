@@ -6,6 +6,7 @@
 // what it takes, in the order of include/netkat.h. A list that the call may write is its length; each entry is 7 before the call. A
 // list that it only reads is the number of its parts, and for each part how often it stands there, at least once, how many
 // entries it has, at least one, and these. An entry of 32 bits is its upper and its lower half.
+use harness::Built;
 use harness::Scanned;
 ghost use mathlib.Core.Path.{_≡_};
 ghost use Prim.Native.Nat.{_≤_};
@@ -123,69 +124,36 @@ fn next(input: &[u8], p: Place, wide: bool) -> Place {
     }
 }
 
-// How many entries a list has, and the place behind it in the input.
-struct Counted {
-    count: usize,
-    at: usize,
-}
-
-// The length of a list that the call may write.
-fn lent(input: &[u8], from: usize, most: usize) -> Counted
-    ensures { λ r. ⌜ r .count ≤ most ⌝ }
-{
-    let wanted = harness::scan(input, from);
-    Counted {
-        count: harness::least(harness::size(wanted.value), most),
-        at: wanted.at,
-    }
-}
-
-fn fill8(input: &[u8], from: usize, list: &mut [u8]) -> Counted
-    ensures { λ r. ⌜ r .count ≤ length (now (list .exit)) ⌝ }
+fn fill16(input: &[u8], from: usize, list: &mut [u16]) -> Built
+    ensures { λ r. ⌜ r .len ≤ length (now (list .exit)) ⌝ }
 {
     let mut p = list_at(input, from);
     let mut i: usize = 0;
     while i < list.len() {
         p = next(input, p, false);
         if !p.more {
-            return Counted { count: i, at: p.at };
-        }
-        list[i] = (p.entry % 256) as u8;
-        i += 1;
-    }
-    Counted { count: i, at: p.at }
-}
-
-fn fill16(input: &[u8], from: usize, list: &mut [u16]) -> Counted
-    ensures { λ r. ⌜ r .count ≤ length (now (list .exit)) ⌝ }
-{
-    let mut p = list_at(input, from);
-    let mut i: usize = 0;
-    while i < list.len() {
-        p = next(input, p, false);
-        if !p.more {
-            return Counted { count: i, at: p.at };
+            return Built { len: i, at: p.at };
         }
         list[i] = (p.entry % 65536) as u16;
         i += 1;
     }
-    Counted { count: i, at: p.at }
+    Built { len: i, at: p.at }
 }
 
-fn fill32(input: &[u8], from: usize, list: &mut [u32]) -> Counted
-    ensures { λ r. ⌜ r .count ≤ length (now (list .exit)) ⌝ }
+fn fill32(input: &[u8], from: usize, list: &mut [u32]) -> Built
+    ensures { λ r. ⌜ r .len ≤ length (now (list .exit)) ⌝ }
 {
     let mut p = list_at(input, from);
     let mut i: usize = 0;
     while i < list.len() {
         p = next(input, p, true);
         if !p.more {
-            return Counted { count: i, at: p.at };
+            return Built { len: i, at: p.at };
         }
         list[i] = p.entry;
         i += 1;
     }
-    Counted { count: i, at: p.at }
+    Built { len: i, at: p.at }
 }
 
 fn added(sum: u64, x: u64) -> u64 {
@@ -193,12 +161,6 @@ fn added(sum: u64, x: u64) -> u64 {
 }
 
 fn wide8(x: u8) -> u64
-    ensures { λ r. ⌜ r ≡ x ⌝ }
-{
-    x as u64
-}
-
-fn wide32(x: u32) -> u64
     ensures { λ r. ⌜ r ≡ x ⌝ }
 {
     x as u64
@@ -237,7 +199,7 @@ fn sum32(list: &[u32; 66000], count: usize) {
     let mut sum: u64 = 1;
     let mut i: usize = 0;
     while i < n {
-        sum = added(sum, wide32(list[i]));
+        sum = added(sum, harness::wide32(list[i]));
         i += 1;
     }
     show_sum(sum);
@@ -255,10 +217,10 @@ fn values(input: &[u8], from: usize) -> usize {
     let mut sizes = [0u16; 32];
     let z = fill16(input, from, &mut sizes);
     let number = harness::scan(input, z.at);
-    let v = lent(input, number.at, 66000);
+    let v = harness::lent(input, number.at, 66000);
     let mut values = [7u16; 66000];
-    let zn = z.count;
-    let vn = v.count;
+    let zn = z.len;
+    let vn = v.len;
     let mut answer = [7u64; 8];
     exports::netkat_values(
         &sizes[..zn],
@@ -276,8 +238,8 @@ fn number(input: &[u8], from: usize) -> usize {
     let z = fill16(input, from, &mut sizes);
     let mut values = [0u16; 32];
     let v = fill16(input, z.at, &mut values);
-    let zn = z.count;
-    let vn = v.count;
+    let zn = z.len;
+    let vn = v.len;
     let mut answer = [7u64; 8];
     exports::netkat_number(&sizes[..zn], &values[..vn], &mut answer);
     show(&answer);
@@ -288,15 +250,15 @@ fn policy(input: &[u8], from: usize) -> usize {
     let mut sizes = [0u16; 32];
     let z = fill16(input, from, &mut sizes);
     let mut kind = [0u8; 600];
-    let k = fill8(input, z.at, &mut kind);
+    let k = harness::build(input, z.at, &mut kind);
     let mut first = [0u16; 600];
     let fi = fill16(input, k.at, &mut first);
     let mut second = [0u16; 600];
     let se = fill16(input, fi.at, &mut second);
-    let zn = z.count;
-    let kn = k.count;
-    let fin = fi.count;
-    let sen = se.count;
+    let zn = z.len;
+    let kn = k.len;
+    let fin = fi.len;
+    let sen = se.len;
     let mut answer = [7u64; 8];
     exports::netkat_policy(
         &sizes[..zn],
@@ -311,17 +273,17 @@ fn policy(input: &[u8], from: usize) -> usize {
 
 fn read(input: &[u8], from: usize) -> usize {
     let mut text = [0u8; 8192];
-    let t = fill8(input, from, &mut text);
-    let k = lent(input, t.at, 600);
+    let t = harness::build(input, from, &mut text);
+    let k = harness::lent(input, t.at, 600);
     let mut kind = [7u8; 600];
-    let fi = lent(input, k.at, 66000);
+    let fi = harness::lent(input, k.at, 66000);
     let mut first = [7u16; 66000];
-    let se = lent(input, fi.at, 66000);
+    let se = harness::lent(input, fi.at, 66000);
     let mut second = [7u16; 66000];
-    let tn = t.count;
-    let kn = k.count;
-    let fin = fi.count;
-    let sen = se.count;
+    let tn = t.len;
+    let kn = k.len;
+    let fin = fi.len;
+    let sen = se.len;
     let mut answer = [7u64; 8];
     exports::netkat_read(
         &text[..tn],
@@ -348,24 +310,24 @@ fn search(
     right_first: &[u16],
     right_second: &[u16],
 ) -> usize {
-    let p = lent(input, from, 66000);
+    let p = harness::lent(input, from, 66000);
     let mut packet = [7u16; 66000];
-    let l = lent(input, p.at, 66000);
+    let l = harness::lent(input, p.at, 66000);
     let mut left = [7u32; 66000];
-    let r = lent(input, l.at, 66000);
+    let r = harness::lent(input, l.at, 66000);
     let mut right = [7u32; 66000];
-    let q = lent(input, r.at, 66000);
+    let q = harness::lent(input, r.at, 66000);
     let mut parent = [7u16; 66000];
-    let t = lent(input, q.at, 66000);
+    let t = harness::lent(input, q.at, 66000);
     let mut trace = [7u16; 66000];
-    let w = lent(input, t.at, 66000);
+    let w = harness::lent(input, t.at, 66000);
     let mut work = [7u32; 66000];
-    let pn = p.count;
-    let ln = l.count;
-    let rn = r.count;
-    let qn = q.count;
-    let tn = t.count;
-    let wn = w.count;
+    let pn = p.len;
+    let ln = l.len;
+    let rn = r.len;
+    let qn = q.len;
+    let tn = t.len;
+    let wn = w.len;
     let mut answer = [7u64; 8];
     exports::netkat_search(
         sizes,
@@ -410,12 +372,12 @@ fn evidence(
     let l = fill32(input, p.at, &mut left);
     let mut right = [0u32; 66000];
     let r = fill32(input, l.at, &mut right);
-    let w = lent(input, r.at, 66000);
+    let w = harness::lent(input, r.at, 66000);
     let mut work = [7u32; 66000];
-    let pn = p.count;
-    let ln = l.count;
-    let rn = r.count;
-    let wn = w.count;
+    let pn = p.len;
+    let ln = l.len;
+    let rn = r.len;
+    let wn = w.len;
     let mut answer = [7u64; 8];
     exports::netkat_evidence(
         sizes,
@@ -450,10 +412,10 @@ fn trace(
     let entering = harness::scan(input, from);
     let mut trace = [0u16; 66000];
     let t = fill16(input, entering.at, &mut trace);
-    let w = lent(input, t.at, 66000);
+    let w = harness::lent(input, t.at, 66000);
     let mut work = [7u32; 66000];
-    let tn = t.count;
-    let wn = w.count;
+    let tn = t.len;
+    let wn = w.len;
     let mut answer = [7u64; 8];
     exports::netkat_trace(
         sizes,
@@ -480,24 +442,24 @@ fn texts_read(
     left_text: &[u8],
     right_text: &[u8],
 ) -> usize {
-    let p = lent(input, from, 66000);
+    let p = harness::lent(input, from, 66000);
     let mut packet = [7u16; 66000];
-    let l = lent(input, p.at, 66000);
+    let l = harness::lent(input, p.at, 66000);
     let mut left = [7u32; 66000];
-    let r = lent(input, l.at, 66000);
+    let r = harness::lent(input, l.at, 66000);
     let mut right = [7u32; 66000];
-    let q = lent(input, r.at, 66000);
+    let q = harness::lent(input, r.at, 66000);
     let mut parent = [7u16; 66000];
-    let t = lent(input, q.at, 66000);
+    let t = harness::lent(input, q.at, 66000);
     let mut trace = [7u16; 66000];
-    let w = lent(input, t.at, 66000);
+    let w = harness::lent(input, t.at, 66000);
     let mut work = [7u32; 66000];
-    let pn = p.count;
-    let ln = l.count;
-    let rn = r.count;
-    let qn = q.count;
-    let tn = t.count;
-    let wn = w.count;
+    let pn = p.len;
+    let ln = l.len;
+    let rn = r.len;
+    let qn = q.len;
+    let tn = t.len;
+    let wn = w.len;
     let mut answer = [7u64; 8];
     exports::netkat_search_texts(
         sizes,
@@ -525,12 +487,12 @@ fn texts(input: &[u8], from: usize) -> usize {
     let mut sizes = [0u16; 32];
     let z = fill16(input, from, &mut sizes);
     let mut left_text = [0u8; 8192];
-    let lt = fill8(input, z.at, &mut left_text);
+    let lt = harness::build(input, z.at, &mut left_text);
     let mut right_text = [0u8; 8192];
-    let rt = fill8(input, lt.at, &mut right_text);
-    let zn = z.count;
-    let ltn = lt.count;
-    let rtn = rt.count;
+    let rt = harness::build(input, lt.at, &mut right_text);
+    let zn = z.len;
+    let ltn = lt.len;
+    let rtn = rt.len;
     texts_read(
         input,
         rt.at,
@@ -633,24 +595,24 @@ fn pair(call: u32, input: &[u8], from: usize) -> usize {
     let mut sizes = [0u16; 32];
     let z = fill16(input, from, &mut sizes);
     let mut left_kind = [0u8; 600];
-    let lk = fill8(input, z.at, &mut left_kind);
+    let lk = harness::build(input, z.at, &mut left_kind);
     let mut left_first = [0u16; 600];
     let lf = fill16(input, lk.at, &mut left_first);
     let mut left_second = [0u16; 600];
     let ls = fill16(input, lf.at, &mut left_second);
     let mut right_kind = [0u8; 600];
-    let rk = fill8(input, ls.at, &mut right_kind);
+    let rk = harness::build(input, ls.at, &mut right_kind);
     let mut right_first = [0u16; 600];
     let rf = fill16(input, rk.at, &mut right_first);
     let mut right_second = [0u16; 600];
     let rs = fill16(input, rf.at, &mut right_second);
-    let zn = z.count;
-    let lkn = lk.count;
-    let lfn = lf.count;
-    let lsn = ls.count;
-    let rkn = rk.count;
-    let rfn = rf.count;
-    let rsn = rs.count;
+    let zn = z.len;
+    let lkn = lk.len;
+    let lfn = lf.len;
+    let lsn = ls.len;
+    let rkn = rk.len;
+    let rfn = rf.len;
+    let rsn = rs.len;
     of_pair(
         call,
         input,

@@ -8,14 +8,11 @@ use Rattle.console_cases.proofs.one_case.Tie as tie
 build-requires : tie.Need-build-requires
 build-requires c κs = tt
 
-least-requires : tie.Need-least-requires
-least-requires c κs = tt
-
 slice-reshare-prefix-answer : tie.Need-slice-reshare-prefix-answer
 slice-reshare-prefix-answer c = search needs
 
 slice-aggregate-answer : tie.Need-slice-aggregate-answer
-slice-aggregate-answer c = sym (length-take-le _ _ (c .before .least .ensures .1))
+slice-aggregate-answer c = sym (length-take-le _ _ (c .before .before .before .build .ensures))
 
 answer-requires : tie.Need-answer-requires
 answer-requires c κs = tt
@@ -37,7 +34,6 @@ one-case-spec =
     tie.close
     (tie.spec
     build-requires
-    least-requires
     slice-reshare-prefix-answer
     slice-aggregate-answer
     answer-requires

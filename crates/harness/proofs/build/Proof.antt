@@ -35,11 +35,14 @@ loop-less c = search needs
 loop-again : tie.Need-loop-again Inv-loop μ-loop
 loop-again c = (omega arith, c .before .before .part .kept .1 .1 .0 ∙ c .before .before .before .before .before .loop .inv .1)
 
+least-requires : tie.Need-least-requires Inv-loop μ-loop
+least-requires c κs = tt
+
 same-length : tie.Need-same-length Inv-loop μ-loop
-same-length c = c .before .loop .inv .1
+same-length c = c .before .before .loop .inv .1
 
 returns : tie.Need-returns Inv-loop μ-loop
-returns c = search needs
+returns c = omega (arith, c .least .ensures)
 
 pub build-spec : {M : Type 1} → statement M
 build-spec =
@@ -54,5 +57,6 @@ build-spec =
     add-counter
     loop-less
     loop-again
+    least-requires
     same-length
     returns)

@@ -14,16 +14,16 @@ least-requires : tie.Need-least-requires
 least-requires c κs = search needs
 
 slice-aggregate-bytes : tie.Need-slice-aggregate-bytes
-slice-aggregate-bytes c = sym (length-take-le _ _ (c .before .before .least .ensures .1))
+slice-aggregate-bytes c = sym (length-take-le _ _ (omega (arith, c .before .before .least .ensures)))
 
 bytes-requires : tie.Need-bytes-requires
-bytes-requires c κs = omega (arith, length-take-le (c .before .before .least .result) (c .before .before .before .before .before .args .chunk .now) (c .before .before .least .ensures .1), c .before .before .least .ensures .0, c .before .before .before .before .before .pre)
+bytes-requires c κs = omega (arith, length-take-le (c .before .before .least .result) (c .before .before .before .before .before .args .chunk .now) (omega (arith, c .before .before .least .ensures)), c .before .before .least .ensures, c .before .before .before .before .before .pre)
 
 same-length : tie.Need-same-length
 same-length c = search needs
 
 returns : tie.Need-returns
-returns c = wrote-room (c .before .before .before .before .before .before .before .before .args .chunk .now) _ (c .before .before .before .before .before .least .ensures .2) (c .before .before .bytes .ensures)
+returns c = wrote-room (c .before .before .before .before .before .before .before .before .args .chunk .now) _ (c .before .before .before .before .before .least .ensures) (c .before .before .bytes .ensures)
 
 pub keep-spec : {M : Type 1} → statement M
 keep-spec =

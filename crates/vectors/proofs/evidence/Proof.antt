@@ -45,10 +45,10 @@ slice-aggregate-netkat-evidence-3 : tie.Need-slice-aggregate-netkat-evidence-3
 slice-aggregate-netkat-evidence-3 c = sym (length-take-le _ _ (c .before .before .before .before .before .fill322 .ensures))
 
 array-borrow-prefix-work : tie.Need-array-borrow-prefix-work
-array-borrow-prefix-work c = within 66000 7 (c .before .before .before .lent .result .count) (c .before .before .before .lent .ensures)
+array-borrow-prefix-work c = within 66000 7 (c .before .before .before .lent .result .len) (c .before .before .before .lent .ensures)
 
 slice-aggregate-netkat-evidence-4 : tie.Need-slice-aggregate-netkat-evidence-4
-slice-aggregate-netkat-evidence-4 c = counted 66000 7 (c .before .before .before .before .lent .result .count) (c .before .before .before .before .lent .ensures)
+slice-aggregate-netkat-evidence-4 c = counted 66000 7 (c .before .before .before .before .lent .result .len) (c .before .before .before .before .lent .ensures)
 
 netkat-evidence-requires : tie.Need-netkat-evidence-requires
 netkat-evidence-requires c κs = tt

@@ -10,11 +10,11 @@ slice-aggregate-fill16 c = refl
 fill16-requires : tie.Need-fill16-requires
 fill16-requires c κs = tt
 
-slice-aggregate-fill8 : tie.Need-slice-aggregate-fill8
-slice-aggregate-fill8 c = refl
+slice-aggregate-build : tie.Need-slice-aggregate-build
+slice-aggregate-build c = refl
 
-fill8-requires : tie.Need-fill8-requires
-fill8-requires c κs = tt
+build-requires : tie.Need-build-requires
+build-requires c κs = tt
 
 slice-aggregate-fill16-2 : tie.Need-slice-aggregate-fill16-2
 slice-aggregate-fill16-2 c = refl
@@ -28,11 +28,11 @@ slice-aggregate-fill16-3 c = refl
 fill16-requires-3 : tie.Need-fill16-requires-3
 fill16-requires-3 c κs = tt
 
-slice-aggregate-fill8-2 : tie.Need-slice-aggregate-fill8-2
-slice-aggregate-fill8-2 c = refl
+slice-aggregate-build-2 : tie.Need-slice-aggregate-build-2
+slice-aggregate-build-2 c = refl
 
-fill8-requires-2 : tie.Need-fill8-requires-2
-fill8-requires-2 c κs = tt
+build-requires-2 : tie.Need-build-requires-2
+build-requires-2 c κs = tt
 
 slice-aggregate-fill16-4 : tie.Need-slice-aggregate-fill16-4
 slice-aggregate-fill16-4 c = refl
@@ -53,10 +53,10 @@ slice-aggregate-of-pair : tie.Need-slice-aggregate-of-pair
 slice-aggregate-of-pair c = sym (length-take-le _ _ (c .before .before .before .before .before .before .before .before .before .before .before .before .before .before .before .before .before .before .before .before .fill16 .ensures))
 
 array-share-prefix-left-kind : tie.Need-array-share-prefix-left-kind
-array-share-prefix-left-kind c = c .before .before .before .before .before .before .before .before .before .before .before .before .before .before .before .before .before .fill8 .ensures
+array-share-prefix-left-kind c = c .before .before .before .before .before .before .before .before .before .before .before .before .before .before .before .before .before .build .ensures
 
 slice-aggregate-of-pair-2 : tie.Need-slice-aggregate-of-pair-2
-slice-aggregate-of-pair-2 c = sym (length-take-le _ _ (c .before .before .before .before .before .before .before .before .before .before .before .before .before .before .before .before .before .before .fill8 .ensures))
+slice-aggregate-of-pair-2 c = sym (length-take-le _ _ (c .before .before .before .before .before .before .before .before .before .before .before .before .before .before .before .before .before .before .build .ensures))
 
 array-share-prefix-left-first : tie.Need-array-share-prefix-left-first
 array-share-prefix-left-first c = c .before .before .before .before .before .before .before .before .before .before .before .before .before .before .before .fill162 .ensures
@@ -71,10 +71,10 @@ slice-aggregate-of-pair-4 : tie.Need-slice-aggregate-of-pair-4
 slice-aggregate-of-pair-4 c = sym (length-take-le _ _ (c .before .before .before .before .before .before .before .before .before .before .before .before .before .before .fill163 .ensures))
 
 array-share-prefix-right-kind : tie.Need-array-share-prefix-right-kind
-array-share-prefix-right-kind c = c .before .before .before .before .before .before .before .before .before .before .before .fill82 .ensures
+array-share-prefix-right-kind c = c .before .before .before .before .before .before .before .before .before .before .before .build2 .ensures
 
 slice-aggregate-of-pair-5 : tie.Need-slice-aggregate-of-pair-5
-slice-aggregate-of-pair-5 c = sym (length-take-le _ _ (c .before .before .before .before .before .before .before .before .before .before .before .before .fill82 .ensures))
+slice-aggregate-of-pair-5 c = sym (length-take-le _ _ (c .before .before .before .before .before .before .before .before .before .before .before .before .build2 .ensures))
 
 array-share-prefix-right-first : tie.Need-array-share-prefix-right-first
 array-share-prefix-right-first c = c .before .before .before .before .before .before .before .before .before .fill164 .ensures
@@ -100,14 +100,14 @@ pair-spec =
     (tie.spec
     slice-aggregate-fill16
     fill16-requires
-    slice-aggregate-fill8
-    fill8-requires
+    slice-aggregate-build
+    build-requires
     slice-aggregate-fill16-2
     fill16-requires-2
     slice-aggregate-fill16-3
     fill16-requires-3
-    slice-aggregate-fill8-2
-    fill8-requires-2
+    slice-aggregate-build-2
+    build-requires-2
     slice-aggregate-fill16-4
     fill16-requires-4
     slice-aggregate-fill16-5

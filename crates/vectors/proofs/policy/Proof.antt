@@ -10,11 +10,11 @@ slice-aggregate-fill16 c = refl
 fill16-requires : tie.Need-fill16-requires
 fill16-requires c κs = tt
 
-slice-aggregate-fill8 : tie.Need-slice-aggregate-fill8
-slice-aggregate-fill8 c = refl
+slice-aggregate-build : tie.Need-slice-aggregate-build
+slice-aggregate-build c = refl
 
-fill8-requires : tie.Need-fill8-requires
-fill8-requires c κs = tt
+build-requires : tie.Need-build-requires
+build-requires c κs = tt
 
 slice-aggregate-fill16-2 : tie.Need-slice-aggregate-fill16-2
 slice-aggregate-fill16-2 c = refl
@@ -35,10 +35,10 @@ slice-aggregate-netkat-policy : tie.Need-slice-aggregate-netkat-policy
 slice-aggregate-netkat-policy c = sym (length-take-le _ _ (c .before .before .before .before .before .before .before .before .before .before .before .fill16 .ensures))
 
 array-share-prefix-kind : tie.Need-array-share-prefix-kind
-array-share-prefix-kind c = c .before .before .before .before .before .before .before .before .fill8 .ensures
+array-share-prefix-kind c = c .before .before .before .before .before .before .before .before .build .ensures
 
 slice-aggregate-netkat-policy-2 : tie.Need-slice-aggregate-netkat-policy-2
-slice-aggregate-netkat-policy-2 c = sym (length-take-le _ _ (c .before .before .before .before .before .before .before .before .before .fill8 .ensures))
+slice-aggregate-netkat-policy-2 c = sym (length-take-le _ _ (c .before .before .before .before .before .before .before .before .before .build .ensures))
 
 array-share-prefix-first : tie.Need-array-share-prefix-first
 array-share-prefix-first c = c .before .before .before .before .before .before .fill162 .ensures
@@ -67,8 +67,8 @@ policy-spec =
     (tie.spec
     slice-aggregate-fill16
     fill16-requires
-    slice-aggregate-fill8
-    fill8-requires
+    slice-aggregate-build
+    build-requires
     slice-aggregate-fill16-2
     fill16-requires-2
     slice-aggregate-fill16-3

@@ -5,11 +5,11 @@ use Rattle.vectors.proofs.Made.{within, counted}
 use Rattle.vectors.proofs.read.Statement.{statement}
 use Rattle.vectors.proofs.read.Tie as tie
 
-slice-aggregate-fill8 : tie.Need-slice-aggregate-fill8
-slice-aggregate-fill8 c = refl
+slice-aggregate-build : tie.Need-slice-aggregate-build
+slice-aggregate-build c = refl
 
-fill8-requires : tie.Need-fill8-requires
-fill8-requires c κs = tt
+build-requires : tie.Need-build-requires
+build-requires c κs = tt
 
 lent-requires : tie.Need-lent-requires
 lent-requires c κs = tt
@@ -21,28 +21,28 @@ lent-requires-3 : tie.Need-lent-requires-3
 lent-requires-3 c κs = tt
 
 array-share-prefix-text : tie.Need-array-share-prefix-text
-array-share-prefix-text c = c .before .before .before .before .fill8 .ensures
+array-share-prefix-text c = c .before .before .before .before .build .ensures
 
 slice-aggregate-netkat-read : tie.Need-slice-aggregate-netkat-read
-slice-aggregate-netkat-read c = sym (length-take-le _ _ (c .before .before .before .before .before .fill8 .ensures))
+slice-aggregate-netkat-read c = sym (length-take-le _ _ (c .before .before .before .before .before .build .ensures))
 
 array-borrow-prefix-kind : tie.Need-array-borrow-prefix-kind
-array-borrow-prefix-kind c = within 600 7 (c .before .before .before .lent .result .count) (c .before .before .before .lent .ensures)
+array-borrow-prefix-kind c = within 600 7 (c .before .before .before .lent .result .len) (c .before .before .before .lent .ensures)
 
 slice-aggregate-netkat-read-2 : tie.Need-slice-aggregate-netkat-read-2
-slice-aggregate-netkat-read-2 c = counted 600 7 (c .before .before .before .before .lent .result .count) (c .before .before .before .before .lent .ensures)
+slice-aggregate-netkat-read-2 c = counted 600 7 (c .before .before .before .before .lent .result .len) (c .before .before .before .before .lent .ensures)
 
 array-borrow-prefix-first : tie.Need-array-borrow-prefix-first
-array-borrow-prefix-first c = within 66000 7 (c .before .before .before .lent2 .result .count) (c .before .before .before .lent2 .ensures)
+array-borrow-prefix-first c = within 66000 7 (c .before .before .before .lent2 .result .len) (c .before .before .before .lent2 .ensures)
 
 slice-aggregate-netkat-read-3 : tie.Need-slice-aggregate-netkat-read-3
-slice-aggregate-netkat-read-3 c = counted 66000 7 (c .before .before .before .before .lent2 .result .count) (c .before .before .before .before .lent2 .ensures)
+slice-aggregate-netkat-read-3 c = counted 66000 7 (c .before .before .before .before .lent2 .result .len) (c .before .before .before .before .lent2 .ensures)
 
 array-borrow-prefix-second : tie.Need-array-borrow-prefix-second
-array-borrow-prefix-second c = within 66000 7 (c .before .before .before .lent3 .result .count) (c .before .before .before .lent3 .ensures)
+array-borrow-prefix-second c = within 66000 7 (c .before .before .before .lent3 .result .len) (c .before .before .before .lent3 .ensures)
 
 slice-aggregate-netkat-read-4 : tie.Need-slice-aggregate-netkat-read-4
-slice-aggregate-netkat-read-4 c = counted 66000 7 (c .before .before .before .before .lent3 .result .count) (c .before .before .before .before .lent3 .ensures)
+slice-aggregate-netkat-read-4 c = counted 66000 7 (c .before .before .before .before .lent3 .result .len) (c .before .before .before .before .lent3 .ensures)
 
 netkat-read-requires : tie.Need-netkat-read-requires
 netkat-read-requires c κs = tt
@@ -66,8 +66,8 @@ pub read-spec : {M : Type 1} → statement M
 read-spec =
     tie.close
     (tie.spec
-    slice-aggregate-fill8
-    fill8-requires
+    slice-aggregate-build
+    build-requires
     lent-requires
     lent-requires-2
     lent-requires-3

@@ -22,40 +22,40 @@ lent-requires-6 : tie.Need-lent-requires-6
 lent-requires-6 c κs = tt
 
 array-borrow-prefix-packet : tie.Need-array-borrow-prefix-packet
-array-borrow-prefix-packet c = within 66000 7 (c .before .before .before .before .before .lent .result .count) (c .before .before .before .before .before .lent .ensures)
+array-borrow-prefix-packet c = within 66000 7 (c .before .before .before .before .before .lent .result .len) (c .before .before .before .before .before .lent .ensures)
 
 slice-aggregate-netkat-search : tie.Need-slice-aggregate-netkat-search
-slice-aggregate-netkat-search c = counted 66000 7 (c .before .before .before .before .before .before .lent .result .count) (c .before .before .before .before .before .before .lent .ensures)
+slice-aggregate-netkat-search c = counted 66000 7 (c .before .before .before .before .before .before .lent .result .len) (c .before .before .before .before .before .before .lent .ensures)
 
 array-borrow-prefix-left : tie.Need-array-borrow-prefix-left
-array-borrow-prefix-left c = within 66000 7 (c .before .before .before .before .before .lent2 .result .count) (c .before .before .before .before .before .lent2 .ensures)
+array-borrow-prefix-left c = within 66000 7 (c .before .before .before .before .before .lent2 .result .len) (c .before .before .before .before .before .lent2 .ensures)
 
 slice-aggregate-netkat-search-2 : tie.Need-slice-aggregate-netkat-search-2
-slice-aggregate-netkat-search-2 c = counted 66000 7 (c .before .before .before .before .before .before .lent2 .result .count) (c .before .before .before .before .before .before .lent2 .ensures)
+slice-aggregate-netkat-search-2 c = counted 66000 7 (c .before .before .before .before .before .before .lent2 .result .len) (c .before .before .before .before .before .before .lent2 .ensures)
 
 array-borrow-prefix-right : tie.Need-array-borrow-prefix-right
-array-borrow-prefix-right c = within 66000 7 (c .before .before .before .before .before .lent3 .result .count) (c .before .before .before .before .before .lent3 .ensures)
+array-borrow-prefix-right c = within 66000 7 (c .before .before .before .before .before .lent3 .result .len) (c .before .before .before .before .before .lent3 .ensures)
 
 slice-aggregate-netkat-search-3 : tie.Need-slice-aggregate-netkat-search-3
-slice-aggregate-netkat-search-3 c = counted 66000 7 (c .before .before .before .before .before .before .lent3 .result .count) (c .before .before .before .before .before .before .lent3 .ensures)
+slice-aggregate-netkat-search-3 c = counted 66000 7 (c .before .before .before .before .before .before .lent3 .result .len) (c .before .before .before .before .before .before .lent3 .ensures)
 
 array-borrow-prefix-parent : tie.Need-array-borrow-prefix-parent
-array-borrow-prefix-parent c = within 66000 7 (c .before .before .before .before .before .lent4 .result .count) (c .before .before .before .before .before .lent4 .ensures)
+array-borrow-prefix-parent c = within 66000 7 (c .before .before .before .before .before .lent4 .result .len) (c .before .before .before .before .before .lent4 .ensures)
 
 slice-aggregate-netkat-search-4 : tie.Need-slice-aggregate-netkat-search-4
-slice-aggregate-netkat-search-4 c = counted 66000 7 (c .before .before .before .before .before .before .lent4 .result .count) (c .before .before .before .before .before .before .lent4 .ensures)
+slice-aggregate-netkat-search-4 c = counted 66000 7 (c .before .before .before .before .before .before .lent4 .result .len) (c .before .before .before .before .before .before .lent4 .ensures)
 
 array-borrow-prefix-trace : tie.Need-array-borrow-prefix-trace
-array-borrow-prefix-trace c = within 66000 7 (c .before .before .before .before .before .lent5 .result .count) (c .before .before .before .before .before .lent5 .ensures)
+array-borrow-prefix-trace c = within 66000 7 (c .before .before .before .before .before .lent5 .result .len) (c .before .before .before .before .before .lent5 .ensures)
 
 slice-aggregate-netkat-search-5 : tie.Need-slice-aggregate-netkat-search-5
-slice-aggregate-netkat-search-5 c = counted 66000 7 (c .before .before .before .before .before .before .lent5 .result .count) (c .before .before .before .before .before .before .lent5 .ensures)
+slice-aggregate-netkat-search-5 c = counted 66000 7 (c .before .before .before .before .before .before .lent5 .result .len) (c .before .before .before .before .before .before .lent5 .ensures)
 
 array-borrow-prefix-work : tie.Need-array-borrow-prefix-work
-array-borrow-prefix-work c = within 66000 7 (c .before .before .before .before .before .lent6 .result .count) (c .before .before .before .before .before .lent6 .ensures)
+array-borrow-prefix-work c = within 66000 7 (c .before .before .before .before .before .lent6 .result .len) (c .before .before .before .before .before .lent6 .ensures)
 
 slice-aggregate-netkat-search-6 : tie.Need-slice-aggregate-netkat-search-6
-slice-aggregate-netkat-search-6 c = counted 66000 7 (c .before .before .before .before .before .before .lent6 .result .count) (c .before .before .before .before .before .before .lent6 .ensures)
+slice-aggregate-netkat-search-6 c = counted 66000 7 (c .before .before .before .before .before .before .lent6 .result .len) (c .before .before .before .before .before .before .lent6 .ensures)
 
 netkat-search-requires : tie.Need-netkat-search-requires
 netkat-search-requires c κs = tt

@@ -10,17 +10,17 @@ slice-aggregate-fill16 c = refl
 fill16-requires : tie.Need-fill16-requires
 fill16-requires c κs = tt
 
-slice-aggregate-fill8 : tie.Need-slice-aggregate-fill8
-slice-aggregate-fill8 c = refl
+slice-aggregate-build : tie.Need-slice-aggregate-build
+slice-aggregate-build c = refl
 
-fill8-requires : tie.Need-fill8-requires
-fill8-requires c κs = tt
+build-requires : tie.Need-build-requires
+build-requires c κs = tt
 
-slice-aggregate-fill8-2 : tie.Need-slice-aggregate-fill8-2
-slice-aggregate-fill8-2 c = refl
+slice-aggregate-build-2 : tie.Need-slice-aggregate-build-2
+slice-aggregate-build-2 c = refl
 
-fill8-requires-2 : tie.Need-fill8-requires-2
-fill8-requires-2 c κs = tt
+build-requires-2 : tie.Need-build-requires-2
+build-requires-2 c κs = tt
 
 array-share-prefix-sizes : tie.Need-array-share-prefix-sizes
 array-share-prefix-sizes c = c .before .before .before .before .before .before .before .fill16 .ensures
@@ -29,16 +29,16 @@ slice-aggregate-texts-read : tie.Need-slice-aggregate-texts-read
 slice-aggregate-texts-read c = sym (length-take-le _ _ (c .before .before .before .before .before .before .before .before .fill16 .ensures))
 
 array-share-prefix-left-text : tie.Need-array-share-prefix-left-text
-array-share-prefix-left-text c = c .before .before .before .before .before .fill8 .ensures
+array-share-prefix-left-text c = c .before .before .before .before .before .build .ensures
 
 slice-aggregate-texts-read-2 : tie.Need-slice-aggregate-texts-read-2
-slice-aggregate-texts-read-2 c = sym (length-take-le _ _ (c .before .before .before .before .before .before .fill8 .ensures))
+slice-aggregate-texts-read-2 c = sym (length-take-le _ _ (c .before .before .before .before .before .before .build .ensures))
 
 array-share-prefix-right-text : tie.Need-array-share-prefix-right-text
-array-share-prefix-right-text c = c .before .before .before .fill82 .ensures
+array-share-prefix-right-text c = c .before .before .before .build2 .ensures
 
 slice-aggregate-texts-read-3 : tie.Need-slice-aggregate-texts-read-3
-slice-aggregate-texts-read-3 c = sym (length-take-le _ _ (c .before .before .before .before .fill82 .ensures))
+slice-aggregate-texts-read-3 c = sym (length-take-le _ _ (c .before .before .before .before .build2 .ensures))
 
 texts-read-requires : tie.Need-texts-read-requires
 texts-read-requires c κs = tt
@@ -52,10 +52,10 @@ texts-spec =
     (tie.spec
     slice-aggregate-fill16
     fill16-requires
-    slice-aggregate-fill8
-    fill8-requires
-    slice-aggregate-fill8-2
-    fill8-requires-2
+    slice-aggregate-build
+    build-requires
+    slice-aggregate-build-2
+    build-requires-2
     array-share-prefix-sizes
     slice-aggregate-texts-read
     array-share-prefix-left-text

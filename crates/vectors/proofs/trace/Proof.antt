@@ -28,10 +28,10 @@ slice-aggregate-netkat-trace : tie.Need-slice-aggregate-netkat-trace
 slice-aggregate-netkat-trace c = sym (length-take-le _ _ (c .before .before .before .before .fill16 .ensures))
 
 array-borrow-prefix-work : tie.Need-array-borrow-prefix-work
-array-borrow-prefix-work c = within 66000 7 (c .before .before .lent .result .count) (c .before .before .lent .ensures)
+array-borrow-prefix-work c = within 66000 7 (c .before .before .lent .result .len) (c .before .before .lent .ensures)
 
 slice-aggregate-netkat-trace-2 : tie.Need-slice-aggregate-netkat-trace-2
-slice-aggregate-netkat-trace-2 c = counted 66000 7 (c .before .before .before .lent .result .count) (c .before .before .before .lent .ensures)
+slice-aggregate-netkat-trace-2 c = counted 66000 7 (c .before .before .before .lent .result .len) (c .before .before .before .lent .ensures)
 
 netkat-trace-requires : tie.Need-netkat-trace-requires
 netkat-trace-requires c κs = tt

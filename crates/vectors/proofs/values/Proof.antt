@@ -28,10 +28,10 @@ cast-netkat-values : tie.Need-cast-netkat-values
 cast-netkat-values c = search needs
 
 array-borrow-prefix-values : tie.Need-array-borrow-prefix-values
-array-borrow-prefix-values c = within 66000 7 (c .before .before .lent .result .count) (c .before .before .lent .ensures)
+array-borrow-prefix-values c = within 66000 7 (c .before .before .lent .result .len) (c .before .before .lent .ensures)
 
 slice-aggregate-netkat-values-2 : tie.Need-slice-aggregate-netkat-values-2
-slice-aggregate-netkat-values-2 c = counted 66000 7 (c .before .before .before .lent .result .count) (c .before .before .before .lent .ensures)
+slice-aggregate-netkat-values-2 c = counted 66000 7 (c .before .before .before .lent .result .len) (c .before .before .before .lent .ensures)
 
 netkat-values-requires : tie.Need-netkat-values-requires
 netkat-values-requires c κs = tt
