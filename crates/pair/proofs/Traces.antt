@@ -10,7 +10,7 @@ use lib.ListN.{length}
 use Rattle.packet.specs.Sizes.{product}
 use Rattle.packet.proofs.Tests.{clash, xor-same, xor-false, T-true, true-T, T-false}
 use Rattle.policy.specs.Meaning.{numbered, Traces, SameTraces, SameTracesBelow}
-use Rattle.policy.specs.Each.{Each}
+use Rattle.policy.specs.InnerEach.{Each}
 use Rattle.policy.proofs.EachLaws.{each-append}
 use Rattle.policy.proofs.TraceLaws.{traces-non-empty}
 use Rattle.policy.proofs.Numbered.{traces-below}
