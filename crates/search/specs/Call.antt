@@ -4,6 +4,8 @@ use mathlib.Core.List.{List, [], _∷_}
 use mathlib.Core.Logic.{_↔_}
 use mathlib.Core.Path.{_≡_}
 use lib.ListN.{length, replicate, take}
+use denote.Ref.{RefT}
+use denote.Triple.Both.{Both}
 use Rattle.packet.specs.declared.Refusal.{Refusal}
 use Rattle.packet.specs.declared.Tested.{Tested}
 use Rattle.packet.specs.declared.Tested.the-variants.{Passed, Refused as Stopped}
@@ -16,7 +18,6 @@ use Rattle.system.specs.RowOrder.{NeedsMore}
 use Rattle.pair.specs.Sides.{Side, policies}
 use Rattle.pair.specs.Pair.{pairSystem}
 use Rattle.pair.specs.Search.{SearchAnswer, Columns, searchAnswer, heldColumns, Distinguishes}
-use Rattle.index.specs.Appending.{LentList}
 use Rattle.lent_lists.specs.Lent.{listsStage, lentTests}
 use Rattle.packet.specs.Written.{written}
 use Rattle.verdict.specs.declared.Verdict.{Verdict}
@@ -35,10 +36,11 @@ pub record SearchLists : Type 0 where
 abbrev pub lent : List ℕ → List ℕ → List ℕ → List ℕ → List ℕ → List ℕ → SearchLists
 lent P L R Q trace work = record { packets = P; lefts = L; rights = R; parents = Q; trace = trace; work = work }
 
-abbrev pub lentAtEntry : LentList → LentList → LentList → LentList → LentList → LentList → SearchLists
+-- the same of the references that an `ensures` names
+abbrev pub lentAtEntry : (P L R Q trace work : Both (RefT (List ℕ)) (RefT (List ℕ))) → SearchLists
 lentAtEntry P L R Q trace work = lent (P .entry .now) (L .entry .now) (R .entry .now) (Q .entry .now) (trace .entry .now) (work .entry .now)
 
-abbrev pub lentAtExit : LentList → LentList → LentList → LentList → LentList → LentList → SearchLists
+abbrev pub lentAtExit : (P L R Q trace work : Both (RefT (List ℕ)) (RefT (List ℕ))) → SearchLists
 lentAtExit P L R Q trace work = lent (P .exit .now) (L .exit .now) (R .exit .now) (Q .exit .now) (trace .exit .now) (work .exit .now)
 
 -- the lists that a search leaves where no cause of 1 to 10 holds: the rows listed first, entries beyond as they were; the work list all 0
