@@ -11,7 +11,7 @@ use Rattle.policy.specs.Tree.{Policy, drop, id, field, dup, sum, seq, star}
 use Rattle.policy.specs.Visits.{labels}
 use Rattle.packet_set.specs.Bits.{bit, maskOf}
 use Rattle.automaton.specs.Remainder.{rightSpine, orElse, followedBy, remainder}
-use Rattle.automaton.specs.State.{anyBelow, setOf, union, takes, image, rounds, single, unionOver, flow, enter, ofMarked, outputSet, enteredSet, next, outputMask, nextMask, runs, hasTrace}
+use Rattle.automaton.specs.State.{anyBelow, setOf, union, takes, image, starRounds, single, unionOver, flow, enter, ofMarked, outputSet, enteredSet, next, outputMask, nextMask, runs, hasTrace}
 
 -- the output of a state at β, then the next states at γ = 0 to n − 1
 handled : List ℕ → Policy → ℕ → ℕ → ℕ → ℕ → List ℕ
@@ -45,12 +45,12 @@ computed : steps
     ∷ (0 ∷ 2 ∷ [])
     ∷ (0 ∷ 0 ∷ [])
     ∷ []
-unfolding steps handled valueAt changed valuesOf numberOf product bit maskOf anyBelow setOf union takes image rounds single unionOver flow enter labels rightSpine orElse followedBy remainder ofMarked outputSet enteredSet next outputMask nextMask
+unfolding steps handled valueAt changed valuesOf numberOf product bit maskOf anyBelow setOf union takes image starRounds single unionOver flow enter labels rightSpine orElse followedBy remainder ofMarked outputSet enteredSet next outputMask nextMask
 computed = refl
 
 -- nested stars over 8 packets
 nested : handled (2 ∷ 2 ∷ 2 ∷ []) (star (sum (star (seq (field (Set 0 1)) (dup 1))) (star (sum (field (Set 1 0)) (seq (field (Equals 2 0)) (field (Set 2 1))))))) 1 3 2 8 ≡ 15 ∷ 0 ∷ 0 ∷ 0 ∷ 0 ∷ 2 ∷ 2 ∷ 2 ∷ 2 ∷ []
-unfolding handled valueAt changed valuesOf numberOf product bit maskOf anyBelow setOf union takes image rounds single unionOver flow enter labels rightSpine orElse followedBy remainder ofMarked outputSet enteredSet next outputMask nextMask
+unfolding handled valueAt changed valuesOf numberOf product bit maskOf anyBelow setOf union takes image starRounds single unionOver flow enter labels rightSpine orElse followedBy remainder ofMarked outputSet enteredSet next outputMask nextMask
 nested = refl
 
 -- the right spine of the dup in (dup;f0=0)* is (1;f0=0);(dup;f0=0)*
@@ -59,5 +59,5 @@ unfolding rightSpine orElse followedBy
 spine = refl
 
 run : hasTrace (2 ∷ []) (seq (dup 1) (field (Set 0 1))) 1 0 (0 ∷ 1 ∷ []) ≡ true
-unfolding valueAt changed valuesOf numberOf product bit maskOf anyBelow setOf union takes image rounds single unionOver flow enter labels rightSpine orElse followedBy remainder ofMarked outputSet enteredSet next outputMask nextMask runs hasTrace
+unfolding valueAt changed valuesOf numberOf product bit maskOf anyBelow setOf union takes image starRounds single unionOver flow enter labels rightSpine orElse followedBy remainder ofMarked outputSet enteredSet next outputMask nextMask runs hasTrace
 run = refl

@@ -15,7 +15,7 @@ use Rattle.policy.specs.Tree.{Policy, drop, id, field, dup, sum, seq, star}
 use Rattle.policy.proofs.Numbered.{value-below}
 use Rattle.packet_set.specs.Bits.{bit}
 use Rattle.automaton.specs.Reaches.{Passes, Reaches}
-use Rattle.automaton.specs.State.{PacketSet, union, rounds, flow, enter}
+use Rattle.automaton.specs.State.{PacketSet, union, starRounds, flow, enter}
 use Rattle.automaton.proofs.Tests.{eqb-true}
 use Rattle.automaton.proofs.Words.{Acts, Tr, Star, done, more}
 use Rattle.automaton.proofs.Fundamental.{passes-iff, star-append}
@@ -98,7 +98,7 @@ module _ (sizes : List ℕ) where
   -- a star: what comes out of N rounds
   module _ (p : Policy) (exact : (Y : PacketSet) → Fits sizes Y → (γ : ℕ) → In (flow sizes p Y) γ ↔ From Y (Silent p) γ) (X : PacketSet) (hx : Fits sizes X) where
     abbrev S : ℕ → PacketSet
-    S k = rounds sizes k (flow sizes p) X
+    S k = starRounds sizes k (flow sizes p) X
 
     fits : (k : ℕ) → Fits sizes (S k)
     fits k = rounds-fits sizes (flow sizes p) (flow-fits p) X hx k
@@ -107,7 +107,7 @@ module _ (sizes : List ℕ) where
     round k γ = round-iff sizes (flow sizes p) (flow-fits p) X hx k γ
 
     contains : (k γ : ℕ) → In X γ → In (S k) γ
-    unfolding rounds
+    unfolding starRounds
     contains zero γ x = x
     contains (suc k) γ x = round k γ .1 (inl (contains k γ x))
 
@@ -117,7 +117,7 @@ module _ (sizes : List ℕ) where
         (round (product sizes) γ .1 (inr (exact (S (product sizes)) (fits (product sizes)) γ .1 (α, y, h))))
 
     sound : (k γ : ℕ) → In (S k) γ → From X (Silent (star p)) γ
-    unfolding rounds Tr
+    unfolding starRounds Tr
     sound zero γ x = (γ, x, done refl refl)
     sound (suc k) γ t = go (round k γ .0 t) (sound k)
       where

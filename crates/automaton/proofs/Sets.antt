@@ -18,7 +18,7 @@ use Rattle.policy.specs.Meaning.{numbered}
 use Rattle.policy.specs.NodeLists.{one}
 use Rattle.policy.proofs.EachLaws.{one-same, one-other}
 use Rattle.packet_set.specs.Bits.{bit, maskOf}
-use Rattle.automaton.specs.State.{PacketSet, anyBelow, setOf, single, union, unionOver, takes, image, rounds}
+use Rattle.automaton.specs.State.{PacketSet, anyBelow, setOf, single, union, unionOver, takes, image, starRounds}
 use Rattle.automaton.proofs.Tests.{true-T, eqb-true, same-test, both, either}
 use Rattle.packet_set.proofs.Digits.{bits-same, bit-of-zero}
 use Rattle.packet_set.proofs.Masks.{maskOf-lt, bit-maskOf, bit-below}
@@ -217,46 +217,46 @@ more-or-same (suc n) X Y f = go (more-or-same n X Y f) (bit X n) (bit Y n) refl 
     go (inl h) false true ea eb = inr (omega (arith, count-mono n X Y f, one-lt (bit X n) (bit Y n) (λ t. subst T ea t) (true-T eb)))
 
 module _ (sizes : List ℕ) (body : PacketSet → PacketSet) (fits : (Y : PacketSet) → Fits sizes Y → Fits sizes (body Y)) (X : PacketSet) (hx : Fits sizes X) where
-  pub rounds-fits : (k : ℕ) → Fits sizes (rounds sizes k body X)
-  unfolding rounds
+  pub rounds-fits : (k : ℕ) → Fits sizes (starRounds sizes k body X)
+  unfolding starRounds
   rounds-fits zero = hx
-  rounds-fits (suc k) = union-fits sizes (rounds sizes k body X) (body (rounds sizes k body X))
+  rounds-fits (suc k) = union-fits sizes (starRounds sizes k body X) (body (starRounds sizes k body X))
 
   -- a round adds what the body makes
-  pub round-iff : (k γ : ℕ) → T (bit (rounds sizes (suc k) body X) γ) ↔ (T (bit (rounds sizes k body X) γ) ⊎ T (bit (body (rounds sizes k body X)) γ))
-  unfolding rounds
-  round-iff k γ = union-iff sizes (rounds sizes k body X) (body (rounds sizes k body X)) (rounds-fits k) (fits (rounds sizes k body X) (rounds-fits k)) γ
+  pub round-iff : (k γ : ℕ) → T (bit (starRounds sizes (suc k) body X) γ) ↔ (T (bit (starRounds sizes k body X) γ) ⊎ T (bit (body (starRounds sizes k body X)) γ))
+  unfolding starRounds
+  round-iff k γ = union-iff sizes (starRounds sizes k body X) (body (starRounds sizes k body X)) (rounds-fits k) (fits (starRounds sizes k body X) (rounds-fits k)) γ
 
   -- once a round adds nothing, no later one does
-  stays : (k : ℕ) → rounds sizes (suc k) body X ≡ rounds sizes k body X → rounds sizes (suc (suc k)) body X ≡ rounds sizes (suc k) body X
-  unfolding rounds
+  stays : (k : ℕ) → starRounds sizes (suc k) body X ≡ starRounds sizes k body X → starRounds sizes (suc (suc k)) body X ≡ starRounds sizes (suc k) body X
+  unfolding starRounds
   stays k e = ap (λ Y. union sizes Y (body Y)) e
 
-  grows : (k : ℕ) → (rounds sizes (suc k) body X ≡ rounds sizes k body X) ⊎ (count (product sizes) (rounds sizes k body X) < count (product sizes) (rounds sizes (suc k) body X))
-  grows k = go (more-or-same (product sizes) (rounds sizes k body X) (rounds sizes (suc k) body X) (λ γ t. round-iff k γ .1 (inl t)))
+  grows : (k : ℕ) → (starRounds sizes (suc k) body X ≡ starRounds sizes k body X) ⊎ (count (product sizes) (starRounds sizes k body X) < count (product sizes) (starRounds sizes (suc k) body X))
+  grows k = go (more-or-same (product sizes) (starRounds sizes k body X) (starRounds sizes (suc k) body X) (λ γ t. round-iff k γ .1 (inl t)))
     where
-      go : ((γ : ℕ) → γ < product sizes → T (bit (rounds sizes (suc k) body X) γ) → T (bit (rounds sizes k body X) γ)) ⊎ (count (product sizes) (rounds sizes k body X) < count (product sizes) (rounds sizes (suc k) body X))
-          → (rounds sizes (suc k) body X ≡ rounds sizes k body X) ⊎ (count (product sizes) (rounds sizes k body X) < count (product sizes) (rounds sizes (suc k) body X))
+      go : ((γ : ℕ) → γ < product sizes → T (bit (starRounds sizes (suc k) body X) γ) → T (bit (starRounds sizes k body X) γ)) ⊎ (count (product sizes) (starRounds sizes k body X) < count (product sizes) (starRounds sizes (suc k) body X))
+          → (starRounds sizes (suc k) body X ≡ starRounds sizes k body X) ⊎ (count (product sizes) (starRounds sizes k body X) < count (product sizes) (starRounds sizes (suc k) body X))
       go (inl h) =
           inl
-          (same-set sizes (rounds sizes (suc k) body X) (rounds sizes k body X) (rounds-fits (suc k)) (rounds-fits k)
-          (λ γ t. h γ (below sizes (rounds sizes (suc k) body X) (rounds-fits (suc k)) γ t) t) (λ γ t. round-iff k γ .1 (inl t)))
+          (same-set sizes (starRounds sizes (suc k) body X) (starRounds sizes k body X) (rounds-fits (suc k)) (rounds-fits k)
+          (λ γ t. h γ (below sizes (starRounds sizes (suc k) body X) (rounds-fits (suc k)) γ t) t) (λ γ t. round-iff k γ .1 (inl t)))
       go (inr l) = inr l
 
-  reach : (k : ℕ) → (rounds sizes (suc k) body X ≡ rounds sizes k body X) ⊎ (k < count (product sizes) (rounds sizes (suc k) body X))
+  reach : (k : ℕ) → (starRounds sizes (suc k) body X ≡ starRounds sizes k body X) ⊎ (k < count (product sizes) (starRounds sizes (suc k) body X))
   reach zero = ⊎-map (λ e. e) (λ l. le-trans (suc-le-suc zero-le) l) (grows zero)
   reach (suc k) = go (reach k)
     where
-      go : (rounds sizes (suc k) body X ≡ rounds sizes k body X) ⊎ (k < count (product sizes) (rounds sizes (suc k) body X))
-          → (rounds sizes (suc (suc k)) body X ≡ rounds sizes (suc k) body X) ⊎ (suc k < count (product sizes) (rounds sizes (suc (suc k)) body X))
+      go : (starRounds sizes (suc k) body X ≡ starRounds sizes k body X) ⊎ (k < count (product sizes) (starRounds sizes (suc k) body X))
+          → (starRounds sizes (suc (suc k)) body X ≡ starRounds sizes (suc k) body X) ⊎ (suc k < count (product sizes) (starRounds sizes (suc (suc k)) body X))
       go (inl e) = inl (stays k e)
       go (inr l) = ⊎-map (λ e. e) (λ m. le-trans (suc-le-suc l) m) (grows (suc k))
 
   -- N rounds suffice
-  pub rounds-enough : rounds sizes (suc (product sizes)) body X ≡ rounds sizes (product sizes) body X
+  pub rounds-enough : starRounds sizes (suc (product sizes)) body X ≡ starRounds sizes (product sizes) body X
   rounds-enough = go (reach (product sizes))
     where
-      go : (rounds sizes (suc (product sizes)) body X ≡ rounds sizes (product sizes) body X) ⊎ (product sizes < count (product sizes) (rounds sizes (suc (product sizes)) body X))
-          → rounds sizes (suc (product sizes)) body X ≡ rounds sizes (product sizes) body X
+      go : (starRounds sizes (suc (product sizes)) body X ≡ starRounds sizes (product sizes) body X) ⊎ (product sizes < count (product sizes) (starRounds sizes (suc (product sizes)) body X))
+          → starRounds sizes (suc (product sizes)) body X ≡ starRounds sizes (product sizes) body X
       go (inl e) = e
-      go (inr l) = absurd (omega (arith, count-le (product sizes) (rounds sizes (suc (product sizes)) body X)))
+      go (inr l) = absurd (omega (arith, count-le (product sizes) (starRounds sizes (suc (product sizes)) body X)))

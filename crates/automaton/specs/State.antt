@@ -52,9 +52,9 @@ module _ (sizes : List ℕ) where
   image a X = setOf (λ γ. anyBelow (product sizes) (λ α. bit X α && takes a α γ))
 
   -- k rounds of a star: each adds what its body makes of the packets there are
-  unfoldable pub rounds : ℕ → (PacketSet → PacketSet) → PacketSet → PacketSet
-  rounds zero body X = X
-  rounds (suc k) body X = union (rounds k body X) (body (rounds k body X))
+  unfoldable pub starRounds : ℕ → (PacketSet → PacketSet) → PacketSet → PacketSet
+  starRounds zero body X = X
+  starRounds (suc k) body X = union (starRounds k body X) (body (starRounds k body X))
 
   -- document 004's E: the one-packet traces of p, from the packets of X
   unfoldable pub flow : Policy → PacketSet → PacketSet
@@ -64,7 +64,7 @@ module _ (sizes : List ℕ) where
   flow (dup i) X = 0
   flow (sum p q) X = union (flow p X) (flow q X)
   flow (seq p q) X = flow q (flow p X)
-  flow (star p) X = rounds (product sizes) (flow p) X
+  flow (star p) X = starRounds (product sizes) (flow p) X
 
   -- document 004's D: the packets with which p, from the packets of X, reaches dup i before any other dup
   unfoldable pub enter : Policy → PacketSet → ℕ → PacketSet

@@ -13,18 +13,18 @@ use Rattle.policy.specs.Order.{order, inOrder, causes, sided, cause, policiesSt
 use Rattle.turning.specs.Turning.{lengthTest, numberStage, valuesTests, valuesAnswer, keptUnless, valuesLeft, badValue, valuesStage, numberTests, numberAnswer}
 use Rattle.legality.specs.Answers.{policyAnswer, pairAnswer, policyLegality, pairLegality}
 use Rattle.policy.specs.Visits.{labels}
-use Rattle.policy.specs.NodesOfTree.{entry, actionEntry, treeSize, entriesFrom, listsOf, nodesOf}
+use Rattle.policy.specs.NodesOfTree.{nodeEntry, actionEntry, treeSize, entriesFrom, listsOf, nodesOf}
 use Rattle.packet_set.specs.Bits.{bit, maskOf, onlyBits}
 use Rattle.automaton.specs.Remainder.{orElse, followedBy, rightSpine, remainder}
-use Rattle.automaton.specs.State.{anyBelow, setOf, union, takes, image, rounds, single, unionOver, flow, enter, ofMarked, outputSet, enteredSet, next, outputMask, nextMask, runs, hasTrace}
-use Rattle.system.specs.RowOrder.{starts, sameRow, listed, append, appendNext, lowestTelling, turn, handle, runFrom, run, climbing, climb, path, entering, verdict, answer, held}
+use Rattle.automaton.specs.State.{anyBelow, setOf, union, takes, image, starRounds, single, unionOver, flow, enter, ofMarked, outputSet, enteredSet, next, outputMask, nextMask, runs, hasTrace}
+use Rattle.system.specs.RowOrder.{starts, sameRow, listed, append, appendNext, lowestTelling, turn, handle, runFrom, run, climbing, climb, path, entering, runAnswer, answerWith, held}
 use Rattle.pair.specs.Sides.{at, onBoth}
 use Rattle.pair.specs.Pair.{outputAt, nextAt, sameStates, bothZero, inOneOutput, bitsOfDups}
 use Rattle.pair.specs.Search.{lastOf, sideOf, reported, searchAnswer, columnsOf, heldColumns}
 use Rattle.pair.specs.Rules.{andThen, brokenAt, present, breaksA, breaksB, breaksD, checkRow, checkRows, checkRules}
 use Rattle.pair.specs.Evidence.{evidenceAnswer}
 use Rattle.pair.specs.TraceCheck.{answerOf, sideHas, traceAnswer}
-use Rattle.lent_lists.specs.Lent.{misfit, rowsMisfit, listsStage, lentTests, workAfter}
+use Rattle.lent_lists.specs.LentLists.{misfit, rowsMisfit, listsStage, lentTests, workAfter}
 use Rattle.verdict.specs.Verdicts.{verdictOf, traceAfter}
 use Rattle.search.specs.Call.{filled, verdictAfter, lentAfter, searchTests, searchVerdict, searchLeaves}
 use Rattle.evidence.specs.Calls as checking
@@ -35,10 +35,10 @@ use Rattle.grammar.specs.Bytes.{isBlank, isLetter, isDigit, inWord}
 use Rattle.grammar.specs.Tokens.{fieldNames, sameWord, allDigits, decimal, leadingZero, isNumber, numberToken, fieldToken, fieldNamed, wordToken, singleMark, doubleMark, beginsDouble, markToken, wordOf, frontToken, isBad, restOfToken, placedFrom, tokensFrom, tokens}
 use Rattle.grammar.specs.Grammar.{constantPolicy, fieldAction}
 use Rattle.grammar.specs.Reading.{nothing, joinSequence, joinSum, upTo, whole, start, close, step, finish, readOn}
-use Rattle.grammar.specs.Answer.{badPlace, openAfter, deepPlace, stopPlace, treeRead, tooMany, answered, outcome as reading, textTree, tested, answerTo, leftBy, shortest}
+use Rattle.grammar.specs.Answer.{badPlace, openAfter, deepPlace, stopPlace, treeRead, tooMany, answerAfter, outcome, textTree, tested, answerTo, leftBy, shortest}
 use Rattle.search_texts.specs.Call.{textNodes, textStage, textsTests, textsVerdict, textsLeaves}
-use Rattle.cases.specs.Cases.{Case, outcome, bytes, dups, nested, nines, words, lending, front, holding, compares, cases}
+use Rattle.cases.specs.Cases.{Case, resultOf, bytes, dups, nested, nines, words, lending, thenNines, holding, compares, cases}
 
-pub all-as-stated : map (λ (c : Case). outcome (c .call)) cases ≡ map (λ (c : Case). c .stated) cases
-unfolding xor lowest orAt valueAt changed valuesOf numberOf product nodeCount nodeOf nodeAt one isDup dupsBelow grow treeAt policyOf entry actionEntry treeSize entriesFrom listsOf nodesOf bit maskOf anyBelow setOf union takes image rounds single unionOver labels rightSpine orElse followedBy remainder flow enter ofMarked outputSet enteredSet next outputMask nextMask runs hasTrace starts sameRow listed append appendNext lowestTelling turn handle runFrom run climbing climb path entering verdict answer held at onBoth outputAt nextAt sameStates bothZero inOneOutput bitsOfDups lastOf sideOf reported searchAnswer columnsOf heldColumns andThen brokenAt present breaksA breaksB breaksD checkRow checkRows checkRules evidenceAnswer answerOf sideHas traceAnswer misfit rowsMisfit listsStage lentTests workAfter verdictOf traceAfter filled verdictAfter lentAfter searchTests searchVerdict searchLeaves checking.asEvidence evidenceOf evidenceTests evidenceCall badPacket packetsStage checkedAs checkedUnless following.listsTests traceTests traceCall policyTests pairTests policyAnswer pairAnswer policyLegality pairLegality lengthTest numberStage valuesStage valuesTests valuesAnswer keptUnless valuesLeft badValue numberTests numberAnswer sided isBlank isLetter isDigit inWord fieldNames sameWord allDigits decimal leadingZero isNumber numberToken fieldToken fieldNamed wordToken singleMark doubleMark beginsDouble markToken wordOf frontToken isBad restOfToken placedFrom tokensFrom tokens constantPolicy fieldAction nothing joinSequence joinSum upTo whole start close step finish readOn badPlace openAfter deepPlace stopPlace treeRead tooMany answered reading textTree tested answerTo leftBy shortest textNodes textStage textsTests textsVerdict textsLeaves badCount zeroSize productOver fieldsStage productStage refusal refusedAt atPlace firstOf written children badLengths badKind badField used wrongEntries badEntries someNotBelow badChild occurrences timesChild notOnce maxDups tooManyDups cause policiesStage onlyBits outcome bytes dups nested nines words lending front holding compares cases order inOrder causes stagesOf
+pub all-as-stated : map (λ (c : Case). resultOf (c .call)) cases ≡ map (λ (c : Case). c .stated) cases
+unfolding xor lowest orAt valueAt changed valuesOf numberOf product nodeCount nodeOf nodeAt one isDup dupsBelow grow treeAt policyOf nodeEntry actionEntry treeSize entriesFrom listsOf nodesOf bit maskOf anyBelow setOf union takes image starRounds single unionOver labels rightSpine orElse followedBy remainder flow enter ofMarked outputSet enteredSet next outputMask nextMask runs hasTrace starts sameRow listed append appendNext lowestTelling turn handle runFrom run climbing climb path entering runAnswer answerWith held at onBoth outputAt nextAt sameStates bothZero inOneOutput bitsOfDups lastOf sideOf reported searchAnswer columnsOf heldColumns andThen brokenAt present breaksA breaksB breaksD checkRow checkRows checkRules evidenceAnswer answerOf sideHas traceAnswer misfit rowsMisfit listsStage lentTests workAfter verdictOf traceAfter filled verdictAfter lentAfter searchTests searchVerdict searchLeaves checking.asEvidence evidenceOf evidenceTests evidenceCall badPacket packetsStage checkedAs checkedUnless following.listsTests traceTests traceCall policyTests pairTests policyAnswer pairAnswer policyLegality pairLegality lengthTest numberStage valuesStage valuesTests valuesAnswer keptUnless valuesLeft badValue numberTests numberAnswer sided isBlank isLetter isDigit inWord fieldNames sameWord allDigits decimal leadingZero isNumber numberToken fieldToken fieldNamed wordToken singleMark doubleMark beginsDouble markToken wordOf frontToken isBad restOfToken placedFrom tokensFrom tokens constantPolicy fieldAction nothing joinSequence joinSum upTo whole start close step finish readOn badPlace openAfter deepPlace stopPlace treeRead tooMany answerAfter outcome textTree tested answerTo leftBy shortest textNodes textStage textsTests textsVerdict textsLeaves badCount zeroSize productOver fieldsStage productStage refusal refusedAt atPlace firstOf written children badLengths badKind badField used wrongEntries badEntries someNotBelow badChild occurrences timesChild notOnce maxDups tooManyDups cause policiesStage onlyBits resultOf bytes dups nested nines words lending thenNines holding compares cases order inOrder causes stagesOf
 all-as-stated = refl

@@ -1,5 +1,5 @@
 -- Document 01, "Pairs to hold against it": P1 to P11 from document 01's own texts, its edges, and further pairs, as one table of calls.
--- A line is a call with every list lent to it, and the answer and the lists that are stated; `outcome` is what the calls promise.
+-- A line is a call with every list lent to it, and the answer and the lists that are stated; `resultOf` is what the calls promise.
 use Prim.Native.Nat.{ℕ, zero, suc, _-_}
 use Prim.Native.Char.{code}
 use Prim.Native.String.{String, [] as noText, _∷_ as _thenText_}
@@ -8,6 +8,7 @@ use lib.ListN.{length, replicate}
 use Rattle.packet.specs.Refusals.{refusal}
 use Rattle.packet.specs.Packets.{numberOf}
 use Rattle.policy.specs.NodeLists.{NodeLists}
+use Rattle.policy.specs.AsLists.{asLists}
 use Rattle.policy.specs.NodesOfTree.{nodesOf}
 use Rattle.turning.specs.Turning.{valuesTests, valuesAnswer, valuesLeft, numberTests, numberAnswer}
 use Rattle.turning.specs.declared.Values.{Values}
@@ -24,7 +25,7 @@ use Rattle.grammar.specs.Answer.{textTree, answerTo, leftBy, shortest}
 use Rattle.grammar.specs.declared.Answer.{Answer}
 use Rattle.grammar.specs.declared.Answer.the-variants.{Nodes, Refused as Unread}
 use Rattle.pair.specs.Search.{Columns}
-use Rattle.lent_lists.specs.Lent.{workAfter}
+use Rattle.lent_lists.specs.LentLists.{workAfter}
 use Rattle.verdict.specs.declared.Verdict.{Verdict}
 use Rattle.verdict.specs.declared.Verdict.the-variants.{Equal, Left, Right, Full, Refused}
 use Rattle.search.specs.Call.{SearchLists, lent, searchVerdict, searchLeaves}
@@ -50,48 +51,45 @@ pub data Call : Type 0 where
   numberFor : (sizes values : List ℕ) → Call
 
 -- an answer, and every lent list that the call may write
-pub data Outcome : Type 0 where
-  searched : Verdict → SearchLists → Outcome
-  judged : Evidence → List ℕ → Outcome
-  followed : TraceChecked → List ℕ → Outcome
-  legality : PairAnswer → Outcome
-  legalityOfOne : PolicyAnswer → Outcome
-  readAs : Answer → NodeLists → Outcome
-  turned : Values → List ℕ → Outcome
-  numbered : Number → Outcome
-
-abbrev pub lists : List ℕ → List ℕ → List ℕ → NodeLists
-lists kind first second = record { kind = kind; first = first; second = second }
+pub data Result : Type 0 where
+  searched : Verdict → SearchLists → Result
+  judged : Evidence → List ℕ → Result
+  followed : TraceChecked → List ℕ → Result
+  legality : PairAnswer → Result
+  legalityOfOne : PolicyAnswer → Result
+  readAs : Answer → NodeLists → Result
+  turned : Values → List ℕ → Result
+  numbered : Number → Result
 
 -- what the reader leaves in its three lists
 abbrev nodesLeft : List ℕ → Answer → NodeLists → NodeLists
 nodesLeft text r old =
-    lists
+    asLists
     (leftBy r (nodesOf (textTree fieldNames text) .kind) (old .kind))
     (leftBy r (nodesOf (textTree fieldNames text) .first) (old .first))
     (leftBy r (nodesOf (textTree fieldNames text) .second) (old .second))
 
 -- the right sides of the calls' promises
-unfoldable pub outcome : Call → Outcome
-outcome (searchTexts sizes l r x) = searched (textsVerdict sizes l r x) (textsLeaves sizes l r x)
-outcome (search sizes l r x) = searched (searchVerdict sizes l r x) (searchLeaves sizes l r x)
-outcome (checkRows sizes l r packets lefts rights work) =
+unfoldable pub resultOf : Call → Result
+resultOf (searchTexts sizes l r x) = searched (textsVerdict sizes l r x) (textsLeaves sizes l r x)
+resultOf (search sizes l r x) = searched (searchVerdict sizes l r x) (searchLeaves sizes l r x)
+resultOf (checkRows sizes l r packets lefts rights work) =
     judged (evidenceCall sizes l r packets lefts rights (length work)) (workAfter (evidenceTests sizes l r packets lefts rights (length work)) work)
-outcome (checkTrace sizes l r entering packets work) =
+resultOf (checkTrace sizes l r entering packets work) =
     followed (traceCall sizes l r entering packets (length work)) (workAfter (following.listsTests sizes l r (length work)) work)
-outcome (bothLegal sizes l r) = legality (pairLegality sizes l r)
-outcome (oneLegal sizes policy) = legalityOfOne (policyLegality sizes policy)
-outcome (read text kind first second) =
+resultOf (bothLegal sizes l r) = legality (pairLegality sizes l r)
+resultOf (oneLegal sizes policy) = legalityOfOne (policyLegality sizes policy)
+resultOf (read text kind first second) =
     let r = answerTo fieldNames text (shortest kind first second) in
-    readAs r (nodesLeft text r (lists kind first second))
-outcome (valuesOf sizes number values) = turned (valuesAnswer (valuesTests sizes number (length values))) (valuesLeft sizes number values)
-outcome (numberFor sizes values) = numbered (numberAnswer (numberTests sizes values) (numberOf sizes values))
+    readAs r (nodesLeft text r (asLists kind first second))
+resultOf (valuesOf sizes number values) = turned (valuesAnswer (valuesTests sizes number (length values))) (valuesLeft sizes number values)
+resultOf (numberFor sizes values) = numbered (numberAnswer (numberTests sizes values) (numberOf sizes values))
 
 pub record Case : Type 0 where
   pub call : Call
-  pub stated : Outcome
+  pub stated : Result
 
-abbrev gives : Call → Outcome → Case
+abbrev gives : Call → Result → Case
 gives call stated = record { call = call; stated = stated }
 
 -- ---- policies
@@ -117,18 +115,18 @@ nested n = replicate n 40 ++ bytes "id" ++ replicate n 41
 -- every kind in lists, of the policy ((f0=0;f0!=1)+drop);dup;(f0<-1;id)*
 abbrev everyKind : NodeLists
 everyKind =
-    lists
+    asLists
     (2 ∷ 3 ∷ 7 ∷ 0 ∷ 6 ∷ 5 ∷ 7 ∷ 4 ∷ 1 ∷ 7 ∷ 8 ∷ 7 ∷ [])
     (0 ∷ 0 ∷ 0 ∷ 0 ∷ 2 ∷ 0 ∷ 4 ∷ 0 ∷ 0 ∷ 7 ∷ 9 ∷ 6 ∷ [])
     (0 ∷ 1 ∷ 1 ∷ 0 ∷ 3 ∷ 0 ∷ 5 ∷ 1 ∷ 0 ∷ 8 ∷ 0 ∷ 10 ∷ [])
 
 -- a sequence whose second dup is node 0 and whose first is node 1
 abbrev turnedRound : NodeLists
-turnedRound = lists (5 ∷ 5 ∷ 7 ∷ []) (0 ∷ 0 ∷ 1 ∷ []) (0 ∷ 0 ∷ 0 ∷ [])
+turnedRound = asLists (5 ∷ 5 ∷ 7 ∷ []) (0 ∷ 0 ∷ 1 ∷ []) (0 ∷ 0 ∷ 0 ∷ [])
 
 -- ⊤, legal whatever the sizes
 abbrev pass : NodeLists
-pass = lists (1 ∷ []) (0 ∷ []) (0 ∷ [])
+pass = asLists (1 ∷ []) (0 ∷ []) (0 ∷ [])
 
 -- ---- lent lists: 9 in each entry, so that what a call writes and what it keeps can be told apart
 
@@ -144,13 +142,13 @@ unfoldable pub lending : ℕ → ℕ → SearchLists
 lending rows trace = lent (nines rows) (nines rows) (nines rows) (nines rows) (nines trace) (nines words)
 
 -- a list of n entries that holds xs first and 9 beyond
-unfoldable pub front : List ℕ → ℕ → List ℕ
-front xs n = xs ++ nines (n - length xs)
+unfoldable pub thenNines : List ℕ → ℕ → List ℕ
+thenNines xs n = xs ++ nines (n - length xs)
 
 -- the lists of `lending` after a search: rows and trace in front, the work list all 0
 unfoldable pub holding : ℕ → ℕ → Columns → List ℕ → SearchLists
 holding rows trace c t =
-    lent (front (c .packets) rows) (front (c .lefts) rows) (front (c .rights) rows) (front (c .parents) rows) (front t trace) (replicate words 0)
+    lent (thenNines (c .packets) rows) (thenNines (c .lefts) rows) (thenNines (c .rights) rows) (thenNines (c .parents) rows) (thenNines t trace) (replicate words 0)
 
 abbrev columns : List ℕ → List ℕ → List ℕ → List ℕ → Columns
 columns packets lefts rights parents = record { packets = packets; lefts = lefts; rights = rights; parents = parents }
@@ -183,7 +181,7 @@ refuses l r number side place = gives (bothLegal (2 ∷ 3 ∷ []) l r) (legality
 -- a refusal of causes 14 to 17 with lists of so many entries lent, which it leaves as found: number and place
 abbrev unread : List ℕ → ℕ → ℕ → ℕ → Case
 unread text room number place =
-    gives (read text (nines room) (nines room) (nines room)) (readAs (Unread (refusal number 0 place)) (lists (nines room) (nines room) (nines room)))
+    gives (read text (nines room) (nines room) (nines room)) (readAs (Unread (refusal number 0 place)) (asLists (nines room) (nines room) (nines room)))
 
 abbrev P2-left : NodeLists
 P2-left = nodes "f0=0;dup"
@@ -241,7 +239,7 @@ cases =
     ∷ gives (bothLegal (1 ∷ []) (textNodes (dups 30)) (textNodes (dups 30))) (legality (Legal 31 31))
     ∷ gives (bothLegal (1 ∷ []) (textNodes (dups 30)) (textNodes (dups 31))) (legality (PairRefused (refusal 9 2 61)))
     -- 64 parentheses pass, 65 don't
-    ∷ gives (read (nested 64) (nines 2) (nines 2) (nines 2)) (readAs (Nodes 1) (lists (1 ∷ 9 ∷ []) (0 ∷ 9 ∷ []) (0 ∷ 9 ∷ [])))
+    ∷ gives (read (nested 64) (nines 2) (nines 2) (nines 2)) (readAs (Nodes 1) (asLists (1 ∷ 9 ∷ []) (0 ∷ 9 ∷ []) (0 ∷ 9 ∷ [])))
     ∷ unread (nested 65) 2 15 64
     -- the trace checker: left and right on P7, both and neither on P2; a trace of length 0 is neither, also where both policies are id
     ∷ follows (1 ∷ []) (nodes "dup") (nodes "dup;dup") 0 (0 ∷ 0 ∷ []) OnlyLeft
@@ -275,27 +273,27 @@ cases =
     ++ finds (1 ∷ []) turnedRound turnedRound 5 3 (Equal 3) (columns (0 ∷ 0 ∷ 0 ∷ []) (1 ∷ 4 ∷ 2 ∷ []) (1 ∷ 4 ∷ 2 ∷ []) (0 ∷ 0 ∷ 1 ∷ [])) []
     ∷ compares (2 ∷ []) "drop" "f0<-0+f0<-1" 5 3 (Right 1 0) starts2 (0 ∷ [])
     -- causes 4 to 9: lists unequal, empty, over 512
-    ++ refuses pass (lists (1 ∷ []) [] (0 ∷ [])) 4 2 0
-    ∷ refuses (lists [] [] []) pass 4 1 0
-    ∷ refuses pass (lists (replicate 513 1) (replicate 513 0) (replicate 513 0)) 4 2 0
+    ++ refuses pass (asLists (1 ∷ []) [] (0 ∷ [])) 4 2 0
+    ∷ refuses (asLists [] [] []) pass 4 1 0
+    ∷ refuses pass (asLists (replicate 513 1) (replicate 513 0) (replicate 513 0)) 4 2 0
     -- of two causes the earlier, of two sides the left, of two nodes the lower
-    ∷ refuses (lists (1 ∷ 9 ∷ []) (1 ∷ 0 ∷ []) (0 ∷ 0 ∷ [])) pass 5 1 1
-    ∷ refuses (lists (1 ∷ []) (1 ∷ []) (0 ∷ [])) (lists (9 ∷ []) (0 ∷ []) (0 ∷ [])) 5 2 0
-    ∷ refuses (lists (9 ∷ []) (0 ∷ []) (0 ∷ [])) (lists (9 ∷ 9 ∷ []) (0 ∷ 0 ∷ []) (0 ∷ 0 ∷ [])) 5 1 0
-    ∷ refuses pass (lists (9 ∷ 9 ∷ []) (0 ∷ 0 ∷ []) (0 ∷ 0 ∷ [])) 5 2 0
+    ∷ refuses (asLists (1 ∷ 9 ∷ []) (1 ∷ 0 ∷ []) (0 ∷ 0 ∷ [])) pass 5 1 1
+    ∷ refuses (asLists (1 ∷ []) (1 ∷ []) (0 ∷ [])) (asLists (9 ∷ []) (0 ∷ []) (0 ∷ [])) 5 2 0
+    ∷ refuses (asLists (9 ∷ []) (0 ∷ []) (0 ∷ [])) (asLists (9 ∷ 9 ∷ []) (0 ∷ 0 ∷ []) (0 ∷ 0 ∷ [])) 5 1 0
+    ∷ refuses pass (asLists (9 ∷ 9 ∷ []) (0 ∷ 0 ∷ []) (0 ∷ 0 ∷ [])) 5 2 0
     -- a value equal to its field's size, an undeclared field, a star's second entry, an unused entry
-    ∷ refuses (lists (2 ∷ []) (1 ∷ []) (3 ∷ [])) pass 6 1 0
-    ∷ refuses (lists (4 ∷ []) (2 ∷ []) (0 ∷ [])) pass 6 1 0
-    ∷ refuses (lists (1 ∷ 8 ∷ []) (0 ∷ 0 ∷ []) (0 ∷ 1 ∷ [])) pass 6 1 1
-    ∷ refuses (lists (5 ∷ []) (0 ∷ []) (7 ∷ [])) pass 6 1 0
+    ∷ refuses (asLists (2 ∷ []) (1 ∷ []) (3 ∷ [])) pass 6 1 0
+    ∷ refuses (asLists (4 ∷ []) (2 ∷ []) (0 ∷ [])) pass 6 1 0
+    ∷ refuses (asLists (1 ∷ 8 ∷ []) (0 ∷ 0 ∷ []) (0 ∷ 1 ∷ [])) pass 6 1 1
+    ∷ refuses (asLists (5 ∷ []) (0 ∷ []) (7 ∷ [])) pass 6 1 0
     -- a child not below its parent; a node twice a child of one parent; a node that is no child
-    ∷ refuses (lists (1 ∷ 8 ∷ []) (0 ∷ 1 ∷ []) (0 ∷ 0 ∷ [])) pass 7 1 1
-    ∷ refuses (lists (1 ∷ 6 ∷ []) (0 ∷ 0 ∷ []) (0 ∷ 0 ∷ [])) pass 8 1 0
-    ∷ refuses (lists (1 ∷ 1 ∷ []) (0 ∷ 0 ∷ []) (0 ∷ 0 ∷ [])) pass 8 1 0
-    ∷ refuses (lists (1 ∷ 8 ∷ 6 ∷ []) (0 ∷ 0 ∷ 1 ∷ []) (0 ∷ 0 ∷ 1 ∷ [])) pass 8 1 1
+    ∷ refuses (asLists (1 ∷ 8 ∷ []) (0 ∷ 1 ∷ []) (0 ∷ 0 ∷ [])) pass 7 1 1
+    ∷ refuses (asLists (1 ∷ 6 ∷ []) (0 ∷ 0 ∷ []) (0 ∷ 0 ∷ [])) pass 8 1 0
+    ∷ refuses (asLists (1 ∷ 1 ∷ []) (0 ∷ 0 ∷ []) (0 ∷ 0 ∷ [])) pass 8 1 0
+    ∷ refuses (asLists (1 ∷ 8 ∷ 6 ∷ []) (0 ∷ 0 ∷ 1 ∷ []) (0 ∷ 0 ∷ 1 ∷ [])) pass 8 1 1
     -- one policy alone: its dups, or a refusal with side 0
     ∷ gives (oneLegal (2 ∷ []) everyKind) (legalityOfOne (LegalAlone 1))
-    ∷ gives (oneLegal (2 ∷ []) (lists (5 ∷ []) (0 ∷ []) (7 ∷ []))) (legalityOfOne (AloneRefused (refusal 6 0 0)))
+    ∷ gives (oneLegal (2 ∷ []) (asLists (5 ∷ []) (0 ∷ []) (7 ∷ []))) (legalityOfOne (AloneRefused (refusal 6 0 0)))
     -- causes 14 to 17: each over the whole text before the next
     ∷ unread (bytes "f0 ! = 0") 9 14 3
     ∷ unread (bytes "id+;00") 9 14 4

@@ -22,10 +22,10 @@ use Rattle.packet_set.specs.Bits.{bit}
 use Rattle.packet_set.specs.InnerMembers.{member, wordsFor, emptySet}
 use Rattle.packet_set.proofs.Digits.{bit-or, bit-and, bit-shift, bit-of-zero}
 use Rattle.spans.proofs.Sets.{no-packet}
-use Rattle.loaded.specs.Loading.{SetOf, withValue}
+use Rattle.loaded.specs.Loading.{HasMembers, withValue}
 use Rattle.loaded.proofs.Runs.{empty-wide, period-small}
 use Rattle.changes.specs.Changes.{Changing, Changed}
-use Rattle.changes.specs.Folding.{Joined, Window, Padded, Gathered, Masked, Folded}
+use Rattle.changes.specs.Folding.{JoinedWord, Window, Padded, Gathered, Masked, Folded}
 use Rattle.changes.proofs.Walking.{digit-within, in-field, stride-some, field-within, goal-fits}
 
 -- ---- two words
@@ -50,7 +50,7 @@ module _ (a b : ℕ) (fits : a < 2 ^ 32) where
   bit-second : (i : ℕ) → bit (b * 2 ^ 32 + a) (32 + i) ≡ bit b i
   bit-second i = sym (bit-shift (b * 2 ^ 32 + a) 32 i) ∙ ap (λ (x : ℕ). bit x i) (high b 32 fits)
 
-pub joined-bits : (a b k : ℕ) → a < 2 ^ 32 → Joined a b k ((b * 4294967296 + a) / 2 ^ k % 4294967296)
+pub joined-bits : (a b k : ℕ) → a < 2 ^ 32 → JoinedWord a b k ((b * 4294967296 + a) / 2 ^ k % 4294967296)
 joined-bits a b k fits = record {
   first = λ j l. from j (omega arith) ∙ bit-first a b fits (k + j) l;
   second = λ j i l e. from j l ∙ ap (bit (b * 4294967296 + a)) e ∙ bit-second a b fits i;
@@ -59,7 +59,7 @@ joined-bits a b k fits = record {
     from : (j : ℕ) → j < 32 → bit ((b * 4294967296 + a) / 2 ^ k % 4294967296) j ≡ bit (b * 4294967296 + a) (k + j)
     from j l = bit-below 32 ((b * 4294967296 + a) / 2 ^ k) j l ∙ bit-shift (b * 4294967296 + a) k j
 
-pub window : (pad : List ℕ) (at word : ℕ) → Joined (getD pad (at / 32) 0) (getD pad (at / 32 + 1) 0) (at % 32) word → Window pad at word
+pub window : (pad : List ℕ) (at word : ℕ) → JoinedWord (getD pad (at / 32) 0) (getD pad (at / 32 + 1) 0) (at % 32) word → Window pad at word
 unfolding member
 window pad at word g = record { bits = λ j l. go j l (decLt (at % 32 + j) 32) }
   where
@@ -257,7 +257,7 @@ module _ (sizes : List ℕ) (f v start k : ℕ) (s : List ℕ) (g : Changing siz
       empty-wide clear ec,
     )
 
-    module _ (pad mask clear now : List ℕ) (words : ℕ) (ew : words ≡ wordsFor (product sizes)) (p : Padded s pad) (m : SetOf mask (withValue sizes f v)) (ec : clear ≡ emptySet)
+    module _ (pad mask clear now : List ℕ) (words : ℕ) (ew : words ≡ wordsFor (product sizes)) (p : Padded s pad) (m : HasMembers mask (withValue sizes f v)) (ec : clear ≡ emptySet)
         (w : Folded pad mask words (1024 - v * t) t z clear now) where
       left-zero : (i : ℕ) → words ≤ i → getD now i 0 ≡ 0
       left-zero i l = w .left i l ∙ ap (λ (x : List ℕ). getD x i 0) ec ∙ no-packet 0 .outside i (inr (omega arith))

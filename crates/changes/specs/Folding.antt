@@ -8,7 +8,7 @@ use Rattle.packet_set.specs.Bits.{bit}
 use Rattle.packet_set.specs.InnerMembers.{member}
 
 -- the word has the 32 bits from bit b on of two words
-pub record Joined (low high b word : ℕ) : Type 0 where
+pub record JoinedWord (low high b word : ℕ) : Type 0 where
   pub first : (j : ℕ) → b + j < 32 → bit word j ≡ bit low (b + j)
   pub second : (j i : ℕ) → j < 32 → b + j ≡ 32 + i → bit word j ≡ bit high i
 

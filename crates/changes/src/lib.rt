@@ -4,9 +4,9 @@ ghost use Prim.Native.Nat.{_+_, _-_, _*_, _/_, _%_, _≤_, _<_};
 ghost use lib.ListN.{length};
 ghost use Rattle.spans.specs.Spans.{Spanned};
 ghost use Rattle.changes.specs.Changes.{Changing, Changed, Added};
-ghost use Rattle.changes.specs.Folding.{Joined, Window, Padded, Gathered, Masked, Folded};
+ghost use Rattle.changes.specs.Folding.{JoinedWord, Window, Padded, Gathered, Masked, Folded};
 use packet_set::Lowest;
-use packet_set::PacketSet;
+use packet_set::PacketWords;
 use spans::Span;
 
 // Inner. The packet with one field changed, by the field's stride and size; `goal` is what the new value comes to.
@@ -19,7 +19,7 @@ fn landing(packet: u16, stride: u16, size: u16, goal: u16) -> u16
 }
 
 // Inner. The set takes the packet; its span.
-fn add(set: &mut PacketSet, span: Span, packet: u16) -> Span
+fn add(set: &mut PacketWords, span: Span, packet: u16) -> Span
     requires { ⌜ (packet < 1024) × Spanned (span .from) (span .to) (now set) ⌝ }
     ensures { λ r. ⌜ Added packet (now (set .entry)) (r .from) (r .to) (now (set .exit)) ⌝ }
 {
@@ -29,7 +29,7 @@ fn add(set: &mut PacketSet, span: Span, packet: u16) -> Span
 }
 
 // Inner. `change`, packet by packet.
-fn walk(sizes: &[u16], field: u16, value: u16, span: Span, set: &mut PacketSet) -> Span
+fn walk(sizes: &[u16], field: u16, value: u16, span: Span, set: &mut PacketWords) -> Span
     requires { ⌜ Changing (now sizes) field value (span .from) (span .to) (now set) ⌝ }
     ensures { λ r. ⌜ Changed (now (sizes .entry)) field value (now (set .entry)) (r .from) (r .to) (now (set .exit)) ⌝ }
 {
@@ -59,7 +59,7 @@ fn walk(sizes: &[u16], field: u16, value: u16, span: Span, set: &mut PacketSet) 
 // Inner. The 32 bits of two words from bit b of the first on.
 fn joined(low: u32, high: u32, b: u32) -> u32
     requires { ⌜ b < 32 ⌝ }
-    ensures { λ r. ⌜ Joined low high b r ⌝ }
+    ensures { λ r. ⌜ JoinedWord low high b r ⌝ }
 {
     let both = (high as u64) * 4294967296 + low as u64;
     ((both >> b) % 4294967296) as u32
@@ -75,7 +75,7 @@ fn bits_from(pad: &[u32; 96], at: usize) -> u32
 }
 
 // Inner. The set between words of 0, so that what lies before it can be asked for.
-fn padded(set: &PacketSet) -> [u32; 96]
+fn padded(set: &PacketWords) -> [u32; 96]
     ensures { λ r. ⌜ Padded (now (set .entry)) r ⌝ }
 {
     let mut pad = [0u32; 96];
@@ -115,12 +115,12 @@ fn masked(pad: &[u32; 96], at: usize, stride: usize, size: usize, mask: u32) -> 
 // Inner. The first words of the set become what is gathered there and in the mask.
 fn fill(
     pad: &[u32; 96],
-    mask: &PacketSet,
+    mask: &PacketWords,
     words: usize,
     at: usize,
     stride: usize,
     size: usize,
-    set: &mut PacketSet,
+    set: &mut PacketWords,
 )
     requires { ⌜ (words ≤ 32) × (at ≤ 1024) × (0 < stride) × (size * stride ≤ 1024) × (length (now set) ≡ 32) ⌝ }
     ensures { λ _. ⌜ Folded (now (pad .entry)) (now (mask .entry)) words at stride size (now (set .entry)) (now (set .exit)) ⌝ }
@@ -134,7 +134,7 @@ fn fill(
 }
 
 // Inner. `change`, by words: the packets with the value that are so many strides away from a member as its value is from the new one.
-fn fold(sizes: &[u16], field: u16, value: u16, span: Span, set: &mut PacketSet) -> Span
+fn fold(sizes: &[u16], field: u16, value: u16, span: Span, set: &mut PacketWords) -> Span
     requires { ⌜ Changing (now sizes) field value (span .from) (span .to) (now set) ⌝ }
     ensures { λ r. ⌜ Changed (now (sizes .entry)) field value (now (set .entry)) (r .from) (r .to) (now (set .exit)) ⌝ }
 {
@@ -170,7 +170,7 @@ fn members_in(word: u32) -> u32
 }
 
 // Inner. Has the set more than `few` members?
-fn more_than(set: &PacketSet, span: Span, few: u32) -> bool
+fn more_than(set: &PacketWords, span: Span, few: u32) -> bool
     requires { ⌜ (span .to ≤ 32) × (few ≤ 1024) ⌝ }
 {
     let to = span.to;
@@ -207,7 +207,7 @@ fn fair_share(words: u32, shifts: u32) -> u32
 }
 
 // Inner. Is it cheaper to go by words? The set is counted no further than it takes to tell.
-fn by_words(sizes: &[u16], field: u16, value: u16, span: Span, set: &PacketSet) -> bool
+fn by_words(sizes: &[u16], field: u16, value: u16, span: Span, set: &PacketWords) -> bool
     requires { ⌜ Changing (now sizes) field value (span .from) (span .to) (now set) ⌝ }
 {
     if !more_than(set, span, 8) {
@@ -222,7 +222,7 @@ fn by_words(sizes: &[u16], field: u16, value: u16, span: Span, set: &PacketSet) 
 }
 
 // Inner. The set becomes the packets that the change makes of its members; its span.
-pub fn change(sizes: &[u16], field: u16, value: u16, span: Span, set: &mut PacketSet) -> Span
+pub fn change(sizes: &[u16], field: u16, value: u16, span: Span, set: &mut PacketWords) -> Span
     requires { ⌜ Changing (now sizes) field value (span .from) (span .to) (now set) ⌝ }
     ensures { λ r. ⌜ Changed (now (sizes .entry)) field value (now (set .entry)) (r .from) (r .to) (now (set .exit)) ⌝ }
 {

@@ -70,8 +70,8 @@ pub record BothBlank (next : List (List ℕ)) : Type 0 where
 
 module _ (sizes : List ℕ) (L R : NodeLists) where
   -- the row that the masks stand for
-  abbrev pub rowOf : Row → system.Row (pairSystem sizes (policies L R))
-  rowOf r = record { packet = r .packet; state = record { left = getD (r .states) 0 0; right = getD (r .states) 1 0 } }
+  abbrev pub pairRow : Row → system.Row (pairSystem sizes (policies L R))
+  pairRow r = record { packet = r .packet; state = record { left = getD (r .states) 0 0; right = getD (r .states) 1 0 } }
 
   -- what the comparison answers at a row
   unfoldable pub answerAt : system.Row (pairSystem sizes (policies L R)) → Compared
@@ -96,6 +96,6 @@ module _ (sizes : List ℕ) (nodes tests : List (List ℕ)) where
 
   -- the row has been compared, whatever policies are loaded
   pub record ComparedStates (row : Row) (work : List ℕ) (answer : Compared) (next′ : List (List ℕ)) (work′ : List ℕ) : Type 0 where
-    pub compared : (L R : NodeLists) → BothLoaded sizes L R nodes tests → ComparedRow sizes L R (rowOf sizes L R row) answer next′
+    pub compared : (L R : NodeLists) → BothLoaded sizes L R nodes tests → ComparedRow sizes L R (pairRow sizes L R row) answer next′
     pub marking : BothMarking (product sizes) next′
     pub kept : work′ ≡ work

@@ -9,7 +9,7 @@ use loaded::Nodes;
 use loaded::Tests;
 use marks::Next;
 use packet_set::Lowest;
-use packet_set::PacketSet;
+use packet_set::PacketWords;
 use spans::Span;
 
 // The outputs are the same, or the lowest packet in exactly one of them and the policy that has it.
@@ -20,7 +20,7 @@ pub enum Compared {
 }
 
 // Inner. Two outputs compared.
-fn told(left: &PacketSet, right: &PacketSet, words: usize) -> Compared
+fn told(left: &PacketWords, right: &PacketWords, words: usize) -> Compared
     requires { ⌜ words ≤ 32 ⌝ }
     ensures { λ r. ⌜ r ≡ comparedSets words (now (left .entry)) (now (right .entry)) ⌝ }
 {

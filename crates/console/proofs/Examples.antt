@@ -12,16 +12,16 @@ use Rattle.packet.specs.Refusals.{refusal, refusedAt, atPlace, firstOf}
 use Rattle.policy.specs.NodeLists.{nodeCount, nodeOf, nodeAt, children, one, isDup, dupsBelow, grow, treeAt, policyOf}
 use Rattle.policy.specs.Legality.{badLengths, badKind, badField, used, wrongEntries, badEntries, someNotBelow, badChild, occurrences, timesChild, notOnce, maxDups, tooManyDups}
 use Rattle.policy.specs.Order.{order, inOrder, causes, sided, cause, policiesStage, stagesOf}
-use Rattle.policy.specs.NodesOfTree.{entry, actionEntry, treeSize, entriesFrom, listsOf, nodesOf}
+use Rattle.policy.specs.NodesOfTree.{nodeEntry, actionEntry, treeSize, entriesFrom, listsOf, nodesOf}
 use Rattle.packet_set.specs.Bits.{bit, maskOf, onlyBits}
 use Rattle.policy.specs.Visits.{labels}
 use Rattle.automaton.specs.Remainder.{orElse, followedBy, rightSpine, remainder}
-use Rattle.automaton.specs.State.{anyBelow, setOf, union, takes, image, rounds, single, unionOver, flow, enter, ofMarked, outputSet, enteredSet, next, outputMask, nextMask}
-use Rattle.system.specs.RowOrder.{starts, sameRow, listed, append, appendNext, lowestTelling, turn, handle, runFrom, run, climbing, climb, path, entering, verdict, answer, held}
+use Rattle.automaton.specs.State.{anyBelow, setOf, union, takes, image, starRounds, single, unionOver, flow, enter, ofMarked, outputSet, enteredSet, next, outputMask, nextMask}
+use Rattle.system.specs.RowOrder.{starts, sameRow, listed, append, appendNext, lowestTelling, turn, handle, runFrom, run, climbing, climb, path, entering, runAnswer, answerWith, held}
 use Rattle.pair.specs.Sides.{at, onBoth}
 use Rattle.pair.specs.Pair.{outputAt, nextAt, sameStates, bothZero, inOneOutput, bitsOfDups}
 use Rattle.pair.specs.Search.{lastOf, sideOf, reported, searchAnswer, columnsOf, heldColumns}
-use Rattle.lent_lists.specs.Lent.{misfit, rowsMisfit, listsStage}
+use Rattle.lent_lists.specs.LentLists.{misfit, rowsMisfit, listsStage}
 use Rattle.grammar.specs.Bytes.{isBlank, isLetter, isDigit, inWord}
 use Rattle.grammar.specs.Tokens.{fieldNames, sameWord, allDigits, decimal, leadingZero, isNumber, numberToken, fieldToken, fieldNamed, wordToken, singleMark, doubleMark, beginsDouble, markToken, wordOf, frontToken, isBad, restOfToken, placedFrom, tokensFrom, tokens}
 use Rattle.grammar.specs.Grammar.{constantPolicy, fieldAction}
@@ -88,5 +88,5 @@ cases =
     ∷ []
 
 all-as-stated : map (λ (c : Case). programOutput (c .input)) cases ≡ map (λ (c : Case). c .stated) cases
-unfolding xor lowest orAt valueAt changed valuesOf numberOf product nodeCount nodeOf nodeAt one isDup dupsBelow grow treeAt policyOf entry actionEntry treeSize entriesFrom listsOf nodesOf bit maskOf anyBelow setOf union takes image rounds single unionOver labels rightSpine orElse followedBy remainder flow enter ofMarked outputSet enteredSet next outputMask nextMask starts sameRow listed append appendNext lowestTelling turn handle runFrom run climbing climb path entering verdict answer held at onBoth outputAt nextAt sameStates bothZero inOneOutput bitsOfDups lastOf sideOf reported searchAnswer columnsOf heldColumns sided isBlank isLetter isDigit inWord fieldNames sameWord allDigits decimal leadingZero isNumber numberToken fieldToken fieldNamed wordToken singleMark doubleMark beginsDouble markToken wordOf frontToken isBad restOfToken placedFrom tokensFrom tokens constantPolicy fieldAction nothing joinSequence joinSum upTo whole start close step finish readOn badPlace openAfter deepPlace stopPlace treeRead tooMany outcome textTree tested badCount zeroSize productOver fieldsStage productStage refusal refusedAt atPlace firstOf children badLengths badKind badField used wrongEntries badEntries someNotBelow badChild occurrences timesChild notOnce maxDups tooManyDups order inOrder causes cause policiesStage stagesOf onlyBits misfit rowsMisfit listsStage textNodes textStage textsTests beginsLF isCR onto linesOf splitByCommas isSize allSizes sizesOf askedOf askedByLines asked digitsUpTo numeral lineRest numberLine wordEqual wordLeft wordRight wordRefused wordOfSide verdictLine rowLines lastFlag traceLines refusalLine tellingLines answerLines outputAfter programLent outputOf programOutput bytes lf crlf cases
+unfolding xor lowest orAt valueAt changed valuesOf numberOf product nodeCount nodeOf nodeAt one isDup dupsBelow grow treeAt policyOf nodeEntry actionEntry treeSize entriesFrom listsOf nodesOf bit maskOf anyBelow setOf union takes image starRounds single unionOver labels rightSpine orElse followedBy remainder flow enter ofMarked outputSet enteredSet next outputMask nextMask starts sameRow listed append appendNext lowestTelling turn handle runFrom run climbing climb path entering runAnswer answerWith held at onBoth outputAt nextAt sameStates bothZero inOneOutput bitsOfDups lastOf sideOf reported searchAnswer columnsOf heldColumns sided isBlank isLetter isDigit inWord fieldNames sameWord allDigits decimal leadingZero isNumber numberToken fieldToken fieldNamed wordToken singleMark doubleMark beginsDouble markToken wordOf frontToken isBad restOfToken placedFrom tokensFrom tokens constantPolicy fieldAction nothing joinSequence joinSum upTo whole start close step finish readOn badPlace openAfter deepPlace stopPlace treeRead tooMany outcome textTree tested badCount zeroSize productOver fieldsStage productStage refusal refusedAt atPlace firstOf children badLengths badKind badField used wrongEntries badEntries someNotBelow badChild occurrences timesChild notOnce maxDups tooManyDups order inOrder causes cause policiesStage stagesOf onlyBits misfit rowsMisfit listsStage textNodes textStage textsTests beginsLF isCR onto linesOf splitByCommas isSize allSizes sizesOf askedOf askedByLines asked digitsUpTo numeral lineRest numberLine wordEqual wordLeft wordRight wordRefused wordOfSide verdictLine rowLines lastFlag traceLines refusalLine tellingLines answerLines outputAfter programLent outputOf programOutput bytes lf crlf cases
 all-as-stated = refl

@@ -15,7 +15,7 @@ use loaded::Nodes;
 use loaded::Tests;
 use marks::Next;
 use packet_set::Mask;
-use packet_set::PacketSet;
+use packet_set::PacketWords;
 use policy::FieldAction;
 use policy::Node;
 use spans::Span;
@@ -24,7 +24,7 @@ use spans::Span;
 pub type Seen = [u32; 16];
 
 // Inner. The set keeps what set k of the tests lets in, and set 0 lets in all; is any left?
-fn admit(tests: &Tests, k: usize, span: Span, set: &mut PacketSet) -> bool
+fn admit(tests: &Tests, k: usize, span: Span, set: &mut PacketWords) -> bool
     requires { ⌜ (k ≤ 256) × Spanned (span .from) (span .to) (now set) ⌝ }
     ensures { λ r. ⌜ Admitted (now (tests .entry)) k (span .from) (span .to) (now (set .entry)) r (now (set .exit)) ⌝ }
 {
@@ -35,7 +35,7 @@ fn admit(tests: &Tests, k: usize, span: Span, set: &mut PacketSet) -> bool
 }
 
 // Inner. Does the guard of node n let in a packet of the set? (`false` says that it lets in none.)
-fn lets_in(nodes: &Nodes, tests: &Tests, n: u16, span: Span, set: &PacketSet) -> bool
+fn lets_in(nodes: &Nodes, tests: &Tests, n: u16, span: Span, set: &PacketWords) -> bool
     requires { ⌜ (n < 512) × (setIn (getD (now nodes) n 0) ≤ 256) × Spanned (span .from) (span .to) (now set) ⌝ }
     ensures { λ r. ⌜ (r ≡ false → (γ : ℕ) → (member (now (set .entry)) γ && guardAt (now (nodes .entry)) (now (tests .entry)) n γ) ≡ false) ⌝ }
 {
@@ -51,7 +51,7 @@ fn enter(
     keeps: bool,
     n: u16,
     span: Span,
-    set: &mut PacketSet,
+    set: &mut PacketWords,
     work: &mut [u32],
     seen: &mut Seen,
 ) -> bool
@@ -65,7 +65,7 @@ fn enter(
 }
 
 // Inner. The set after a change of a field; tests are no business of this function.
-fn act(sizes: &[u16], action: FieldAction, span: Span, set: &mut PacketSet) -> Span
+fn act(sizes: &[u16], action: FieldAction, span: Span, set: &mut PacketWords) -> Span
     requires { ⌜ Changing (now sizes) (fieldOf action) (valueOf action) (span .from) (span .to) (now set) ⌝ }
     ensures { λ r. ⌜ Acted (now (sizes .entry)) action (now (set .entry)) (r .from) (r .to) (now (set .exit)) ⌝ }
 {
@@ -85,7 +85,7 @@ fn through(
     sizes: &[u16],
     n: u16,
     span: Span,
-    set: &mut PacketSet,
+    set: &mut PacketWords,
     work: &mut [u32],
     seen: &mut Seen,
     next: &mut Next,
@@ -183,7 +183,7 @@ fn follow_whole(
     sizes: &[u16],
     packet: u16,
     span: Span,
-    out: &mut PacketSet,
+    out: &mut PacketWords,
     work: &mut [u32],
     seen: &mut Seen,
     next: &mut Next,
@@ -216,7 +216,7 @@ fn follow_dup(
     i: u16,
     packet: u16,
     span: Span,
-    out: &mut PacketSet,
+    out: &mut PacketWords,
     work: &mut [u32],
     seen: &mut Seen,
     next: &mut Next,
@@ -265,7 +265,7 @@ fn follow(
     i: u16,
     packet: u16,
     span: Span,
-    out: &mut PacketSet,
+    out: &mut PacketWords,
     work: &mut [u32],
     seen: &mut Seen,
     next: &mut Next,
@@ -291,7 +291,7 @@ pub fn step(
     state: Mask,
     packet: u16,
     span: Span,
-    out: &mut PacketSet,
+    out: &mut PacketWords,
     next: &mut Next,
     work: &mut [u32],
 ) -> Span

@@ -3,10 +3,10 @@
 use legality::PolicyAnswer;
 use marks::Next;
 use packet_set::Lowest;
-use packet_set::PacketSet;
+use packet_set::PacketWords;
 use spans::Span;
 
-fn output(set: PacketSet) {
+fn output(set: PacketWords) {
     let mut from: u16 = 0;
     let mut turns: usize = 0;
     while turns < 1024 {

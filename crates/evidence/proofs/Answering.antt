@@ -31,7 +31,7 @@ use Rattle.pair.specs.Rules.{RulesAnswer, accepted, ruleA, ruleB, ruleC, ruleD,
 use Rattle.pair.specs.Evidence.{tableOf, evidenceAnswer, RowRules}
 use Rattle.pair.proofs.Lawful.{EvaluablePair, legal-pair}
 use Rattle.pair.proofs.Evidence.{evidence-judged, accepted-same, evidence-iff, search-accepted, row-order-accepted}
-use Rattle.lent_lists.specs.Lent.{misfit, rowsMisfit, listsStage, workAfter}
+use Rattle.lent_lists.specs.LentLists.{misfit, rowsMisfit, listsStage, workAfter}
 use Rattle.lent_lists.proofs.Testing.{front-tests, tests-passed, pair-lent, lent-pair}
 use Rattle.evidence.specs.declared.Evidence.{Evidence}
 use Rattle.evidence.specs.declared.Evidence.the-variants.{Accepted, RuleA, RuleB, RuleC, RuleD, Refused as NotChecked}

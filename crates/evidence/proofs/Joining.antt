@@ -22,8 +22,8 @@ use Rattle.pair.specs.Pair as pair
 use Rattle.pair.specs.Pair.{bothZero, bitsOfDups, pairSystem}
 use Rattle.pair.specs.Rules.{Table, present, breaksA, breaksB}
 use Rattle.pair.specs.Evidence.{tableOf}
-use Rattle.index.specs.Columns.{Small, rowAt, sameStates, sameRow, listedBelow}
-use Rattle.row_rules.specs.Presence.{maskRow, fits, zeroStates, inColumns, strays, startMissing, nextMissing}
+use Rattle.index.specs.Columns.{Small, rowAt, masksAgree, rowsAgree, listedBelow}
+use Rattle.row_rules.specs.Presence.{maskRow, rowInRange, zeroStates, inColumns, strays, startMissing, nextMissing}
 
 -- tests that agree below n find the same
 pub lowest-agree : (test other : ℕ → Bool) (n m : ℕ) → n ≡ m → ((i : ℕ) → i < m → test i ≡ other i) → lowest test n ≡ lowest other m
@@ -40,7 +40,7 @@ module _ (sizes : List ℕ) (L R : NodeLists) (packets lefts rights : List ℕ) 
   rowOf α l r = record { packet = α; state = record { left = l; right = r } }
 
   scan-is : (n α l r : ℕ) → listedBelow (rowAt packets lefts rights) n (maskRow α l r) ≡ anyBelow n (λ i. order.sameRow S (T .row i) (rowOf α l r))
-  unfolding listedBelow anyBelow order.sameRow sameRow sameStates pair.sameStates onBoth at
+  unfolding listedBelow anyBelow order.sameRow rowsAgree masksAgree pair.sameStates onBoth at
   scan-is zero α l r = refl
   scan-is (suc n) α l r = ap₂ _||_ (scan-is n α l r) refl
 
@@ -52,7 +52,7 @@ module _ (sizes : List ℕ) (L R : NodeLists) (packets lefts rights : List ℕ) 
   -- rule (a)
   module _ (count leftDups rightDups : ℕ) (n : count ≡ product sizes) (dl : leftDups ≡ dupsBelow L (nodeCount L)) (dr : rightDups ≡ dupsBelow R (nodeCount R)) where
     strays-is : (i : ℕ) → strays packets lefts rights count leftDups rightDups i ≡ breaksA S T i
-    unfolding strays fits breaksA bitsOfDups onBoth at
+    unfolding strays rowInRange breaksA bitsOfDups onBoth at
     strays-is i = rw (n, dl, dr) refl
 
     pub lowest-stray : lowest (strays packets lefts rights count leftDups rightDups) (length packets) ≡ lowest (breaksA S T) (length packets)
@@ -60,7 +60,7 @@ module _ (sizes : List ℕ) (L R : NodeLists) (packets lefts rights : List ℕ) 
 
     -- where rule (a) is kept, each packet is below N
     pub packets-small : lowest (strays packets lefts rights count leftDups rightDups) (length packets) ≡ none → Small packets count
-    unfolding strays fits
+    unfolding strays rowInRange
     packets-small e = record { small = λ i h. ltb-true _ _ (and-true _ _ (not-false _ (lowest-none _ _ e i h)) .0) }
 
   -- rule (b)

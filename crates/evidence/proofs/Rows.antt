@@ -25,11 +25,11 @@ use Rattle.pair.specs.Pair.{pairSystem}
 use Rattle.pair.specs.Rules.{Table, RulesAnswer, accepted, ruleC, ruleD, andThen, brokenAt, breaksD, checkRow, checkRows}
 use Rattle.pair.specs.Evidence.{tableOf}
 use Rattle.index.specs.declared.Row.{Row as MaskRow}
-use Rattle.index.specs.Columns.{leftOf, rightOf, rowAt, sameStates, sameRow}
+use Rattle.index.specs.Columns.{leftOf, rightOf, rowAt, masksAgree, rowsAgree}
 use Rattle.index.specs.Index.{Indexed}
 use Rattle.compare.specs.declared.Compared.{Compared}
 use Rattle.compare.specs.declared.Compared.the-variants.{Same, Left, Right}
-use Rattle.compare.specs.Comparison.{differsAt, rowOf, BothLoaded, BothMarking, BothBlank, CompareReady, ComparedRow, ComparedStates}
+use Rattle.compare.specs.Comparison.{differsAt, pairRow, BothLoaded, BothMarking, BothBlank, CompareReady, ComparedRow, ComparedStates}
 use Rattle.compare.proofs.Telling.{same-lowest, differs-lowest}
 use Rattle.evidence.specs.declared.Evidence.the-variants.{Accepted, RuleC, RuleD}
 use Rattle.evidence.specs.declared.RowAnswer.{RowAnswer}
@@ -81,7 +81,7 @@ module _ {sizes : List ℕ} {nodes tests : List (List ℕ)} {packets lefts right
         T = tableOf sizes (policies L R) packets lefts rights
 
         at-row : ComparedRow sizes L R (T .row i) answer next
-        at-row = subst (λ (y : MaskRow). ComparedRow sizes L R (rowOf sizes L R y) answer next) isRow (compared .compared L R both)
+        at-row = subst (λ (y : MaskRow). ComparedRow sizes L R (pairRow sizes L R y) answer next) isRow (compared .compared L R both)
 
         told-outputs : (s : Side) (γ : ℕ) → answer ≡ differsAt s γ → ruleC i ≡ checkRow S T i
         unfolding checkRow lowestTelling andThen brokenAt
@@ -139,9 +139,9 @@ rows-end S T x ends i (suc n) h keep e = go (last-or-before h) (λ l. rows-end S
     go (inr q) ih = ap₂ andThen (ap (checkRows S T) (sym q) ∙ keep) (ap (checkRow S T) (sym q) ∙ sym e)
 
 module _ (sizes : List ℕ) (L R : NodeLists) (packets lefts rights : List ℕ) where
-  row-same : (j i : ℕ) → sameRow (rowAt packets lefts rights j) (rowAt packets lefts rights i) ≡ true
+  row-same : (j i : ℕ) → rowsAgree (rowAt packets lefts rights j) (rowAt packets lefts rights i) ≡ true
       → tableOf sizes (policies L R) packets lefts rights .row j ≡ tableOf sizes (policies L R) packets lefts rights .row i
-  unfolding sameRow sameStates
+  unfolding rowsAgree masksAgree
   row-same j i e =
       let both = and-true (eqb (getD packets j 0) (getD packets i 0)) (eqb (getD lefts j 0) (getD lefts i 0) && eqb (getD rights j 0) (getD rights i 0)) e in
       let states = and-true (eqb (getD lefts j 0) (getD lefts i 0)) (eqb (getD rights j 0) (getD rights i 0)) (both .1) in

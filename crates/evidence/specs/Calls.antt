@@ -15,7 +15,7 @@ use Rattle.pair.specs.Pair.{pairSystem}
 use Rattle.pair.specs.Search.{heldColumns}
 use Rattle.pair.specs.Rules.{RulesAnswer, accepted, ruleA, ruleB, ruleC, ruleD, Judged}
 use Rattle.pair.specs.Evidence.{tableOf, evidenceAnswer, RowRules}
-use Rattle.lent_lists.specs.Lent.{listsStage, lentTests, workAfter}
+use Rattle.lent_lists.specs.LentLists.{listsStage, lentTests, workAfter}
 use Rattle.evidence.specs.declared.Evidence.{Evidence}
 use Rattle.evidence.specs.declared.Evidence.the-variants.{Accepted, RuleA, RuleB, RuleC, RuleD, Refused as NotChecked}
 

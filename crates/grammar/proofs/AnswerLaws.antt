@@ -19,7 +19,7 @@ use Rattle.grammar.specs.declared.Answer.the-variants.{Nodes, Refused}
 use Rattle.grammar.specs.Tokens.{Token, Placed, constant, field, number, comparison, plus, semicolon, asterisk, opening, closing, bad, isBad, tokens, fieldNames}
 use Rattle.grammar.specs.InnerKinds.{kindOf, frontKind, frontPlace, afterFront, openAfterKind}
 use Rattle.grammar.specs.Reading.{tree}
-use Rattle.grammar.specs.Answer.{badPlace, openAfter, deepPlace, stopPlace, treeRead, tooMany, answered, outcome, textTree, tested, answerTo, leftBy, shortest, TextRead}
+use Rattle.grammar.specs.Answer.{badPlace, openAfter, deepPlace, stopPlace, treeRead, tooMany, answerAfter, outcome, textTree, tested, answerTo, leftBy, shortest, TextRead}
 
 -- no token has the kind of the end
 never-end : (t : Token) → kindOf t ≡ 1 → ⊥
@@ -126,39 +126,39 @@ after-other n k x y = rw (ne-eqb k 9 x, ne-eqb k 10 y)
 
 -- stages 16 and 17 over the place where the reading stops and the number of nodes
 abbrev pub sized : ℕ → Option ℕ → ℕ → Answer
-sized room o n = answered (firstOf (refusedAt 16 0 o ∷ refusedAt 17 0 (tooMany room n) ∷ [])) n
+sized room o n = answerAfter (firstOf (refusedAt 16 0 o ∷ refusedAt 17 0 (tooMany room n) ∷ [])) n
 
 pub sized-stop : (room n place : ℕ) (o : Option ℕ) (r : Refusal) → o ≡ some place → r ≡ refusal 16 0 place → Refused r ≡ sized room o n
-unfolding refusedAt firstOf answered
+unfolding refusedAt firstOf answerAfter
 sized-stop room n place o r e q = rw (e, q)
 
 pub sized-over : (room n m : ℕ) (o : Option ℕ) (r : Refusal) → o ≡ none → m ≡ n → min 512 room < m → r ≡ refusal 17 0 m → Refused r ≡ sized room o n
-unfolding refusedAt firstOf answered tooMany
+unfolding refusedAt firstOf answerAfter tooMany
 sized-over room n m o r e q l f = rw (e, f, ← q, lt-ltb (min 512 room) m l)
 
 pub sized-nodes : (room n m : ℕ) (o : Option ℕ) → o ≡ none → m ≡ n → m ≤ min 512 room → Nodes m ≡ sized room o n
-unfolding refusedAt firstOf answered tooMany
+unfolding refusedAt firstOf answerAfter tooMany
 sized-nodes room n m o e q l = rw (e, ← q, le-ltb (min 512 room) m l)
 
 -- ---- the answer
 
 module _ (names : List (List ℕ)) (text : List ℕ) (room : ℕ) where
   pub first-refuses : (r : Refusal) → Failed r ≡ refusedAt 14 0 (badPlace (tokens names text)) → Refused r ≡ answerTo names text room
-  unfolding answerTo tested answered firstOf
+  unfolding answerTo tested answerAfter firstOf
   first-refuses r e = rw (← e)
 
   pub second-refuses : (r : Refusal) → Passed ≡ refusedAt 14 0 (badPlace (tokens names text)) → Failed r ≡ refusedAt 15 0 (deepPlace 0 (tokens names text)) → Refused r ≡ answerTo names text room
-  unfolding answerTo tested answered firstOf
+  unfolding answerTo tested answerAfter firstOf
   second-refuses r e f = rw (← e, ← f)
 
   pub rest-answers : Passed ≡ refusedAt 14 0 (badPlace (tokens names text)) → Passed ≡ refusedAt 15 0 (deepPlace 0 (tokens names text))
       → sized room (stopPlace (outcome names text)) (treeSize (textTree names text)) ≡ answerTo names text room
-  unfolding answerTo tested answered firstOf
+  unfolding answerTo tested answerAfter firstOf
   rest-answers e f = rw (← e, ← f)
 
-nodes-only : (o₁ o₂ o₃ o₄ : Option ℕ) (m n : ℕ) → Nodes n ≡ answered (firstOf (refusedAt 14 0 o₁ ∷ refusedAt 15 0 o₂ ∷ refusedAt 16 0 o₃ ∷ refusedAt 17 0 o₄ ∷ [])) m
+nodes-only : (o₁ o₂ o₃ o₄ : Option ℕ) (m n : ℕ) → Nodes n ≡ answerAfter (firstOf (refusedAt 14 0 o₁ ∷ refusedAt 15 0 o₂ ∷ refusedAt 16 0 o₃ ∷ refusedAt 17 0 o₄ ∷ [])) m
     → (o₂ ≡ none) × (o₃ ≡ none) × (o₄ ≡ none) × (m ≡ n)
-unfolding refusedAt firstOf answered
+unfolding refusedAt firstOf answerAfter
 nodes-only none none none none m n e = (refl, refl, refl, sym (cc))
 nodes-only (some x) o₂ o₃ o₄ m n e = absurd (let z : _≡_ {A = ℕ} 0 1 = cc in omega arith)
 nodes-only none (some x) o₃ o₄ m n e = absurd (let z : _≡_ {A = ℕ} 0 1 = cc in omega arith)
@@ -182,7 +182,7 @@ count-parts names text room n e = nodes-only (badPlace (tokens names text)) (dee
 -- where a count is the answer
 pub count-answers : (names : List (List ℕ)) (text : List ℕ) (room n : ℕ) (p : Policy) → badPlace (tokens names text) ≡ none → deepPlace 0 (tokens names text) ≡ none → outcome names text ≡ tree p → treeSize p ≡ n → n ≤ min 512 room
     → answerTo names text room ≡ Nodes n
-unfolding answerTo tested answered firstOf refusedAt textTree stopPlace treeRead tooMany
+unfolding answerTo tested answerAfter firstOf refusedAt textTree stopPlace treeRead tooMany
 count-answers names text room n p a b c d l = rw (a, b, c, d, le-ltb (min 512 room) n l)
 
 module _ (text : List ℕ) (room n : ℕ) (e : Nodes n ≡ answerTo fieldNames text room) where

@@ -15,7 +15,7 @@ use Rattle.grammar.specs.Bytes.{isBlank, isLetter, isDigit, inWord}
 use Rattle.grammar.specs.Tokens.{sameWord, allDigits, decimal, leadingZero, isNumber, numberToken, fieldToken, fieldNamed, wordToken, singleMark, doubleMark, beginsDouble, markToken, wordOf, frontToken, isBad, restOfToken, placedFrom, tokensFrom, tokens, fieldNames}
 use Rattle.grammar.specs.Grammar.{constantPolicy, fieldAction}
 use Rattle.grammar.specs.Reading.{Outcome, tree, nothing, joinSequence, joinSum, upTo, whole, start, close, step, finish, readOn}
-use Rattle.grammar.specs.Answer.{badPlace, openAfter, deepPlace, stopPlace, treeRead, tooMany, answered, outcome, textTree, tested, answerTo}
+use Rattle.grammar.specs.Answer.{badPlace, openAfter, deepPlace, stopPlace, treeRead, tooMany, answerAfter, outcome, textTree, tested, answerTo}
 
 -- a text's reading and answer, which compute where these two are opened
 unfoldable pub readingOf : List ℕ → Outcome
@@ -23,7 +23,7 @@ unfolding outcome tokens tokensFrom placedFrom restOfToken isBad frontToken word
 readingOf text = outcome fieldNames text
 
 unfoldable pub answerOf : List ℕ → ℕ → Answer
-unfolding readingOf badPlace openAfter deepPlace stopPlace treeRead tooMany answered textTree tested answerTo refusedAt firstOf treeSize
+unfolding readingOf badPlace openAfter deepPlace stopPlace treeRead tooMany answerAfter textTree tested answerTo refusedAt firstOf treeSize
 answerOf text room = answerTo fieldNames text room
 
 -- f0=0;dup

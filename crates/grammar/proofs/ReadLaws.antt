@@ -7,7 +7,7 @@ use mathlib.Core.Path.{_≡_, refl, sym, _∙_, ap}
 use Rattle.policy.specs.Tree.{Policy, sum, seq, star}
 use Rattle.policy.specs.Tree
 use Rattle.grammar.specs.Tokens.{Token, Placed, Constant, Comparison, dropped, passed, recorded, equals, differs, assigned, constant, field, number, comparison, plus, semicolon, asterisk, opening, closing, bad}
-use Rattle.grammar.specs.InnerKinds.{kindOf, valueOf, constantKind, comparisonKind, frontKind, frontValue, frontPlace, afterFront}
+use Rattle.grammar.specs.InnerKinds.{kindOf, tokenValue, constantKind, comparisonKind, frontKind, frontValue, frontPlace, afterFront}
 use Rattle.grammar.specs.Grammar.{constantPolicy, fieldAction}
 use Rattle.grammar.specs.Reading.{Before, nothing, joinSequence, joinSum, upTo, whole, State, wants, named, compared, has, close, step, tree, stop, finish, readOn}
 
@@ -49,8 +49,8 @@ comparison-of equals = refl
 comparison-of differs = refl
 comparison-of assigned = refl
 
-token-of : (t : Token) → tokenOf (kindOf t) (valueOf t) ≡ t
-unfolding kindOf valueOf
+token-of : (t : Token) → tokenOf (kindOf t) (tokenValue t) ≡ t
+unfolding kindOf tokenValue
 token-of bad = refl
 token-of (constant c) = ap constant (constant-of c)
 token-of (field f) = refl
@@ -62,8 +62,8 @@ token-of asterisk = refl
 token-of opening = refl
 token-of closing = refl
 
-constant-token : (t : Token) → kindOf t ≡ 2 → (c : Constant) × (valueOf t ≡ constantKind c) × (constantOf (valueOf t) ≡ c)
-unfolding kindOf valueOf
+constant-token : (t : Token) → kindOf t ≡ 2 → (c : Constant) × (tokenValue t ≡ constantKind c) × (constantOf (tokenValue t) ≡ c)
+unfolding kindOf tokenValue
 constant-token bad e = absurd (omega arith)
 constant-token (constant c) e = (c, refl, constant-of c)
 constant-token (field f) e = absurd (omega arith)
@@ -75,8 +75,8 @@ constant-token asterisk e = absurd (omega arith)
 constant-token opening e = absurd (omega arith)
 constant-token closing e = absurd (omega arith)
 
-comparison-token : (t : Token) → kindOf t ≡ 5 → (c : Comparison) × (valueOf t ≡ comparisonKind c) × (comparisonOf (valueOf t) ≡ c)
-unfolding kindOf valueOf
+comparison-token : (t : Token) → kindOf t ≡ 5 → (c : Comparison) × (tokenValue t ≡ comparisonKind c) × (comparisonOf (tokenValue t) ≡ c)
+unfolding kindOf tokenValue
 comparison-token bad e = absurd (omega arith)
 comparison-token (constant c) e = absurd (omega arith)
 comparison-token (field f) e = absurd (omega arith)
@@ -117,7 +117,7 @@ module _ (end : ℕ) where
   unfolding frontKind frontValue frontPlace afterFront
   front-at k [] e h = absurd (h (sym e))
   front-at k (t ∷ ts) e h =
-      ap (λ (x : Token). record { token = x; start = t .start } ∷ ts) (sym (ap (λ (n : ℕ). tokenOf n (valueOf (t .token))) (sym e) ∙ token-of (t .token)))
+      ap (λ (x : Token). record { token = x; start = t .start } ∷ ts) (sym (ap (λ (n : ℕ). tokenOf n (tokenValue (t .token))) (sym e) ∙ token-of (t .token)))
 
   stops : (s : State) (t : Placed) (ts : List Placed) → step s (t .token) ≡ none → readOn end s (t ∷ ts) ≡ stop (t .start)
   unfolding readOn

@@ -56,9 +56,9 @@ treeRead (stop place) = Tree.drop
 unfoldable pub tooMany : ℕ → ℕ → Option ℕ
 tooMany room n = cond (ltb (min 512 room) n) (some n) none
 
-unfoldable pub answered : Tested → ℕ → Answer
-answered Passed n = Nodes n
-answered (Failed r) n = Refused r
+unfoldable pub answerAfter : Tested → ℕ → Answer
+answerAfter Passed n = Nodes n
+answerAfter (Failed r) n = Refused r
 
 module _ (names : List (List ℕ)) (text : List ℕ) where
   -- the reading of the whole text
@@ -81,7 +81,7 @@ module _ (names : List (List ℕ)) (text : List ℕ) where
 
   -- the answer, where the shortest lent list has so many entries
   unfoldable pub answerTo : ℕ → Answer
-  answerTo room = answered (tested room) (treeSize textTree)
+  answerTo room = answerAfter (tested room) (treeSize textTree)
 
 -- a lent list after an answer: the nodes' entries on a count, as found on a refusal
 unfoldable pub leftBy : Answer → List ℕ → List ℕ → List ℕ

@@ -31,17 +31,17 @@ comparisonKind equals = 2
 comparisonKind differs = 3
 comparisonKind assigned = 4
 
-unfoldable pub valueOf : Token → ℕ
-valueOf bad = 0
-valueOf (constant c) = constantKind c
-valueOf (field f) = f
-valueOf (number n) = n
-valueOf (comparison c) = comparisonKind c
-valueOf plus = 0
-valueOf semicolon = 0
-valueOf asterisk = 0
-valueOf opening = 0
-valueOf closing = 0
+unfoldable pub tokenValue : Token → ℕ
+tokenValue bad = 0
+tokenValue (constant c) = constantKind c
+tokenValue (field f) = f
+tokenValue (number n) = n
+tokenValue (comparison c) = comparisonKind c
+tokenValue plus = 0
+tokenValue semicolon = 0
+tokenValue asterisk = 0
+tokenValue opening = 0
+tokenValue closing = 0
 
 -- the class of a byte: 0 starts no token, 1 blank, 2 letter, 3 digit, 4 begins a mark of two bytes, else the mark that it is
 unfoldable pub classOf : ℕ → ℕ
@@ -63,7 +63,7 @@ frontKind (t ∷ ts) = kindOf (t .token)
 
 unfoldable pub frontValue : List Placed → ℕ
 frontValue [] = 0
-frontValue (t ∷ ts) = valueOf (t .token)
+frontValue (t ∷ ts) = tokenValue (t .token)
 
 unfoldable pub frontPlace : ℕ → List Placed → ℕ
 frontPlace end [] = end

@@ -18,11 +18,11 @@ use Rattle.system.proofs.Listing.{append-kept, append-new}
 use Rattle.index.specs.declared.Row.{Row}
 use Rattle.index.specs.declared.Appended.{Appended}
 use Rattle.index.specs.declared.Appended.the-variants.{Rows, Full}
-use Rattle.index.specs.Columns.{policyCount, rowAt, sameStates, sameRow, allZero, listedBelow}
+use Rattle.index.specs.Columns.{policyCount, rowAt, masksAgree, rowsAgree, allZero, listedBelow}
 use Rattle.index.specs.Index.{Indexed, treesWith}
-use Rattle.index.specs.Appending.{isNew, Lists, answerOf, rowsAfter, isAdded, Appending}
+use Rattle.index.specs.Appending.{isNew, Lists, appendAnswer, rowsAfter, isAdded, Appending}
 use Rattle.index.specs.Entries.{Masks, rowOf, entriesOf, entries}
-use Rattle.index.proofs.Adding.{put-below, put-here, changed-true, changed-false}
+use Rattle.index.proofs.Adding.{put-below, put-here, newIf-true, newIf-false}
 
 pub listed-snoc : (S : System) (es : List (Entry S)) (e : Entry S) (r : system.Row S) → listed S (es ++ (e ∷ [])) r ≡ (listed S es r || order.sameRow S (e .row) r)
 unfolding listed
@@ -36,8 +36,8 @@ not-injective false true e = sym e
 not-injective false false e = refl
 
 module _ (S : System) (M : Masks S) where
-  same-rows : (a b : Row) → order.sameRow S (rowOf S M a) (rowOf S M b) ≡ sameRow a b
-  unfolding order.sameRow sameRow
+  same-rows : (a b : Row) → order.sameRow S (rowOf S M a) (rowOf S M b) ≡ rowsAgree a b
+  unfolding order.sameRow rowsAgree
   same-rows a b = ap (λ t. eqb (a .packet) (b .packet) && t) (M .same-states (a .states) (b .states))
 
   module _ (f : ℕ → Row) (q : ℕ → ℕ) where
@@ -101,14 +101,14 @@ pub data Outcome (x : Lists) (n : ℕ) (r : Row) (answer : Appended) : Type 0 wh
   known : isNew (rowAt (x .packets) (x .left) (x .right)) n r ≡ false → isAdded x n r ≡ false → answer ≡ Rows n → Outcome x n r answer
 
 pub outcome : {x y : Lists} {count n : ℕ} {r : Row} {parent : ℕ} {answer : Appended} → Appending x y count n r parent answer → Outcome x n r answer
-unfolding isAdded answerOf
+unfolding isAdded appendAnswer
 outcome {x} {n = n} {r = r} {answer = answer} A = go (isNew (rowAt (x .packets) (x .left) (x .right)) n r) (ltb n (length (x .packets))) refl refl
   where
     go : (new room : Bool) → isNew (rowAt (x .packets) (x .left) (x .right)) n r ≡ new → ltb n (length (x .packets)) ≡ room → Outcome x n r answer
-    go true true e l = added e (ltb-true n (length (x .packets)) l) (ap₂ _&&_ e l) (A .answers ∙ ap₂ (λ s t. answerOf s t n) e l)
-    go true false e l = full e (ltb-false n (length (x .packets)) l) (ap₂ _&&_ e l) (A .answers ∙ ap₂ (λ s t. answerOf s t n) e l)
-    go false true e l = known e (ap₂ _&&_ e l) (A .answers ∙ ap₂ (λ s t. answerOf s t n) e l)
-    go false false e l = known e (ap₂ _&&_ e l) (A .answers ∙ ap₂ (λ s t. answerOf s t n) e l)
+    go true true e l = added e (ltb-true n (length (x .packets)) l) (ap₂ _&&_ e l) (A .answers ∙ ap₂ (λ s t. appendAnswer s t n) e l)
+    go true false e l = full e (ltb-false n (length (x .packets)) l) (ap₂ _&&_ e l) (A .answers ∙ ap₂ (λ s t. appendAnswer s t n) e l)
+    go false true e l = known e (ap₂ _&&_ e l) (A .answers ∙ ap₂ (λ s t. appendAnswer s t n) e l)
+    go false false e l = known e (ap₂ _&&_ e l) (A .answers ∙ ap₂ (λ s t. appendAnswer s t n) e l)
 
 -- the lists with row r appended
 unfoldable pub grown : Lists → ℕ → ℕ → Row → ℕ → Lists
@@ -126,21 +126,21 @@ module _ {x y : Lists} {count n : ℕ} {r : Row} {parent : ℕ} {answer : Append
   unfolding grown
   grows e = λ k.
       record {
-        packets = (A .packets ∙ changed-true _ _ _ e) k;
-        left = (A .left ∙ changed-true _ _ _ e) k;
-        right = (A .right ∙ changed-true _ _ _ e) k;
-        parents = (A .parents ∙ changed-true _ _ _ e) k;
-        trees = (A .trees ∙ changed-true _ _ _ e) k;
+        packets = (A .packets ∙ newIf-true _ _ _ e) k;
+        left = (A .left ∙ newIf-true _ _ _ e) k;
+        right = (A .right ∙ newIf-true _ _ _ e) k;
+        parents = (A .parents ∙ newIf-true _ _ _ e) k;
+        trees = (A .trees ∙ newIf-true _ _ _ e) k;
       }
 
   pub stays : isAdded x n r ≡ false → y ≡ x
   stays e = λ k.
       record {
-        packets = (A .packets ∙ changed-false _ _ _ e) k;
-        left = (A .left ∙ changed-false _ _ _ e) k;
-        right = (A .right ∙ changed-false _ _ _ e) k;
-        parents = (A .parents ∙ changed-false _ _ _ e) k;
-        trees = (A .trees ∙ changed-false _ _ _ e) k;
+        packets = (A .packets ∙ newIf-false _ _ _ e) k;
+        left = (A .left ∙ newIf-false _ _ _ e) k;
+        right = (A .right ∙ newIf-false _ _ _ e) k;
+        parents = (A .parents ∙ newIf-false _ _ _ e) k;
+        trees = (A .trees ∙ newIf-false _ _ _ e) k;
       }
 
   full-is-no-count : {B : Type 0} (m : ℕ) → answer ≡ Full → answer ≡ Rows m → B
@@ -195,10 +195,10 @@ module _ (S : System) (M : Masks S) where
 
 module _ (S : System) (M : Masks S) (lawful : Lawful S) where
   -- rows that compare as the same stand for one row of the system
-  row-same : (a b : Row) → sameRow a b ≡ true → rowOf S M a ≡ rowOf S M b
-  unfolding sameRow
+  row-same : (a b : Row) → rowsAgree a b ≡ true → rowOf S M a ≡ rowOf S M b
+  unfolding rowsAgree
   row-same a b e =
-      let both = and-true (eqb (a .packet) (b .packet)) (sameStates policyCount (a .states) (b .states)) e in
+      let both = and-true (eqb (a .packet) (b .packet)) (masksAgree policyCount (a .states) (b .states)) e in
       let packets : a .packet ≡ b .packet = eqb-true (a .packet) (b .packet) (both .0) in
       let states : M .state (a .states) ≡ M .state (b .states) = lawful .same-eq _ _ (M .same-states (a .states) (b .states) ∙ both .1) in
       λ k. record { packet = packets k; state = states k }

@@ -13,8 +13,8 @@ use borrow.Author.Tests.{lt-ltb}
 use Rattle.index.specs.declared.Row.{Row}
 use Rattle.index.specs.declared.Lookup.{Lookup}
 use Rattle.index.specs.declared.Lookup.the-variants.{Listed, Vacant}
-use Rattle.index.specs.Columns.{EvenColumns, rowAt, sameRow, listedBelow}
-use Rattle.index.specs.Index.{bucketOf, sizeOf, lookFrom, slotOf, Rising, Indexed, Indexable, treesWith, VacantAt, Placed}
+use Rattle.index.specs.Columns.{EvenColumns, rowAt, rowsAgree, listedBelow}
+use Rattle.index.specs.Index.{bucketOf, bucketCount, lookFrom, slotOf, Rising, Indexed, Indexable, treesWith, VacantAt, LookEnds}
 use Rattle.index.proofs.States.{same-refl, same-left}
 use Rattle.index.proofs.Hashing.{same-bucket, bucket-below}
 use Rattle.index.proofs.Trees.{scan-miss, scan-hit, scan-agree, scan-repeat, look-same, Reached, reached-root, rising-more, found-other, found-here}
@@ -48,9 +48,9 @@ attach-ready I l W = (omega (arith, W .inside, I .room), omega (arith, I .number
 
 -- row n is attached: the columns are as they were below n and hold the row r at n
 module _ {P L R trees : List ℕ} {count n : ℕ} (I : Indexed P L R count n trees) (P′ L′ R′ : List ℕ) (r : Row)
-    (table : EvenColumns P′ L′ R′) (long : length P′ ≡ length P) (below : (i : ℕ) → i < n → rowAt P L R i ≡ rowAt P′ L′ R′ i) (here : sameRow (rowAt P′ L′ R′ n) r ≡ true)
-    (small : r .packet < count) (room : n < length P) (place : n < sizeOf trees) (slot : ℕ) (W : VacantAt (rowAt P L R) count n trees r slot) where
-  same-size : sizeOf (set trees slot (suc n)) ≡ sizeOf trees
+    (table : EvenColumns P′ L′ R′) (long : length P′ ≡ length P) (below : (i : ℕ) → i < n → rowAt P L R i ≡ rowAt P′ L′ R′ i) (here : rowsAgree (rowAt P′ L′ R′ n) r ≡ true)
+    (small : r .packet < count) (room : n < length P) (place : n < bucketCount trees) (slot : ℕ) (W : VacantAt (rowAt P L R) count n trees r slot) where
+  same-size : bucketCount (set trees slot (suc n)) ≡ bucketCount trees
   same-size = ap (λ m. m / 3) (length-set trees slot (suc n))
 
   attach-room : slot < length trees
@@ -58,30 +58,30 @@ module _ {P L R trees : List ℕ} {count n : ℕ} (I : Indexed P L R count n tre
 
   attach-finds : (q : Row) → q .packet < count
       → listedBelow (rowAt P′ L′ R′) (suc n) q
-      ≡ ltb 0 (getD (set trees slot (suc n)) (lookFrom (rowAt P′ L′ R′) (sizeOf trees) (set trees slot (suc n)) q (sizeOf trees) 0 (bucketOf (sizeOf trees) count q)) 0)
+      ≡ ltb 0 (getD (set trees slot (suc n)) (lookFrom (rowAt P′ L′ R′) (bucketCount trees) (set trees slot (suc n)) q (bucketCount trees) 0 (bucketOf (bucketCount trees) count q)) 0)
   unfolding slotOf
-  attach-finds q l = go (sameRow (rowAt P′ L′ R′ n) q) refl
+  attach-finds q l = go (rowsAgree (rowAt P′ L′ R′ n) q) refl
     where
-      root : Reached (sizeOf trees) n trees 0 (bucketOf (sizeOf trees) count q)
-      root = reached-root (sizeOf trees) n trees (bucketOf (sizeOf trees) count q) (bucket-below (sizeOf trees) count q l (I .buckets))
+      root : Reached (bucketCount trees) n trees 0 (bucketOf (bucketCount trees) count q)
+      root = reached-root (bucketCount trees) n trees (bucketOf (bucketCount trees) count q) (bucket-below (bucketCount trees) count q l (I .buckets))
 
-      go : (t : Bool) → sameRow (rowAt P′ L′ R′ n) q ≡ t
+      go : (t : Bool) → rowsAgree (rowAt P′ L′ R′ n) q ≡ t
           → listedBelow (rowAt P′ L′ R′) (suc n) q
-          ≡ ltb 0 (getD (set trees slot (suc n)) (lookFrom (rowAt P′ L′ R′) (sizeOf trees) (set trees slot (suc n)) q (sizeOf trees) 0 (bucketOf (sizeOf trees) count q)) 0)
+          ≡ ltb 0 (getD (set trees slot (suc n)) (lookFrom (rowAt P′ L′ R′) (bucketCount trees) (set trees slot (suc n)) q (bucketCount trees) 0 (bucketOf (bucketCount trees) count q)) 0)
       go true s =
-          let same : sameRow r q ≡ true = sym (same-left (rowAt P′ L′ R′ n) r here q) ∙ s in
-          let was : lookFrom (rowAt P L R) (sizeOf trees) trees q (sizeOf trees) 0 (bucketOf (sizeOf trees) count q) ≡ slot =
-          sym (ap (lookFrom (rowAt P L R) (sizeOf trees) trees r (sizeOf trees) 0) (same-bucket (sizeOf trees) count r q same) ∙ look-same (rowAt P L R) (sizeOf trees) trees r q same (sizeOf trees) 0 _) ∙ sym (W .reached) in
+          let same : rowsAgree r q ≡ true = sym (same-left (rowAt P′ L′ R′ n) r here q) ∙ s in
+          let was : lookFrom (rowAt P L R) (bucketCount trees) trees q (bucketCount trees) 0 (bucketOf (bucketCount trees) count q) ≡ slot =
+          sym (ap (lookFrom (rowAt P L R) (bucketCount trees) trees r (bucketCount trees) 0) (same-bucket (bucketCount trees) count r q same) ∙ look-same (rowAt P L R) (bucketCount trees) trees r q same (bucketCount trees) 0 _) ∙ sym (W .reached) in
           scan-hit (rowAt P′ L′ R′) q n s
           ∙ sym
-          (ap (λ x. ltb 0 (getD (set trees slot (suc n)) x 0)) (found-here (I .rising) (rowAt P L R) (rowAt P′ L′ R′) slot (W .inside) attach-room (W .vacant) below q s (sizeOf trees) 0 _ root was)
+          (ap (λ x. ltb 0 (getD (set trees slot (suc n)) x 0)) (found-here (I .rising) (rowAt P L R) (rowAt P′ L′ R′) slot (W .inside) attach-room (W .vacant) below q s (bucketCount trees) 0 _ root was)
           ∙ ap (ltb 0) (getD-set-same trees slot (suc n) 0 attach-room)
           ∙ lt-ltb 0 (suc n) (omega arith))
       go false s =
           scan-miss (rowAt P′ L′ R′) q n s
           ∙ sym (scan-agree (rowAt P L R) (rowAt P′ L′ R′) q n below)
           ∙ I .finds q l
-          ∙ sym (found-other (I .rising) (rowAt P L R) (rowAt P′ L′ R′) slot (W .inside) attach-room (W .vacant) below q s (sizeOf trees) 0 _ root (omega (arith, place)))
+          ∙ sym (found-other (I .rising) (rowAt P L R) (rowAt P′ L′ R′) slot (W .inside) attach-room (W .vacant) below q s (bucketCount trees) 0 _ root (omega (arith, place)))
 
   pub indexed-more : Indexed P′ L′ R′ count (suc n) (set trees slot (suc n))
   unfolding slotOf
@@ -113,11 +113,11 @@ pub to-place : {P L R trees₀ trees : List ℕ} {count n i : ℕ} → Indexable
 to-place {count = count} {i = i} A I l r isRow = subst (λ x. x .packet < count) (sym isRow) (A .small i l)
 
 module _ {P L R trees₀ trees : List ℕ} {count n i : ℕ} (A : Indexable P count n trees₀) (T : IndexedTo P L R count n i trees₀ trees) (l : i < n) (r : Row) (isRow : r ≡ rowAt P L R i)
-    {answer : Lookup} (p : Placed (rowAt P L R) count i trees r answer) where
+    {answer : Lookup} (p : LookEnds (rowAt P L R) count i trees r answer) where
   within : i < length P
   within = omega (arith, A .within)
 
-  place : i < sizeOf trees
+  place : i < bucketCount trees
   place = subst (λ m. i < m / 3) (sym (T .long)) (omega (arith, A .room))
 
   -- the row is listed already
@@ -149,7 +149,7 @@ module _ {P L R trees₀ trees : List ℕ} {count n i : ℕ} (A : Indexable P co
           upTo = omega arith;
           indexed =
               rw (isTrees, add-one)
-              (indexed-more (T .indexed) P L R r (T .indexed .table) refl (λ j k. refl) (subst (λ x. sameRow x r ≡ true) isRow (same-refl r)) (to-place A (T .indexed) l r isRow) within place slot (p .vacant slot e));
+              (indexed-more (T .indexed) P L R r (T .indexed .table) refl (λ j k. refl) (subst (λ x. rowsAgree x r ≡ true) isRow (same-refl r)) (to-place A (T .indexed) l r isRow) within place slot (p .vacant slot e));
           long = ap length isTrees ∙ length-set trees slot (i + 1) ∙ T .long;
         }
 

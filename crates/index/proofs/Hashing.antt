@@ -11,7 +11,7 @@ use lib.ListN.{getD}
 use borrow.Author.Tests.{eqb-true}
 use Rattle.system.proofs.Basics.{and-true}
 use Rattle.index.specs.declared.Row.{Row}
-use Rattle.index.specs.Columns.{policyCount, sameStates, sameRow}
+use Rattle.index.specs.Columns.{policyCount, masksAgree, rowsAgree}
 use Rattle.index.specs.Index.{hashFactor, hashPrime, hashOf, bucketOf}
 
 pub hash-below : (k : ℕ) (a : List ℕ) → hashOf k a < hashPrime
@@ -30,17 +30,17 @@ hash-more a h s k e f = rw add-one (ap₂ (λ (x y : ℕ). (x + y) * hashFactor 
 pub hash-all : (a : List ℕ) (h k n : ℕ) → k ≤ n → n ≤ k → h ≡ hashOf k a → h ≡ hashOf n a
 hash-all a h k n l g e = e ∙ ap (λ m. hashOf m a) (le-antisymm l g)
 
-same-hash : (k : ℕ) (a b : List ℕ) → sameStates k a b ≡ true → hashOf k a ≡ hashOf k b
-unfolding hashOf sameStates
+same-hash : (k : ℕ) (a b : List ℕ) → masksAgree k a b ≡ true → hashOf k a ≡ hashOf k b
+unfolding hashOf masksAgree
 same-hash zero a b e = refl
 same-hash (suc k) a b e =
-    let both = and-true (sameStates k a b) (eqb (getD a k 0) (getD b k 0)) e in
+    let both = and-true (masksAgree k a b) (eqb (getD a k 0) (getD b k 0)) e in
     ap₂ (λ h s. (h + s) * hashFactor % hashPrime) (same-hash k a b (both .0)) (eqb-true _ _ (both .1))
 
-pub same-bucket : (size count : ℕ) (a b : Row) → sameRow a b ≡ true → bucketOf size count a ≡ bucketOf size count b
-unfolding bucketOf sameRow
+pub same-bucket : (size count : ℕ) (a b : Row) → rowsAgree a b ≡ true → bucketOf size count a ≡ bucketOf size count b
+unfolding bucketOf rowsAgree
 same-bucket size count a b e =
-    let both = and-true (eqb (a .packet) (b .packet)) (sameStates policyCount (a .states) (b .states)) e in
+    let both = and-true (eqb (a .packet) (b .packet)) (masksAgree policyCount (a .states) (b .states)) e in
     ap₂ (λ p h. p * (size / count) + h % (size / count)) (eqb-true _ _ (both .0)) (same-hash policyCount (a .states) (b .states) (both .1))
 
 module _ (size count : ℕ) (r : Row) (small : r .packet < count) (room : count ≤ size) where

@@ -10,19 +10,19 @@ use lib.ListN.{length, getD}
 use borrow.Author.Tests.{lt-ltb}
 use Rattle.index.specs.declared.Row.{Row}
 use Rattle.index.specs.declared.Lookup.the-variants.{Listed, Vacant}
-use Rattle.index.specs.Columns.{rowAt, sameRow}
-use Rattle.index.specs.Index.{bucketOf, sizeOf, childSlot, sideAt, lookFrom, slotOf, Indexed, ListedAt, VacantAt, Placed}
+use Rattle.index.specs.Columns.{rowAt, rowsAgree}
+use Rattle.index.specs.Index.{bucketOf, bucketCount, childSlot, sideAt, lookFrom, slotOf, Indexed, ListedAt, VacantAt, LookEnds}
 use Rattle.index.proofs.Trees.{ends-none, ends-row, ends-not, look-ends, look-on, side-below, Reached, reached-root, reached-child}
 
 module _ {f : ℕ → Row} {count n : ℕ} {trees : List ℕ} {r : Row} where
-  pub at-row : {i : ℕ} → ListedAt f n r i → Placed f count n trees r (Listed i)
+  pub at-row : {i : ℕ} → ListedAt f n r i → LookEnds f count n trees r (Listed i)
   at-row {i} a =
       record {
         listed = λ j e. let here : i ≡ j = cc in subst (ListedAt f n r) here a;
         vacant = λ s e. let z : _≡_ {A = ℕ} 0 1 = cc in absurd (omega arith);
       }
 
-  pub at-slot : {slot : ℕ} → VacantAt f count n trees r slot → Placed f count n trees r (Vacant slot)
+  pub at-slot : {slot : ℕ} → VacantAt f count n trees r slot → LookEnds f count n trees r (Vacant slot)
   at-slot {slot} a =
       record {
         listed = λ i e. let z : _≡_ {A = ℕ} 0 1 = cc in absurd (omega arith);
@@ -31,16 +31,16 @@ module _ {f : ℕ → Row} {count n : ℕ} {trees : List ℕ} {r : Row} where
 
 -- a look for the row r among the first n of the columns has come to a slot
 pub record Looking (P L R : List ℕ) (count n : ℕ) (trees : List ℕ) (r : Row) (slot depth : ℕ) : Type 0 where
-  pub reached : Reached (sizeOf trees) n trees depth slot
-  pub goes : slotOf (rowAt P L R) count trees r ≡ lookFrom (rowAt P L R) (sizeOf trees) trees r (sizeOf trees - depth) depth slot
+  pub reached : Reached (bucketCount trees) n trees depth slot
+  pub goes : slotOf (rowAt P L R) count trees r ≡ lookFrom (rowAt P L R) (bucketCount trees) trees r (bucketCount trees - depth) depth slot
 
 module _ {P L R trees : List ℕ} {count n : ℕ} (I : Indexed P L R count n trees) (r : Row) (small : r .packet < count) where
-  pub looking-start : (b : ℕ) → b ≡ bucketOf (sizeOf trees) count r → b < sizeOf trees → Looking P L R count n trees r b 0
+  pub looking-start : (b : ℕ) → b ≡ bucketOf (bucketCount trees) count r → b < bucketCount trees → Looking P L R count n trees r b 0
   unfolding slotOf
   looking-start b isBucket inside =
       record {
-        reached = reached-root (sizeOf trees) n trees b inside;
-        goes = let whole : sizeOf trees ≡ sizeOf trees - 0 = omega arith in ap₂ (λ k b. lookFrom (rowAt P L R) (sizeOf trees) trees r k 0 b) whole (sym isBucket);
+        reached = reached-root (bucketCount trees) n trees b inside;
+        goes = let whole : bucketCount trees ≡ bucketCount trees - 0 = omega arith in ap₂ (λ k b. lookFrom (rowAt P L R) (bucketCount trees) trees r k 0 b) whole (sym isBucket);
       }
 
   module _ {slot depth : ℕ} (w : Looking P L R count n trees r slot depth) where
@@ -51,7 +51,7 @@ module _ {P L R trees : List ℕ} {count n : ℕ} (I : Indexed P L R count n tre
       pub looking-vacant : entry ≡ 0 → VacantAt (rowAt P L R) count n trees r slot
       looking-vacant e =
           let vacant : getD trees slot 0 ≡ 0 = sym isEntry ∙ e in
-          let here : slotOf (rowAt P L R) count trees r ≡ slot = w .goes ∙ look-ends (rowAt P L R) (sizeOf trees) trees r _ depth slot (ends-none (rowAt P L R) r _ vacant) in
+          let here : slotOf (rowAt P L R) count trees r ≡ slot = w .goes ∙ look-ends (rowAt P L R) (bucketCount trees) trees r _ depth slot (ends-none (rowAt P L R) r _ vacant) in
           record {
             inside = w .reached .inside;
             reached = sym here;
@@ -81,12 +81,12 @@ module _ {P L R trees : List ℕ} {count n : ℕ} (I : Indexed P L R count n tre
         pub looking-deep : depth < n
         looking-deep = omega (arith, deeper, within)
 
-        module _ (x : Row) (same : Bool) (isRow : x ≡ rowAt P L R (entry - 1)) (isSame : same ≡ sameRow x r) where
-          told : (t : Bool) → same ≡ t → sameRow (rowAt P L R (entry - 1)) r ≡ t
-          told t e = ap (λ y. sameRow y r) (sym isRow) ∙ sym isSame ∙ e
+        module _ (x : Row) (same : Bool) (isRow : x ≡ rowAt P L R (entry - 1)) (isSame : same ≡ rowsAgree x r) where
+          told : (t : Bool) → same ≡ t → rowsAgree (rowAt P L R (entry - 1)) r ≡ t
+          told t e = ap (λ y. rowsAgree y r) (sym isRow) ∙ sym isSame ∙ e
 
-          told-at : (t : Bool) → same ≡ t → sameRow (rowAt P L R (getD trees slot 0 - 1)) r ≡ t
-          told-at t e = subst (λ m. sameRow (rowAt P L R (m - 1)) r ≡ t) isEntry (told t e)
+          told-at : (t : Bool) → same ≡ t → rowsAgree (rowAt P L R (getD trees slot 0 - 1)) r ≡ t
+          told-at t e = subst (λ m. rowsAgree (rowAt P L R (m - 1)) r ≡ t) isEntry (told t e)
 
           pub looking-listed : same ≡ true → ListedAt (rowAt P L R) n r (entry - 1)
           looking-listed e =
@@ -95,24 +95,24 @@ module _ {P L R trees : List ℕ} {count n : ℕ} (I : Indexed P L R count n tre
                 same = told true e;
                 listed =
                     I .finds r small
-                    ∙ ap (λ s. ltb 0 (getD trees s 0)) (w .goes ∙ look-ends (rowAt P L R) (sizeOf trees) trees r _ depth slot (ends-row (rowAt P L R) r _ (told-at true e)))
+                    ∙ ap (λ s. ltb 0 (getD trees s 0)) (w .goes ∙ look-ends (rowAt P L R) (bucketCount trees) trees r _ depth slot (ends-row (rowAt P L R) r _ (told-at true e)))
                     ∙ lt-ltb 0 _ (subst (λ m. 0 < m) isEntry positive);
               }
 
-          pub looking-more : same ≡ false → (side : ℕ) → side ≡ sideAt depth (r .states) → Looking P L R count n trees r (sizeOf trees + 2 * (entry - 1) + side) (depth + 1)
+          pub looking-more : same ≡ false → (side : ℕ) → side ≡ sideAt depth (r .states) → Looking P L R count n trees r (bucketCount trees + 2 * (entry - 1) + side) (depth + 1)
           looking-more e side isSide =
               record {
                 reached =
-                    subst (λ d. Reached (sizeOf trees) n trees d (childSlot (sizeOf trees) (entry - 1) side)) (sym (add-one depth))
+                    subst (λ d. Reached (bucketCount trees) n trees d (childSlot (bucketCount trees) (entry - 1) side)) (sym (add-one depth))
                     (reached-child (I .rising) (w .reached) entry side isEntry positive (subst (λ m. m < 2) (sym isSide) (side-below depth (r .states))));
-                goes = w .goes ∙ further (sizeOf trees - depth) (omega (arith, deeper, within, I .room));
+                goes = w .goes ∙ further (bucketCount trees - depth) (omega (arith, deeper, within, I .room));
               }
             where
-              further : (k : ℕ) → suc (sizeOf trees - (depth + 1)) ≡ k
-                  → lookFrom (rowAt P L R) (sizeOf trees) trees r k depth slot ≡ lookFrom (rowAt P L R) (sizeOf trees) trees r (sizeOf trees - (depth + 1)) (depth + 1) (childSlot (sizeOf trees) (entry - 1) side)
+              further : (k : ℕ) → suc (bucketCount trees - (depth + 1)) ≡ k
+                  → lookFrom (rowAt P L R) (bucketCount trees) trees r k depth slot ≡ lookFrom (rowAt P L R) (bucketCount trees) trees r (bucketCount trees - (depth + 1)) (depth + 1) (childSlot (bucketCount trees) (entry - 1) side)
               further k q =
-                  subst (λ m. lookFrom (rowAt P L R) (sizeOf trees) trees r m depth slot ≡ lookFrom (rowAt P L R) (sizeOf trees) trees r (sizeOf trees - (depth + 1)) (depth + 1) (childSlot (sizeOf trees) (entry - 1) side)) q
-                  (look-on (rowAt P L R) (sizeOf trees) trees r _ depth slot (ends-not (rowAt P L R) r _ (subst (λ m. 0 < m) isEntry positive) (told-at false e))
-                  ∙ ap (λ m. lookFrom (rowAt P L R) (sizeOf trees) trees r (sizeOf trees - (depth + 1)) (suc depth) (childSlot (sizeOf trees) (m - 1) (sideAt depth (r .states)))) (sym isEntry)
-                  ∙ ap (λ m. lookFrom (rowAt P L R) (sizeOf trees) trees r (sizeOf trees - (depth + 1)) (suc depth) (childSlot (sizeOf trees) (entry - 1) m)) (sym isSide)
-                  ∙ ap (λ d. lookFrom (rowAt P L R) (sizeOf trees) trees r (sizeOf trees - (depth + 1)) d (childSlot (sizeOf trees) (entry - 1) side)) (sym (add-one depth)))
+                  subst (λ m. lookFrom (rowAt P L R) (bucketCount trees) trees r m depth slot ≡ lookFrom (rowAt P L R) (bucketCount trees) trees r (bucketCount trees - (depth + 1)) (depth + 1) (childSlot (bucketCount trees) (entry - 1) side)) q
+                  (look-on (rowAt P L R) (bucketCount trees) trees r _ depth slot (ends-not (rowAt P L R) r _ (subst (λ m. 0 < m) isEntry positive) (told-at false e))
+                  ∙ ap (λ m. lookFrom (rowAt P L R) (bucketCount trees) trees r (bucketCount trees - (depth + 1)) (suc depth) (childSlot (bucketCount trees) (m - 1) (sideAt depth (r .states)))) (sym isEntry)
+                  ∙ ap (λ m. lookFrom (rowAt P L R) (bucketCount trees) trees r (bucketCount trees - (depth + 1)) (suc depth) (childSlot (bucketCount trees) (entry - 1) m)) (sym isSide)
+                  ∙ ap (λ d. lookFrom (rowAt P L R) (bucketCount trees) trees r (bucketCount trees - (depth + 1)) d (childSlot (bucketCount trees) (entry - 1) side)) (sym (add-one depth)))

@@ -11,7 +11,7 @@ use lib.Seq.{getD-set-same, getD-set-other}
 use borrow.Author.Tests.{eqb-true, eqb-false, ne-eqb}
 use Rattle.system.proofs.Basics.{clash}
 use Rattle.index.specs.declared.Row.{Row}
-use Rattle.index.specs.Columns.{policyCount, sameRow, listedBelow}
+use Rattle.index.specs.Columns.{policyCount, rowsAgree, listedBelow}
 use Rattle.index.specs.Index.{childSlot, sideAt, ends, lookFrom, Rising}
 use Rattle.index.proofs.States.{same-right, same-side}
 
@@ -21,13 +21,13 @@ pred-suc n = omega arith
 module _ (f : ℕ → Row) (r : Row) where
   pub ends-none : (entry : ℕ) → entry ≡ 0 → ends f entry r ≡ true
   unfolding ends
-  ends-none entry e = ap (λ v. eqb v 0 || sameRow (f (v - 1)) r) e
+  ends-none entry e = ap (λ v. eqb v 0 || rowsAgree (f (v - 1)) r) e
 
-  pub ends-row : (entry : ℕ) → sameRow (f (entry - 1)) r ≡ true → ends f entry r ≡ true
+  pub ends-row : (entry : ℕ) → rowsAgree (f (entry - 1)) r ≡ true → ends f entry r ≡ true
   unfolding ends
   ends-row entry s = ap (λ t. eqb entry 0 || t) s ∙ or-true (eqb entry 0)
 
-  pub ends-not : (entry : ℕ) → 0 < entry → sameRow (f (entry - 1)) r ≡ false → ends f entry r ≡ false
+  pub ends-not : (entry : ℕ) → 0 < entry → rowsAgree (f (entry - 1)) r ≡ false → ends f entry r ≡ false
   unfolding ends
   ends-not entry l s = ap₂ _||_ (ne-eqb entry 0 (λ e. omega arith)) s
 
@@ -37,29 +37,29 @@ module _ (f : ℕ → Row) (r : Row) where
   met zero e = clash refl e
   met (suc i) e = omega arith
 
-pub scan-miss : (f : ℕ → Row) (r : Row) (n : ℕ) → sameRow (f n) r ≡ false → listedBelow f (suc n) r ≡ listedBelow f n r
+pub scan-miss : (f : ℕ → Row) (r : Row) (n : ℕ) → rowsAgree (f n) r ≡ false → listedBelow f (suc n) r ≡ listedBelow f n r
 unfolding listedBelow
 scan-miss f r n s = ap (λ t. listedBelow f n r || t) s ∙ or-false (listedBelow f n r)
 
-pub scan-hit : (f : ℕ → Row) (r : Row) (n : ℕ) → sameRow (f n) r ≡ true → listedBelow f (suc n) r ≡ true
+pub scan-hit : (f : ℕ → Row) (r : Row) (n : ℕ) → rowsAgree (f n) r ≡ true → listedBelow f (suc n) r ≡ true
 unfolding listedBelow
 scan-hit f r n s = ap (λ t. listedBelow f n r || t) s ∙ or-true (listedBelow f n r)
 
 pub scan-agree : (f g : ℕ → Row) (r : Row) (n : ℕ) → ((i : ℕ) → i < n → f i ≡ g i) → listedBelow f n r ≡ listedBelow g n r
 unfolding listedBelow
 scan-agree f g r zero same = refl
-scan-agree f g r (suc n) same = ap₂ _||_ (scan-agree f g r n (λ i l. same i (omega arith))) (ap (λ x. sameRow x r) (same n (omega arith)))
+scan-agree f g r (suc n) same = ap₂ _||_ (scan-agree f g r n (λ i l. same i (omega arith))) (ap (λ x. rowsAgree x r) (same n (omega arith)))
 
-scan-same : (f : ℕ → Row) (a b : Row) → sameRow a b ≡ true → (n : ℕ) → listedBelow f n a ≡ listedBelow f n b
+scan-same : (f : ℕ → Row) (a b : Row) → rowsAgree a b ≡ true → (n : ℕ) → listedBelow f n a ≡ listedBelow f n b
 unfolding listedBelow
 scan-same f a b s zero = refl
 scan-same f a b s (suc n) = ap₂ _||_ (scan-same f a b s n) (same-right a b s (f n))
 
 -- a row that is listed already adds nothing to the scan
 pub scan-repeat : (f : ℕ → Row) (n : ℕ) → listedBelow f n (f n) ≡ true → (r : Row) → listedBelow f (suc n) r ≡ listedBelow f n r
-scan-repeat f n e r = go (sameRow (f n) r) refl
+scan-repeat f n e r = go (rowsAgree (f n) r) refl
   where
-    go : (t : Bool) → sameRow (f n) r ≡ t → listedBelow f (suc n) r ≡ listedBelow f n r
+    go : (t : Bool) → rowsAgree (f n) r ≡ t → listedBelow f (suc n) r ≡ listedBelow f n r
     go true s = scan-hit f r n s ∙ sym e ∙ scan-same f (f n) r s n
     go false s = scan-miss f r n s
 
@@ -78,7 +78,7 @@ module _ (f : ℕ → Row) (size : ℕ) (trees : List ℕ) where
   look-on r k depth slot e = ap (λ b. cond b slot (lookFrom f size trees r k (suc depth) (nextSlot r depth slot))) e
 
   -- looks for rows that are the same end at one slot
-  pub look-same : (a b : Row) → sameRow a b ≡ true → (k depth slot : ℕ) → lookFrom f size trees a k depth slot ≡ lookFrom f size trees b k depth slot
+  pub look-same : (a b : Row) → rowsAgree a b ≡ true → (k depth slot : ℕ) → lookFrom f size trees a k depth slot ≡ lookFrom f size trees b k depth slot
   unfolding lookFrom ends
   look-same a b s zero depth slot = refl
   look-same a b s (suc k) depth slot =
@@ -152,7 +152,7 @@ module _ {size n : ℕ} {trees : List ℕ} (G : Rising size n trees) where
     ends-agree : (r : Row) (entry : ℕ) → entry ≤ n → ends f entry r ≡ ends g entry r
     unfolding ends
     ends-agree r zero l = refl
-    ends-agree r (suc i) l = ap (λ x. eqb (suc i) 0 || sameRow x r) (below (suc i - 1) (omega arith))
+    ends-agree r (suc i) l = ap (λ x. eqb (suc i) 0 || rowsAgree x r) (below (suc i - 1) (omega arith))
 
     -- at any other slot the look goes on as before
     ends-other : (r : Row) (slot : ℕ) (t : Bool) → (slot ≡ v → ⊥) → ends f (getD trees slot 0) r ≡ t → ends g (getD attached slot 0) r ≡ t
@@ -166,7 +166,7 @@ module _ {size n : ℕ} {trees : List ℕ} (G : Rising size n trees) where
     reached-next r {depth} a s = reached-child a _ (sideAt depth (r .states)) refl (met f r _ s) (side-below depth (r .states))
 
     -- another row is found exactly when it was
-    pub found-other : (r : Row) → sameRow (g n) r ≡ false → (k depth slot : ℕ) → Reached size n trees depth slot → n < depth + k
+    pub found-other : (r : Row) → rowsAgree (g n) r ≡ false → (k depth slot : ℕ) → Reached size n trees depth slot → n < depth + k
         → ltb 0 (getD attached (lookFrom g size attached r k depth slot) 0) ≡ ltb 0 (getD trees (lookFrom f size trees r k depth slot) 0)
     found-other r other zero depth slot a l = absurd (omega (arith, a .deep))
     found-other r other (suc k) depth slot a l = go (λ s b. found-other r other k (suc depth) s b (omega arith)) (eqb slot v) refl
@@ -188,7 +188,7 @@ module _ {size n : ℕ} {trees : List ℕ} (G : Rising size n trees) where
         past : ltb 0 (getD attached (lookFrom g size attached r (suc k) depth v) 0) ≡ ltb 0 (getD trees (lookFrom f size trees r (suc k) depth v) 0)
         past =
             ap (λ x. ltb 0 (getD attached x 0))
-            (look-on g size attached r k depth v (ap (λ m. ends g m r) at-new ∙ ends-not g r (suc n) (omega arith) (subst (λ m. sameRow (g m) r ≡ false) (sym (pred-suc n)) other))
+            (look-on g size attached r k depth v (ap (λ m. ends g m r) at-new ∙ ends-not g r (suc n) (omega arith) (subst (λ m. rowsAgree (g m) r ≡ false) (sym (pred-suc n)) other))
             ∙ ap (λ m. lookFrom g size attached r k (suc depth) (childSlot size m (sideAt depth (r .states)))) (ap (λ m. m - 1) at-new ∙ pred-suc n)
             ∙ look-ends g size attached r k (suc depth) (childSlot size n (sideAt depth (r .states))) (ends-none g r _ (at-child _ (side-below depth (r .states)))))
             ∙ ap (ltb 0) (at-child _ (side-below depth (r .states)) ∙ sym vacant)
@@ -201,14 +201,14 @@ module _ {size n : ℕ} {trees : List ℕ} (G : Rising size n trees) where
         go ih false e = onward (λ s. ih _ (reached-next r a s)) (eqb-false slot v e) (ends f (getD trees slot 0) r) refl
 
     -- the row is found where it was attached
-    pub found-here : (r : Row) → sameRow (g n) r ≡ true → (k depth slot : ℕ) → Reached size n trees depth slot → lookFrom f size trees r k depth slot ≡ v
+    pub found-here : (r : Row) → rowsAgree (g n) r ≡ true → (k depth slot : ℕ) → Reached size n trees depth slot → lookFrom f size trees r k depth slot ≡ v
         → lookFrom g size attached r k depth slot ≡ v
     unfolding lookFrom
     found-here r same zero depth slot a at = at
     found-here r same (suc k) depth slot a at = go (found-here r same k (suc depth)) (ends f (getD trees slot 0) r) refl
       where
         here : lookFrom g size attached r (suc k) depth v ≡ v
-        here = look-ends g size attached r (suc k) depth v (ap (λ m. ends g m r) at-new ∙ ends-row g r (suc n) (subst (λ m. sameRow (g m) r ≡ true) (sym (pred-suc n)) same))
+        here = look-ends g size attached r (suc k) depth v (ap (λ m. ends g m r) at-new ∙ ends-row g r (suc n) (subst (λ m. rowsAgree (g m) r ≡ true) (sym (pred-suc n)) same))
 
         -- a look that goes on from a slot isn't at v
         apart : ends f (getD trees slot 0) r ≡ false → slot ≡ v → ⊥

@@ -46,10 +46,10 @@ abbrev pub listsAtExit : LentList → LentList → LentList → LentList → Len
 listsAtExit P L R Q trees = lists (P .exit .now) (L .exit .now) (R .exit .now) (Q .exit .now) (trees .exit .now)
 
 -- the answer: how many rows are listed now, or full
-unfoldable pub answerOf : Bool → Bool → ℕ → Appended
-answerOf true true n = Rows (suc n)
-answerOf true false n = Full
-answerOf false room n = Rows n
+unfoldable pub appendAnswer : Bool → Bool → ℕ → Appended
+appendAnswer true true n = Rows (suc n)
+appendAnswer true false n = Full
+appendAnswer false room n = Rows n
 
 -- how many rows are listed after the answer
 unfoldable pub rowsAfter : Bool → ℕ → ℕ
@@ -57,9 +57,9 @@ rowsAfter true n = suc n
 rowsAfter false n = n
 
 -- a list's contents: the new when the row is appended
-unfoldable pub changed : Bool → List ℕ → List ℕ → List ℕ
-changed true new old = new
-changed false new old = old
+unfoldable pub newIf : Bool → List ℕ → List ℕ → List ℕ
+newIf true new old = new
+newIf false new old = old
 
 -- the row must be appended, and there is room
 unfoldable pub isAdded : Lists → ℕ → Row → Bool
@@ -67,10 +67,10 @@ isAdded x n r = isNew (rowAt (x .packets) (x .left) (x .right)) n r && ltb n (le
 
 -- Row r with its parent, appended to the n rows of x, which become those of y.
 pub record Appending (x y : Lists) (count n : ℕ) (r : Row) (parent : ℕ) (answer : Appended) : Type 0 where
-  pub answers : answer ≡ answerOf (isNew (rowAt (x .packets) (x .left) (x .right)) n r) (ltb n (length (x .packets))) n
-  pub packets : y .packets ≡ changed (isAdded x n r) (set (x .packets) n (r .packet)) (x .packets)
-  pub left : y .left ≡ changed (isAdded x n r) (set (x .left) n (getD (r .states) 0 0)) (x .left)
-  pub right : y .right ≡ changed (isAdded x n r) (set (x .right) n (getD (r .states) 1 0)) (x .right)
-  pub parents : y .parents ≡ changed (isAdded x n r) (set (x .parents) n parent) (x .parents)
-  pub trees : y .trees ≡ changed (isAdded x n r) (treesWith (rowAt (x .packets) (x .left) (x .right)) count r n (x .trees)) (x .trees)
+  pub answers : answer ≡ appendAnswer (isNew (rowAt (x .packets) (x .left) (x .right)) n r) (ltb n (length (x .packets))) n
+  pub packets : y .packets ≡ newIf (isAdded x n r) (set (x .packets) n (r .packet)) (x .packets)
+  pub left : y .left ≡ newIf (isAdded x n r) (set (x .left) n (getD (r .states) 0 0)) (x .left)
+  pub right : y .right ≡ newIf (isAdded x n r) (set (x .right) n (getD (r .states) 1 0)) (x .right)
+  pub parents : y .parents ≡ newIf (isAdded x n r) (set (x .parents) n parent) (x .parents)
+  pub trees : y .trees ≡ newIf (isAdded x n r) (treesWith (rowAt (x .packets) (x .left) (x .right)) count r n (x .trees)) (x .trees)
   pub indexed : Indexed (y .packets) (y .left) (y .right) count (rowsAfter (isAdded x n r) n) (y .trees)

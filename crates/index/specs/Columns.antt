@@ -32,19 +32,19 @@ abbrev pub rowAt : List ℕ → List ℕ → List ℕ → ℕ → Row
 rowAt P L R i = record { packet = getD P i 0; states = getD L i 0 ∷ getD R i 0 ∷ [] }
 
 -- the states of the first k policies are the same
-unfoldable pub sameStates : ℕ → List ℕ → List ℕ → Bool
-sameStates zero a b = true
-sameStates (suc k) a b = sameStates k a b && eqb (getD a k 0) (getD b k 0)
+unfoldable pub masksAgree : ℕ → List ℕ → List ℕ → Bool
+masksAgree zero a b = true
+masksAgree (suc k) a b = masksAgree k a b && eqb (getD a k 0) (getD b k 0)
 
 -- the same packet and the same states
-unfoldable pub sameRow : Row → Row → Bool
-sameRow a b = eqb (a .packet) (b .packet) && sameStates policyCount (a .states) (b .states)
+unfoldable pub rowsAgree : Row → Row → Bool
+rowsAgree a b = eqb (a .packet) (b .packet) && masksAgree policyCount (a .states) (b .states)
 
 -- all states are 0
 unfoldable pub allZero : List ℕ → Bool
-allZero a = sameStates policyCount a (replicate policyCount 0)
+allZero a = masksAgree policyCount a (replicate policyCount 0)
 
 -- the row is one of the first n: a scan
 unfoldable pub listedBelow : (ℕ → Row) → ℕ → Row → Bool
 listedBelow f zero r = false
-listedBelow f (suc n) r = listedBelow f n r || sameRow (f n) r
+listedBelow f (suc n) r = listedBelow f n r || rowsAgree (f n) r

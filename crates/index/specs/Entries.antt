@@ -7,12 +7,12 @@ use Rattle.system.specs.System.{System}
 use Rattle.system.specs.System as system
 use Rattle.system.specs.RowOrder.{Entry}
 use Rattle.index.specs.declared.Row.{Row}
-use Rattle.index.specs.Columns.{policyCount, rowAt, sameStates, allZero}
+use Rattle.index.specs.Columns.{policyCount, rowAt, masksAgree, allZero}
 
 -- The masks of a row stand for a state: two are the same, and one is dead, as the masks are.
 pub record Masks (S : System) : Type 0 where
   pub state : List ℕ → S .State
-  pub same-states : (a b : List ℕ) → S .same (state a) (state b) ≡ sameStates policyCount a b
+  pub same-states : (a b : List ℕ) → S .same (state a) (state b) ≡ masksAgree policyCount a b
   pub dead-states : (a : List ℕ) → S .dead (state a) ≡ allZero a
 
 module _ (S : System) (M : Masks S) where

@@ -9,7 +9,7 @@ use lib.ListN.{length, getD, set}
 use Rattle.index.specs.declared.Row.{Row}
 use Rattle.index.specs.declared.Lookup.{Lookup}
 use Rattle.index.specs.declared.Lookup.the-variants.{Listed, Vacant}
-use Rattle.index.specs.Columns.{policyCount, EvenColumns, rowAt, sameRow, listedBelow}
+use Rattle.index.specs.Columns.{policyCount, EvenColumns, rowAt, rowsAgree, listedBelow}
 
 -- any odd number and prime would serve: the hash decides how deep the trees are and nothing else
 abbrev pub hashFactor : ℕ
@@ -28,8 +28,8 @@ unfoldable pub bucketOf : ℕ → ℕ → Row → ℕ
 bucketOf size count r = r .packet * (size / count) + hashOf policyCount (r .states) % (size / count)
 
 -- how many buckets a list has, and how many rows it has room for
-abbrev pub sizeOf : List ℕ → ℕ
-sizeOf trees = length trees / 3
+abbrev pub bucketCount : List ℕ → ℕ
+bucketCount trees = length trees / 3
 
 -- the slot of a child of row i
 abbrev pub childSlot : ℕ → ℕ → ℕ → ℕ
@@ -41,7 +41,7 @@ sideAt depth a = getD a (depth % policyCount) 0 / 2 ^ (depth / policyCount % 32)
 
 -- a look for a row ends at an entry: none, or the row
 unfoldable pub ends : (ℕ → Row) → ℕ → Row → Bool
-ends f entry r = eqb entry 0 || sameRow (f (entry - 1)) r
+ends f entry r = eqb entry 0 || rowsAgree (f (entry - 1)) r
 
 -- the slot where a look for a row ends that goes on from a slot, `depth` below the root, by at most so many rows
 unfoldable pub lookFrom : (ℕ → Row) → ℕ → List ℕ → Row → ℕ → ℕ → ℕ → ℕ
@@ -51,7 +51,7 @@ lookFrom f size trees r (suc k) depth slot =
 
 -- the slot where a look for the row ends; N is `count`
 unfoldable pub slotOf : (ℕ → Row) → ℕ → List ℕ → Row → ℕ
-slotOf f count trees r = lookFrom f (sizeOf trees) trees r (sizeOf trees) 0 (bucketOf (sizeOf trees) count r)
+slotOf f count trees r = lookFrom f (bucketCount trees) trees r (bucketCount trees) 0 (bucketOf (bucketCount trees) count r)
 
 -- the entries are rows below n, and a child's number is above its parent's
 pub record Rising (size n : ℕ) (trees : List ℕ) : Type 0 where
@@ -63,20 +63,20 @@ pub record Indexed (P L R : List ℕ) (count n : ℕ) (trees : List ℕ) : Type 
   pub table : EvenColumns P L R
   pub within : n ≤ length P
   pub numbered : length P < 65536
-  pub room : n ≤ sizeOf trees
-  pub buckets : count ≤ sizeOf trees
-  pub rising : Rising (sizeOf trees) n trees
+  pub room : n ≤ bucketCount trees
+  pub buckets : count ≤ bucketCount trees
+  pub rising : Rising (bucketCount trees) n trees
   pub finds : (r : Row) → r .packet < count → listedBelow (rowAt P L R) n r ≡ ltb 0 (getD trees (slotOf (rowAt P L R) count trees r) 0)
 
 -- the first n rows can be indexed: there is room for them, and each packet is below N
 pub record Indexable (P : List ℕ) (count n : ℕ) (trees : List ℕ) : Type 0 where
   pub within : n ≤ length P
-  pub room : n ≤ sizeOf trees
+  pub room : n ≤ bucketCount trees
   pub small : (i : ℕ) → i < n → getD P i 0 < count
 
 -- the index has room for k rows after the first n, or for all that were lent
 pub record RoomFor (P : List ℕ) (n k : ℕ) (trees : List ℕ) : Type 0 where
-  pub room : (i : ℕ) → i < length P → i < n + k → i < sizeOf trees
+  pub room : (i : ℕ) → i < length P → i < n + k → i < bucketCount trees
 
 -- the list once row n is attached where a look for it ended
 unfoldable pub treesWith : (ℕ → Row) → ℕ → Row → ℕ → List ℕ → List ℕ
@@ -85,17 +85,17 @@ treesWith f count r n trees = set trees (slotOf f count trees r) (suc n)
 -- the row is row i of the first n
 pub record ListedAt (f : ℕ → Row) (n : ℕ) (r : Row) (i : ℕ) : Type 0 where
   pub below : i < n
-  pub same : sameRow (f i) r ≡ true
+  pub same : rowsAgree (f i) r ≡ true
   pub listed : listedBelow f n r ≡ true
 
 -- the row is none of the first n, and a look for it ends at a vacant slot
 pub record VacantAt (f : ℕ → Row) (count n : ℕ) (trees : List ℕ) (r : Row) (slot : ℕ) : Type 0 where
-  pub inside : slot < sizeOf trees + 2 * n
+  pub inside : slot < bucketCount trees + 2 * n
   pub reached : slot ≡ slotOf f count trees r
   pub vacant : getD trees slot 0 ≡ 0
   pub unlisted : listedBelow f n r ≡ false
 
 -- where a look for the row ends
-pub record Placed (f : ℕ → Row) (count n : ℕ) (trees : List ℕ) (r : Row) (answer : Lookup) : Type 0 where
+pub record LookEnds (f : ℕ → Row) (count n : ℕ) (trees : List ℕ) (r : Row) (answer : Lookup) : Type 0 where
   pub listed : (i : ℕ) → answer ≡ Listed i → ListedAt f n r i
   pub vacant : (slot : ℕ) → answer ≡ Vacant slot → VacantAt f count n trees r slot

@@ -2,8 +2,8 @@
 ghost use mathlib.Core.Path.{_≡_};
 ghost use Prim.Native.Nat.{_+_, _<_, _≤_};
 ghost use lib.ListN.{length, getD, set};
-ghost use Rattle.index.specs.Columns.{policyCount, EvenColumns, rowAt, sameStates, sameRow, listedBelow};
-ghost use Rattle.index.specs.Index.{hashOf, bucketOf, sideAt, Indexed, Indexable, RoomFor, Placed};
+ghost use Rattle.index.specs.Columns.{policyCount, EvenColumns, rowAt, masksAgree, rowsAgree, listedBelow};
+ghost use Rattle.index.specs.Index.{hashOf, bucketOf, sideAt, Indexed, Indexable, RoomFor, LookEnds};
 ghost use Rattle.index.specs.Appending.{NewPlaced, listsAtEntry, listsAtExit, Appending};
 
 // How many policies a row follows.
@@ -58,7 +58,7 @@ pub fn put_row(packets: &mut [u16], left: &mut [Mask], right: &mut [Mask], i: us
 }
 
 fn same_states(a: [Mask; POLICIES], b: [Mask; POLICIES]) -> bool
-    ensures { λ r. ⌜ r ≡ sameStates policyCount a b ⌝ }
+    ensures { λ r. ⌜ r ≡ masksAgree policyCount a b ⌝ }
 {
     let mut k = 0;
     while k < POLICIES {
@@ -71,7 +71,7 @@ fn same_states(a: [Mask; POLICIES], b: [Mask; POLICIES]) -> bool
 }
 
 fn same_row(a: Row, b: Row) -> bool
-    ensures { λ r. ⌜ r ≡ sameRow a b ⌝ }
+    ensures { λ r. ⌜ r ≡ rowsAgree a b ⌝ }
 {
     if a.packet != b.packet {
         return false;
@@ -135,7 +135,7 @@ pub fn place(
 ) -> Lookup
     requires { ⌜ Indexed (now packets) (now left) (now right) count n (now trees) ⌝ }
     requires { ⌜ row .packet < count ⌝ }
-    ensures { λ r. ⌜ Placed (rowAt (now (packets .entry)) (now (left .entry)) (now (right .entry))) count n (now (trees .entry)) row r ⌝ }
+    ensures { λ r. ⌜ LookEnds (rowAt (now (packets .entry)) (now (left .entry)) (now (right .entry))) count n (now (trees .entry)) row r ⌝ }
 {
     let size = trees.len() / 3;
     let states = row.states;

@@ -17,7 +17,7 @@ use Rattle.policy.specs.InnerEach.{Each}
 use Rattle.policy.specs.Legality.{Legal}
 use Rattle.policy.specs.NodeLists.{NodeLists}
 use Rattle.policy.proofs.OrderLaws.{passing, sizes-legal, policies-legal, still-passing}
-use Rattle.lent_lists.specs.Lent.{misfit, rowsMisfit, listsStage, lentTests}
+use Rattle.lent_lists.specs.LentLists.{misfit, rowsMisfit, listsStage, lentTests}
 
 -- ---- cause 10
 

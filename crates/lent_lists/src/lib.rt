@@ -6,7 +6,7 @@ ghost use mathlib.Core.List.{[], _∷_};
 ghost use lib.Dec.{eqb, ltb};
 ghost use lib.ListN.{length, replicate};
 ghost use Rattle.packet.specs.Refusals.{refusedAt, atZero};
-ghost use Rattle.lent_lists.specs.Lent.{listsStage};
+ghost use Rattle.lent_lists.specs.LentLists.{listsStage};
 use packet::Refusal;
 use packet::Tested;
 

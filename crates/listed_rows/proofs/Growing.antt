@@ -21,7 +21,7 @@ use Rattle.pair.specs.Pair.{bothZero, pairSystem}
 use Rattle.index.specs.declared.Row.{Row}
 use Rattle.index.specs.declared.Appended.{Appended}
 use Rattle.index.specs.declared.Appended.the-variants.{Rows, Full}
-use Rattle.index.specs.Columns.{sameStates, allZero}
+use Rattle.index.specs.Columns.{masksAgree, allZero}
 use Rattle.index.specs.Index.{Indexed, RoomFor}
 use Rattle.index.specs.Appending.{Lists, isAdded, rowsAfter, Appending}
 use Rattle.index.specs.Entries.{rowOf, entriesOf}
@@ -188,7 +188,7 @@ append-dead S p es r e = append-kept S p es r (ap (λ b. b || listed S es r) e)
 -- a packet without marks has no row
 next-dead : {x y : Lists} {count before n γ p : ℕ} {lefts rights : List ℕ} → NextTo x y count before n γ p lefts rights → γ < count → getD lefts γ 0 ≡ 0 → getD rights γ 0 ≡ 0
     → NextTo x y count before n (suc γ) p lefts rights
-unfolding appendNext sameStates allZero
+unfolding appendNext masksAgree allZero
 next-dead {x} {y} {count} {before} {n} {γ} {p} {lefts} {rights} T small l r =
     record {
       going = T .going;

@@ -10,7 +10,7 @@ use lib.Seq.{take-all, length-take-le}
 use borrow.Author.Tests.{ltb-true, ltb-false}
 use Rattle.packet.specs.Sizes.{product}
 use Rattle.system.specs.System.{System, Lawful}
-use Rattle.system.specs.RowOrder.{Entry, entryAt, appendNext, current, turn, finished, telling, handling, handle, run, path, entering, answer, held}
+use Rattle.system.specs.RowOrder.{Entry, entryAt, appendNext, current, turn, finished, telling, handling, handle, run, path, entering, answerWith, held}
 use Rattle.system.proofs.Basics.{prefix-length}
 use Rattle.system.proofs.Climb.{Earlier}
 use Rattle.system.proofs.Runs.{finished≢handling, telling≢handling, turn-end, run-begin, run-handle}
@@ -25,7 +25,7 @@ use Rattle.index.specs.Entries.{Masks}
 use Rattle.index.proofs.Entries.{column, entries-at}
 use Rattle.packet.specs.Written.{written}
 use Rattle.listed_rows.specs.Standing.{answerFor, Standing, Continues, pairMasks, Started}
-use Rattle.parent_traces.specs.Lines.{linePath, lineStart, Rooted}
+use Rattle.parent_traces.specs.ParentLines.{linePath, lineStart, Rooted}
 use Rattle.listed_rows.proofs.Standing.{stands-length, drop-later}
 use Rattle.parent_traces.proofs.Lines.{climb-rise}
 

@@ -13,7 +13,7 @@ use Rattle.pair.specs.Pair as pair
 use Rattle.pair.specs.Pair.{nextAt, bothZero, pairSystem}
 use Rattle.index.specs.declared.Appended.{Appended}
 use Rattle.index.specs.declared.Appended.the-variants.{Rows, Full}
-use Rattle.index.specs.Columns.{policyCount, sameStates, allZero}
+use Rattle.index.specs.Columns.{policyCount, masksAgree, allZero}
 use Rattle.index.specs.Index.{Indexed}
 use Rattle.index.specs.Appending.{Lists}
 use Rattle.index.specs.Entries.{Masks, entries}
@@ -46,12 +46,12 @@ abbrev pub maskPair : List ℕ → Pair ℕ
 maskPair a = record { left = getD a 0 0; right = getD a 1 0 }
 
 module _ (sizes : List ℕ) (ps : Pair NumberedPolicy) where
-  pub same-masks : (a b : List ℕ) → pair.sameStates sizes ps (maskPair a) (maskPair b) ≡ sameStates policyCount a b
-  unfolding pair.sameStates onBoth at sameStates
+  pub same-masks : (a b : List ℕ) → pair.sameStates sizes ps (maskPair a) (maskPair b) ≡ masksAgree policyCount a b
+  unfolding pair.sameStates onBoth at masksAgree
   same-masks a b = refl
 
   pub zero-masks : (a : List ℕ) → bothZero sizes ps (maskPair a) ≡ allZero a
-  unfolding bothZero onBoth at sameStates allZero
+  unfolding bothZero onBoth at masksAgree allZero
   zero-masks a = refl
 
   -- two masks are a state of the pair

@@ -21,7 +21,7 @@ use Rattle.policy.proofs.Trees.{each-child}
 use Rattle.automaton.proofs.Tests.{T-true, true-T, either}
 use Rattle.spans.specs.Spans.{slot}
 use Rattle.loaded.specs.Loaded.{treeOf, Linked, Moves, KeepsSlot, Rises, ends, rises, DupAt, Guarded, OnlyTests, Enterable, Enters, Loaded}
-use Rattle.loaded.specs.Loading.{Formed, Alone, wayFrom, Ways, Labels, Places, Numbered, guardOf, Guards, Flags, packed, Packed, Fitting, PackedAll, PlacedAll}
+use Rattle.loaded.specs.Loading.{Formed, Alone, wayFrom, Ways, Labels, Places, TestSets, guardOf, Guards, Flags, packed, Packed, Fitting, PackedAll, PlacedAll}
 use Rattle.loaded.specs.Nodes.{nodeIn, setIn, testsIn, labelIn, upIn, slotIn, readAt, testsAt, upAt, guardAt, placeAt}
 use Rattle.loaded.specs.Tests.{isTest, passes, passing}
 use Rattle.loaded.proofs.Meanings.{test-traces, test-dupless, Alive, has-trace, has-dup, first-alive, test-alive}
@@ -51,7 +51,7 @@ module _ (L : NodeLists) (alone ups labels places : List ℕ) (p : Parts L alone
   f : Formed L
   f = p .formed
 
-  module _ (sizes sets tests guards : List ℕ) (q : Numbered sizes L sets tests) (g : Guards L alone sets guards) where
+  module _ (sizes sets tests guards : List ℕ) (q : TestSets sizes L sets tests) (g : Guards L alone sets guards) where
     flag-some : (n : ℕ) → n < nodeCount L → isTest (treeOf L n) ≡ true → getD guards n 0 ≡ getD sets n 0
     unfolding guardOf one
     flag-some n l e = g .guard n l ∙ ap (λ (x : ℕ). guardOf guards x (getD sets n 0) (nodeAt L n)) (p .alone-is .flags n l ∙ ap one e)

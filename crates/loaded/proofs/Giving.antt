@@ -21,7 +21,7 @@ use Rattle.policy.proofs.VisitLaws.{no-child}
 use Rattle.packet_set.specs.InnerMembers.{member}
 use Rattle.spans.specs.Spans.{slot}
 use Rattle.loaded.specs.Loaded.{treeOf}
-use Rattle.loaded.specs.Loading.{Formed, Alone, TestNode, pick, testUnder, SetOf, Kept, Gave, Numbered}
+use Rattle.loaded.specs.Loading.{Formed, Alone, TestNode, pick, testUnder, HasMembers, SlotFilled, Gave, TestSets}
 use Rattle.loaded.specs.Tests.{isTest, passing}
 use Rattle.loaded.proofs.Bounds.{replicate-le, set-le}
 use Rattle.loaded.proofs.Sums.{sumBelow, sum-le, sum-lt, sum-both, sum-more}
@@ -308,7 +308,7 @@ module _ (sizes : List ℕ) (L : NodeLists) (c k : ℕ) (sets tests : List ℕ) 
         right = λ j a γ. split j a γ (ℕ-discrete j c);
       }))
         where
-          q : (k′ ≡ k + 1) × (sets′ ≡ set sets c (k + 1)) × Kept (k + 1) (passing sizes (treeOf L c)) tests tests′
+          q : (k′ ≡ k + 1) × (sets′ ≡ set sets c (k + 1)) × SlotFilled (k + 1) (passing sizes (treeOf L c)) tests tests′
           q = g .some h
 
           here : getD (set sets c (k + 1)) c 0 ≡ k + 1
@@ -438,7 +438,7 @@ module _ (sizes : List ℕ) (L : NodeLists) (f : Formed L) where
             enough-root L f (subst (λ (x : ℕ). isTest (treeOf L x) ≡ true) last (q .1)) k (subst (λ (x : ℕ). k ≤ moves L x) whole (i .few-moves)) (subst (λ (x : ℕ). k ≤ tests L x) whole (i .few-tests)),
           )
 
-      pub giving-end : (k′ : ℕ) (sets′ tests″ : List ℕ) → Gave sizes L c k sets tests′ k′ sets′ tests″ → Numbered sizes L sets′ tests″
+      pub giving-end : (k′ : ℕ) (sets′ tests″ : List ℕ) → Gave sizes L c k sets tests′ k′ sets′ tests″ → TestSets sizes L sets′ tests″
       giving-end k′ sets′ tests″ g = record {
         small = λ j. let h = next .small j in let q = room (lt-or-le c 512) in omega arith;
         right = next .right;
@@ -465,7 +465,7 @@ module _ (sizes : List ℕ) (L : NodeLists) (c k : ℕ) (sets tests′ : List �
   pub gave-none : 512 ≤ c → Gave sizes L c k sets tests′ k sets tests′
   gave-none h = record { none = λ q. (refl, refl, refl); some = λ q. absurd (omega arith) }
 
-  pub gave-some : c < 512 → (s : List ℕ) → SetOf s (passing sizes (treeOf L c)) → (tests″ : List ℕ) → Kept (k + 1) (member s) tests′ tests″ → Gave sizes L c k sets tests′ (k + 1) (set sets c (k + 1)) tests″
+  pub gave-some : c < 512 → (s : List ℕ) → HasMembers s (passing sizes (treeOf L c)) → (tests″ : List ℕ) → SlotFilled (k + 1) (member s) tests′ tests″ → Gave sizes L c k sets tests′ (k + 1) (set sets c (k + 1)) tests″
   gave-some h s e tests″ q = record {
     none = λ o. absurd (omega arith);
     some = λ o. (refl, refl, record { long = q .long; here = λ γ. q .here γ ∙ e .members γ; others = q .others });

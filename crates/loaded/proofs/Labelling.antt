@@ -12,7 +12,7 @@ use Rattle.policy.specs.declared.Node.{Node}
 use Rattle.policy.specs.declared.Node.the-variants.{Drop, Id, Field, Dup, Sum, Seq, Star}
 use Rattle.policy.specs.NodeLists.{NodeLists, nodeCount, nodeAt, isDup, one, dupsBelow}
 use Rattle.loaded.specs.Loaded.{DupAt}
-use Rattle.loaded.specs.Loading.{Formed, Labels, placed, Places}
+use Rattle.loaded.specs.Loading.{Formed, Labels, dupPlaced, Places}
 use Rattle.loaded.proofs.Bounds.{replicate-le}
 use Rattle.loaded.proofs.Trees.{few, some, few-dups, small}
 
@@ -65,15 +65,15 @@ module _ (L : NodeLists) (f : Formed L) where
 
 -- ---- places
 
-pub placed-is : (label n : ℕ) (places : List ℕ) (node d : Node) → node ≡ d → placed label n places d ≡ placed label n places node
-placed-is label n places node d e = sym (ap (placed label n places) e)
+pub placed-is : (label n : ℕ) (places : List ℕ) (node d : Node) → node ≡ d → dupPlaced label n places d ≡ dupPlaced label n places node
+placed-is label n places node d e = sym (ap (dupPlaced label n places) e)
 
-placed-dup : (label n : ℕ) (places : List ℕ) (node : Node) → node ≡ Dup → set places label n ≡ placed label n places node
-unfolding placed
+placed-dup : (label n : ℕ) (places : List ℕ) (node : Node) → node ≡ Dup → set places label n ≡ dupPlaced label n places node
+unfolding dupPlaced
 placed-dup label n places node e = placed-is label n places node Dup e
 
-placed-none : (label n : ℕ) (places : List ℕ) (node : Node) → isDup node ≡ false → places ≡ placed label n places node
-unfolding placed isDup
+placed-none : (label n : ℕ) (places : List ℕ) (node : Node) → isDup node ≡ false → places ≡ dupPlaced label n places node
+unfolding dupPlaced isDup
 placed-none label n places Drop h = refl
 placed-none label n places Id h = refl
 placed-none label n places (Field a) h = refl
@@ -171,10 +171,10 @@ module _ (L : NodeLists) (f : Formed L) where
           short = m .short;
         }
 
-    pub placing-turn : (labels : List ℕ) → Labels L labels → (node : Node) → node ≡ nodeAt L n → (places′ : List ℕ) → places′ ≡ placed (getD labels n 0) n places node → Placing L places′ (n + 1)
-    placing-turn labels g node en places′ ep = subst (Placing L places′) (sym (add-one n)) (subst (λ (x : List ℕ). Placing L x (suc n)) (sym (ep ∙ ap₂ (λ (x : ℕ) (y : Node). placed x n places y) (g .labelled n l) en)) (go (isDup (nodeAt L n)) refl))
+    pub placing-turn : (labels : List ℕ) → Labels L labels → (node : Node) → node ≡ nodeAt L n → (places′ : List ℕ) → places′ ≡ dupPlaced (getD labels n 0) n places node → Placing L places′ (n + 1)
+    placing-turn labels g node en places′ ep = subst (Placing L places′) (sym (add-one n)) (subst (λ (x : List ℕ). Placing L x (suc n)) (sym (ep ∙ ap₂ (λ (x : ℕ) (y : Node). dupPlaced x n places y) (g .labelled n l) en)) (go (isDup (nodeAt L n)) refl))
       where
-        go : (b : Bool) → isDup (nodeAt L n) ≡ b → Placing L (placed (dupsBelow L (suc n)) n places (nodeAt L n)) (suc n)
+        go : (b : Bool) → isDup (nodeAt L n) ≡ b → Placing L (dupPlaced (dupsBelow L (suc n)) n places (nodeAt L n)) (suc n)
         go true o = subst (λ (x : List ℕ). Placing L x (suc n)) (placed-dup (dupsBelow L (suc n)) n places (nodeAt L n) (is-dup (nodeAt L n) o)) (dup-turn (is-dup (nodeAt L n) o))
         go false o = subst (λ (x : List ℕ). Placing L x (suc n)) (placed-none (dupsBelow L (suc n)) n places (nodeAt L n) o) (other-turn o)
 

@@ -17,7 +17,7 @@ use Rattle.packet_set.specs.InnerMembers.{member, wordwise}
 use Rattle.packet_set.proofs.Digits.{bit-and, bit-of-zero}
 use Rattle.packet_set.proofs.Words.{length-wordwise, wordwise-below}
 use Rattle.spans.specs.Spans.{slot}
-use Rattle.loaded.specs.Loading.{Met, Kept}
+use Rattle.loaded.specs.Loading.{Met, SlotFilled}
 
 -- a set of 32 words has no packet from 1,024 on
 pub member-beyond : (s : List ℕ) (γ : ℕ) → length s ≡ 32 → 1024 ≤ γ → member s γ ≡ false
@@ -71,7 +71,7 @@ module _ (k : ℕ) (s tests : List ℕ) where
         other p (inl h) = getD-set-other now (32 * k + i) p (getD s i 0) 0 (omega arith) ∙ m .others p (inl h)
         other p (inr h) = getD-set-other now (32 * k + i) p (getD s i 0) 0 (omega arith) ∙ m .others p (inr (omega arith))
 
-    pub keeping-end : length s ≡ 32 → 32 ≤ i → Kept k (member s) tests now
+    pub keeping-end : length s ≡ 32 → 32 ≤ i → SlotFilled k (member s) tests now
     keeping-end w l = record { long = m .long; here = λ γ. here γ (lt-or-le γ 1024); others = λ n γ h. other n γ h (lt-or-le γ 1024) }
       where
         e : i ≡ 32

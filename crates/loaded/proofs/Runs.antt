@@ -18,7 +18,7 @@ use Rattle.policy.specs.Legality.{badField}
 use Rattle.packet_set.specs.InnerMembers.{member, emptySet, withPacket}
 use Rattle.packet_set.proofs.Words.{member-empty, member-with, length-with}
 use Rattle.automaton.proofs.Tests.{T-false, eqb-true, same-test, both, either}
-use Rattle.loaded.specs.Loading.{SetOf, Ran, everyPacket, withValue}
+use Rattle.loaded.specs.Loading.{HasMembers, RangeAdded, everyPacket, withValue}
 
 pub empty-wide : (s : List ℕ) → s ≡ emptySet → length s ≡ 32
 unfolding emptySet
@@ -64,14 +64,14 @@ module _ (from to : ℕ) (s₀ : List ℕ) where
       members = λ γ. ap (λ (x : List ℕ). member x γ) e ∙ member-with s p γ (omega (arith, i .wide)) ∙ ap (λ (b : Bool). b || eqb γ p) (i .members γ) ∙ or-more (member s₀ γ) (leb from γ && ltb γ p) (eqb γ p) (leb from γ && ltb γ (p + 1)) (run-more from p γ (i .low));
     }
 
-    pub inserting-end : to ≤ p → Ran from to s₀ s
+    pub inserting-end : to ≤ p → RangeAdded from to s₀ s
     inserting-end l =
         let e : p ≡ to = omega (arith, i .high) in
         record { wide = i .wide; members = λ γ. i .members γ ∙ ap (λ (x : ℕ). member s₀ γ || (leb from γ && ltb γ x)) e }
 
 -- ---- every packet
 
-pub every : (sizes s : List ℕ) (count : ℕ) → count ≡ product sizes → (s₀ : List ℕ) → s₀ ≡ emptySet → Ran 0 count s₀ s → SetOf s (everyPacket sizes)
+pub every : (sizes s : List ℕ) (count : ℕ) → count ≡ product sizes → (s₀ : List ℕ) → s₀ ≡ emptySet → RangeAdded 0 count s₀ s → HasMembers s (everyPacket sizes)
 unfolding everyPacket
 every sizes s count e s₀ es r = record { wide = r .wide; members = λ γ. r .members γ ∙ ap₂ (λ (x : Bool) (n : ℕ). x || (leb 0 γ && ltb γ n)) (ap (λ (x : List ℕ). member x γ) es ∙ member-empty γ) e ∙ all γ }
   where
@@ -143,7 +143,7 @@ module _ (t z v N : ℕ) (some : 0 < t) (value : v < z) where
         let h = mul-le-mul-right t k in
         omega (arith, i .at, next-row (i .row))
 
-    filling-turn : start < N → (s′ : List ℕ) → Ran start (start + t) s s′ → Filling t z v N s′ (start + t * z)
+    filling-turn : start < N → (s′ : List ℕ) → RangeAdded start (start + t) s s′ → Filling t z v N s′ (start + t * z)
     filling-turn l s′ r = record {
       wide = r .wide;
       row = suc (i .row);
@@ -258,10 +258,10 @@ module _ (sizes : List ℕ) (f v : ℕ) (g : Field sizes f v) where
       pub of-within : start < count → start + t ≤ 1024
       of-within l = let h = run-within t z v count stride-some value-within (divides .0) (divides .1) s start i l in omega (arith, g .legal .small)
 
-      pub of-turn : start < count → (s′ : List ℕ) → Ran start (start + t) s s′ → Filling t z v count s′ (start + t * z)
+      pub of-turn : start < count → (s′ : List ℕ) → RangeAdded start (start + t) s s′ → Filling t z v count s′ (start + t * z)
       of-turn l s′ r = filling-turn t z v count stride-some value-within (divides .0) (divides .1) s start i l s′ r
 
-      pub of-end : count ≤ start → SetOf s (withValue sizes f v)
+      pub of-end : count ≤ start → HasMembers s (withValue sizes f v)
       unfolding withValue
       of-end l = record { wide = i .wide; members = λ γ. i .members γ ∙ ap (λ (n : ℕ). ltb γ n && (ltb γ start && eqb (digit t z γ) v)) ec ∙ same γ }
         where

@@ -24,7 +24,7 @@ use Rattle.policy.proofs.Trees.{two-below, tree-fields}
 use Rattle.packet_set.specs.InnerMembers.{member, emptySet, unionOf, exclusiveOrOf}
 use Rattle.packet_set.proofs.Words.{length-wordwise, member-empty, member-union, member-exclusive-or, length-union}
 use Rattle.loaded.specs.Loaded.{treeOf}
-use Rattle.loaded.specs.Loading.{Formed, SetOf, Met, everyPacket, withValue, Fielding, Loading, TestNode}
+use Rattle.loaded.specs.Loading.{Formed, HasMembers, Met, everyPacket, withValue, Fielding, Loading, TestNode}
 use Rattle.loaded.specs.Tests.{isTest, passes, passing}
 use Rattle.loaded.proofs.Meeting.{member-beyond}
 use Rattle.loaded.proofs.Runs.{empty-wide}
@@ -34,7 +34,7 @@ use Rattle.loaded.proofs.Trees.{below, tree-of}
 none-beyond : (sizes : List ℕ) (γ : ℕ) (b : Bool) → product sizes ≤ 1024 → 1024 ≤ γ → ltb γ (product sizes) && b ≡ false
 none-beyond sizes γ b h l = ap (λ (x : Bool). x && b) (le-ltb γ (product sizes) (omega arith))
 
-nothing-passes : (sizes : List ℕ) (p : Policy) (r : List ℕ) → ((γ : ℕ) → passes sizes p γ ≡ false) → r ≡ emptySet → SetOf r (passing sizes p)
+nothing-passes : (sizes : List ℕ) (p : Policy) (r : List ℕ) → ((γ : ℕ) → passes sizes p γ ≡ false) → r ≡ emptySet → HasMembers r (passing sizes p)
 unfolding passing
 nothing-passes sizes p r h e = record {
   wide = empty-wide r e;
@@ -48,17 +48,17 @@ nothing-passes sizes p r h e = record {
 -- ---- one field
 
 module _ (sizes : List ℕ) (f v : ℕ) (a : FieldAction) (r : List ℕ) where
-  pub equals-set : a ≡ Equals f v → SetOf r (withValue sizes f v) → SetOf r (passing sizes (field a))
+  pub equals-set : a ≡ Equals f v → HasMembers r (withValue sizes f v) → HasMembers r (passing sizes (field a))
   unfolding passing passes withValue
-  equals-set e h = subst (λ (x : FieldAction). SetOf r (passing sizes (field x))) (sym e) (record { wide = h .wide; members = h .members })
+  equals-set e h = subst (λ (x : FieldAction). HasMembers r (passing sizes (field x))) (sym e) (record { wide = h .wide; members = h .members })
 
-  pub change-set : a ≡ Set f v → r ≡ emptySet → SetOf r (passing sizes (field a))
+  pub change-set : a ≡ Set f v → r ≡ emptySet → HasMembers r (passing sizes (field a))
   unfolding passes
-  change-set e h = subst (λ (x : FieldAction). SetOf r (passing sizes (field x))) (sym e) (nothing-passes sizes (field (Set f v)) r (λ γ. refl) h)
+  change-set e h = subst (λ (x : FieldAction). HasMembers r (passing sizes (field x))) (sym e) (nothing-passes sizes (field (Set f v)) r (λ γ. refl) h)
 
-  pub differs-set : (count : ℕ) (all s : List ℕ) → Fielding sizes count all a → a ≡ Differs f v → SetOf s (withValue sizes f v) → r ≡ exclusiveOrOf 32 s all → SetOf r (passing sizes (field a))
+  pub differs-set : (count : ℕ) (all s : List ℕ) → Fielding sizes count all a → a ≡ Differs f v → HasMembers s (withValue sizes f v) → r ≡ exclusiveOrOf 32 s all → HasMembers r (passing sizes (field a))
   unfolding passing passes withValue everyPacket exclusiveOrOf xor
-  differs-set count all s g e h er = subst (λ (x : FieldAction). SetOf r (passing sizes (field x))) (sym e) (record { wide = wide; members = λ γ. go γ (lt-or-le γ 1024) })
+  differs-set count all s g e h er = subst (λ (x : FieldAction). HasMembers r (passing sizes (field x))) (sym e) (record { wide = wide; members = λ γ. go γ (lt-or-le γ 1024) })
     where
       wide : length r ≡ 32
       wide = ap length er ∙ length-wordwise bitXor 32 s all ∙ h .wide
@@ -91,23 +91,23 @@ module _ (sizes : List ℕ) (L : NodeLists) (count : ℕ) (all : List ℕ) (g : 
   tree : (d : Node) → node ≡ d → treeOf L n ≡ grow (treeOf L) (dupsBelow L (suc n)) d
   tree d e = tree-of L f n (o .within) d (sym en ∙ e)
 
-  by-tree : (r : List ℕ) (d : Node) → node ≡ d → SetOf r (passing sizes (grow (treeOf L) (dupsBelow L (suc n)) d)) → SetOf r (passing sizes (treeOf L n))
-  by-tree r d e = subst (λ (p : Policy). SetOf r (passing sizes p)) (sym (tree d e))
+  by-tree : (r : List ℕ) (d : Node) → node ≡ d → HasMembers r (passing sizes (grow (treeOf L) (dupsBelow L (suc n)) d)) → HasMembers r (passing sizes (treeOf L n))
+  by-tree r d e = subst (λ (p : Policy). HasMembers r (passing sizes p)) (sym (tree d e))
 
   module _ (r : List ℕ) where
-    pub drop-node : node ≡ Drop → r ≡ emptySet → SetOf r (passing sizes (treeOf L n))
+    pub drop-node : node ≡ Drop → r ≡ emptySet → HasMembers r (passing sizes (treeOf L n))
     unfolding grow passes
     drop-node e h = by-tree r Drop e (nothing-passes sizes drop r (λ γ. refl) h)
 
-    pub dup-node : node ≡ Dup → r ≡ emptySet → SetOf r (passing sizes (treeOf L n))
+    pub dup-node : node ≡ Dup → r ≡ emptySet → HasMembers r (passing sizes (treeOf L n))
     unfolding grow passes
     dup-node e h = by-tree r Dup e (nothing-passes sizes (dup (dupsBelow L (suc n))) r (λ γ. refl) h)
 
-    pub star-node : (c : ℕ) → node ≡ Star c → r ≡ emptySet → SetOf r (passing sizes (treeOf L n))
+    pub star-node : (c : ℕ) → node ≡ Star c → r ≡ emptySet → HasMembers r (passing sizes (treeOf L n))
     unfolding grow passes
     star-node c e h = by-tree r (Star c) e (nothing-passes sizes (star (treeOf L c)) r (λ γ. refl) h)
 
-    pub id-node : node ≡ Id → r ≡ all → SetOf r (passing sizes (treeOf L n))
+    pub id-node : node ≡ Id → r ≡ all → HasMembers r (passing sizes (treeOf L n))
     unfolding grow passes passing everyPacket
     id-node e h = by-tree r Id e (record { wide = ap length h ∙ g .every .wide; members = λ γ. ap (λ (x : List ℕ). member x γ) h ∙ g .every .members γ ∙ sym (whole (ltb γ (product sizes))) })
       where
@@ -115,12 +115,12 @@ module _ (sizes : List ℕ) (L : NodeLists) (count : ℕ) (all : List ℕ) (g : 
         whole true = refl
         whole false = refl
 
-    pub field-node : (a : FieldAction) → node ≡ Field a → SetOf r (passing sizes (field a)) → SetOf r (passing sizes (treeOf L n))
+    pub field-node : (a : FieldAction) → node ≡ Field a → HasMembers r (passing sizes (field a)) → HasMembers r (passing sizes (treeOf L n))
     unfolding grow
     field-node a e h = by-tree r (Field a) e h
 
-    module _ (x y : ℕ) (s t : List ℕ) (a : SetOf s (passing sizes (treeOf L x))) (b : SetOf t (passing sizes (treeOf L y))) where
-      pub sum-node : node ≡ Sum x y → r ≡ unionOf 32 s t → SetOf r (passing sizes (treeOf L n))
+    module _ (x y : ℕ) (s t : List ℕ) (a : HasMembers s (passing sizes (treeOf L x))) (b : HasMembers t (passing sizes (treeOf L y))) where
+      pub sum-node : node ≡ Sum x y → r ≡ unionOf 32 s t → HasMembers r (passing sizes (treeOf L n))
       unfolding grow passes passing
       sum-node e h = by-tree r (Sum x y) e (record { wide = wide; members = λ γ. go γ (lt-or-le γ 1024) })
         where
@@ -137,7 +137,7 @@ module _ (sizes : List ℕ) (L : NodeLists) (count : ℕ) (all : List ℕ) (g : 
               ∙ join (ltb γ (product sizes)) (passes sizes (treeOf L x) γ) (passes sizes (treeOf L y) γ)
           go γ (inr l) = member-beyond r γ wide l ∙ sym (none-beyond sizes γ (passes sizes (treeOf L x) γ || passes sizes (treeOf L y) γ) (g .sized .small) l)
 
-      pub seq-node : node ≡ Seq x y → Met s t r → SetOf r (passing sizes (treeOf L n))
+      pub seq-node : node ≡ Seq x y → Met s t r → HasMembers r (passing sizes (treeOf L n))
       unfolding grow passes passing
       seq-node e h = by-tree r (Seq x y) e (record { wide = h .wide; members = λ γ. h .members γ ∙ ap₂ _&&_ (a .members γ) (b .members γ) ∙ meet (ltb γ (product sizes)) (passes sizes (treeOf L x) γ) (passes sizes (treeOf L y) γ) })
         where

@@ -13,7 +13,7 @@ use Rattle.policy.proofs.EachLaws.{each-map}
 use Rattle.policy.proofs.LabelLaws.{dups-more}
 use Rattle.policy.proofs.Trees.{ChildrenBelow, children-below, tree-fuel, two-below, one-below}
 use Rattle.loaded.specs.Loaded.{treeOf}
-use Rattle.loaded.specs.Loading.{Formed, Placed}
+use Rattle.loaded.specs.Loading.{Formed, ChildrenPlaced}
 
 pub legal-formed : (sizes : List ℕ) (L : NodeLists) → Legal sizes L → Formed L
 legal-formed sizes L g = record { sizes = sizes; legal = g }
@@ -44,8 +44,8 @@ module _ (L : NodeLists) (f : Formed L) where
     small = let h = few in omega arith
 
     -- the children of a node have a place
-    pub placed : Placed (nodeAt L n)
-    unfolding Placed
+    pub placed : ChildrenPlaced (nodeAt L n)
+    unfolding ChildrenPlaced
     placed = let h = few in each-map (λ c. c < n) (λ c. c < 512) (children (nodeAt L n)) (λ c k. omega arith) (below n l)
 
     -- a tree by the trees of the children
@@ -69,8 +69,8 @@ module _ (L : NodeLists) (f : Formed L) where
     pub tree-of : (d : Node) → nodeAt L n ≡ d → treeOf L n ≡ grow (treeOf L) (dupsBelow L (suc n)) d
     tree-of d e = tree-grow ∙ ap (grow (treeOf L) (dupsBelow L (suc n))) e
 
-    pub placed-read : (node : Node) → node ≡ nodeAt L n → Placed node
-    placed-read node e = subst Placed (sym e) placed
+    pub placed-read : (node : Node) → node ≡ nodeAt L n → ChildrenPlaced node
+    placed-read node e = subst ChildrenPlaced (sym e) placed
 
     pub in-lists : (n < length (L .kind)) × (n < length (L .first)) × (n < length (L .second))
     unfolding nodeCount

@@ -16,24 +16,24 @@ use Rattle.policy.proofs.EachLaws.{each-map}
 use Rattle.policy.proofs.Trees.{two-below, one-below}
 use Rattle.policy.proofs.VisitLaws.{no-child}
 use Rattle.loaded.specs.Loaded.{treeOf, Linked, Rises, ends, rises}
-use Rattle.loaded.specs.Loading.{Formed, Alone, told, wayFrom, Ways}
+use Rattle.loaded.specs.Loading.{Formed, Alone, waysTold, wayFrom, Ways}
 use Rattle.loaded.specs.Tests.{isTest}
 use Rattle.loaded.proofs.Children.{apart, not-first, not-rest, two-differ}
 use Rattle.loaded.proofs.Trees.{below, few, some}
 
 -- ---- one node
 
-pub told-flag : (f n : ℕ) (ups : List ℕ) (node : Node) → (f ≡ 0 → ⊥) → ups ≡ told f n ups node
-unfolding told
+pub told-flag : (f n : ℕ) (ups : List ℕ) (node : Node) → (f ≡ 0 → ⊥) → ups ≡ waysTold f n ups node
+unfolding waysTold
 told-flag zero n ups node h = absurd (h refl)
 told-flag (suc f) n ups node h = refl
 
-pub told-is : (f n : ℕ) (ups : List ℕ) (node d : Node) → f ≡ 0 → node ≡ d → told 0 n ups d ≡ told f n ups node
-told-is f n ups node d z e = sym (ap₂ (λ (f : ℕ) (x : Node). told f n ups x) z e)
+pub told-is : (f n : ℕ) (ups : List ℕ) (node d : Node) → f ≡ 0 → node ≡ d → waysTold 0 n ups d ≡ waysTold f n ups node
+told-is f n ups node d z e = sym (ap₂ (λ (f : ℕ) (x : Node). waysTold f n ups x) z e)
 
 -- entries that are no children stay
-told-other : (n : ℕ) (ups : List ℕ) (d : Node) (c : ℕ) → occurrences c (children d) ≡ 0 → getD (told 0 n ups d) c 0 ≡ getD ups c 0
-unfolding told children
+told-other : (n : ℕ) (ups : List ℕ) (d : Node) (c : ℕ) → occurrences c (children d) ≡ 0 → getD (waysTold 0 n ups d) c 0 ≡ getD ups c 0
+unfolding waysTold children
 told-other n ups Drop c h = refl
 told-other n ups Id c h = refl
 told-other n ups (Field a) c h = refl
@@ -46,8 +46,8 @@ told-other n ups (Seq x y) c h =
     ∙ getD-set-other ups x c n 0 (not-first c x (y ∷ []) h)
 told-other n ups (Star x) c h = getD-set-other ups x c n 0 (not-first c x [] h)
 
-told-length : (n : ℕ) (ups : List ℕ) (d : Node) → length (told 0 n ups d) ≡ length ups
-unfolding told
+told-length : (n : ℕ) (ups : List ℕ) (d : Node) → length (waysTold 0 n ups d) ≡ length ups
+unfolding waysTold
 told-length n ups Drop = refl
 told-length n ups Id = refl
 told-length n ups (Field a) = refl
@@ -106,23 +106,23 @@ module _ (L : NodeLists) (f : Formed L) where
 
     module _ (moves : isTest (treeOf L n) ≡ false) where
       abbrev told-list : List ℕ
-      told-list = told 0 n ups (nodeAt L n)
+      told-list = waysTold 0 n ups (nodeAt L n)
 
       short : (x : ℕ) → x < n → x < length ups
       short x l = let h = few L f in let w = within in omega (arith, t .long)
 
       -- its own children
       own : Linked (wayFrom told-list) n (nodeAt L n)
-      unfolding Linked told children
+      unfolding Linked waysTold children
       own = go (nodeAt L n) refl
         where
-          self : (d : Node) → nodeAt L n ≡ d → getD (told 0 n ups d) n 0 ≡ getD ups n 0
+          self : (d : Node) → nodeAt L n ≡ d → getD (waysTold 0 n ups d) n 0 ≡ getD ups n 0
           self d e = told-other n ups d n (subst (λ (x : Node). occurrences n (children x) ≡ 0) e (no-child-here))
             where
               no-child-here : occurrences n (children (nodeAt L n)) ≡ 0
               no-child-here = no-child L (below L f) n n within (omega arith)
 
-          go : (d : Node) → nodeAt L n ≡ d → Linked (wayFrom (told 0 n ups d)) n d
+          go : (d : Node) → nodeAt L n ≡ d → Linked (wayFrom (waysTold 0 n ups d)) n d
           go Drop e = tt
           go Id e = tt
           go (Field a) e = tt
@@ -142,10 +142,10 @@ module _ (L : NodeLists) (f : Formed L) where
           go (Star x) e = getD-set-same ups x n 0 (short x (one-below L (below L f) n x within (ap children e)))
 
       heard : (j : ℕ) → Heard ups told-list n j
-      unfolding told children
+      unfolding waysTold children
       heard j = go (nodeAt L n) refl
         where
-          go : (d : Node) → nodeAt L n ≡ d → Heard ups (told 0 n ups d) n j
+          go : (d : Node) → nodeAt L n ≡ d → Heard ups (waysTold 0 n ups d) n j
           go Drop e = nothing refl
           go Id e = nothing refl
           go (Field a) e = nothing refl
@@ -155,11 +155,11 @@ module _ (L : NodeLists) (f : Formed L) where
               b : (x < n) × (y < n)
               b = two-below L (below L f) n x y within (ap children e)
 
-              first : Dec (j ≡ x) → (j ≡ y → ⊥) → Heard ups (told 0 n ups (Sum x y)) n j
+              first : Dec (j ≡ x) → (j ≡ y → ⊥) → Heard ups (waysTold 0 n ups (Sum x y)) n j
               first (yes q) o = its-way (let h = b .0 in omega arith) (getD-set-other (set ups x (getD ups n 0)) y j (getD ups n 0) 0 o ∙ set-at ups x j (getD ups n 0) q (short x (b .0)))
               first (no q) o = nothing (getD-set-other (set ups x (getD ups n 0)) y j (getD ups n 0) 0 o ∙ getD-set-other ups x j (getD ups n 0) 0 q)
 
-              second : Dec (j ≡ y) → Heard ups (told 0 n ups (Sum x y)) n j
+              second : Dec (j ≡ y) → Heard ups (waysTold 0 n ups (Sum x y)) n j
               second (yes q) = its-way (let h = b .1 in omega arith) (set-at (set ups x (getD ups n 0)) y j (getD ups n 0) q (subst (λ (m : ℕ). y < m) (sym (length-set ups x (getD ups n 0))) (short y (b .1))))
               second (no q) = first (ℕ-discrete j x) q
           go (Seq x y) e = second (ℕ-discrete j y)
@@ -167,11 +167,11 @@ module _ (L : NodeLists) (f : Formed L) where
               b : (x < n) × (y < n)
               b = two-below L (below L f) n x y within (ap children e)
 
-              first : Dec (j ≡ x) → (j ≡ y → ⊥) → Heard ups (told 0 n ups (Seq x y)) n j
+              first : Dec (j ≡ x) → (j ≡ y → ⊥) → Heard ups (waysTold 0 n ups (Seq x y)) n j
               first (yes q) o = itself (let h = b .0 in omega arith) (getD-set-other (set ups x n) y j (getD ups n 0) 0 o ∙ set-at ups x j n q (short x (b .0)))
               first (no q) o = nothing (getD-set-other (set ups x n) y j (getD ups n 0) 0 o ∙ getD-set-other ups x j n 0 q)
 
-              second : Dec (j ≡ y) → Heard ups (told 0 n ups (Seq x y)) n j
+              second : Dec (j ≡ y) → Heard ups (waysTold 0 n ups (Seq x y)) n j
               second (yes q) = its-way (let h = b .1 in omega arith) (set-at (set ups x n) y j (getD ups n 0) q (subst (λ (m : ℕ). y < m) (sym (length-set ups x n)) (short y (b .1))))
               second (no q) = first (ℕ-discrete j x) q
           go (Star x) e = first (ℕ-discrete j x)
@@ -179,7 +179,7 @@ module _ (L : NodeLists) (f : Formed L) where
               b : x < n
               b = one-below L (below L f) n x within (ap children e)
 
-              first : Dec (j ≡ x) → Heard ups (told 0 n ups (Star x)) n j
+              first : Dec (j ≡ x) → Heard ups (waysTold 0 n ups (Star x)) n j
               first (yes q) = itself (let h = b in omega arith) (set-at ups x j n q (short x b))
               first (no q) = nothing (getD-set-other ups x j n 0 q)
 
@@ -232,7 +232,7 @@ module _ (L : NodeLists) (f : Formed L) where
         split m a l z (yes e) = absurd (true≢false (sym still ∙ subst (λ (x : ℕ). isTest (treeOf L x) ≡ false) e z))
         split m a l z (no e) = t .linked m (omega arith) l z
 
-    pub telling-turn : (alone : List ℕ) → Alone L alone → (node : Node) → node ≡ nodeAt L n → (ups′ : List ℕ) → ups′ ≡ told (getD alone n 0) n ups node → Telling L ups′ n
+    pub telling-turn : (alone : List ℕ) → Alone L alone → (node : Node) → node ≡ nodeAt L n → (ups′ : List ℕ) → ups′ ≡ waysTold (getD alone n 0) n ups node → Telling L ups′ n
     unfolding one
     telling-turn alone a node en ups′ eu = go (isTest (treeOf L n)) refl
       where

@@ -26,8 +26,8 @@ pub record Formed (L : NodeLists) : Type 0 where
   pub legal : Legal sizes L
 
 -- the children of a node have a place in a list of 512
-unfoldable pub Placed : Node → Type 0
-Placed node = Each (λ c. c < 512) (children node)
+unfoldable pub ChildrenPlaced : Node → Type 0
+ChildrenPlaced node = Each (λ c. c < 512) (children node)
 
 -- ---- tests alone
 
@@ -56,15 +56,15 @@ pub record Alone (L : NodeLists) (alone : List ℕ) : Type 0 where
 -- ---- the ways up
 
 -- a node that is no tests alone tells its children where what comes out of them goes on
-unfoldable pub told : ℕ → ℕ → List ℕ → Node → List ℕ
-told zero n ups Drop = ups
-told zero n ups Id = ups
-told zero n ups (Field a) = ups
-told zero n ups Dup = ups
-told zero n ups (Sum l r) = set (set ups l (getD ups n 0)) r (getD ups n 0)
-told zero n ups (Seq l r) = set (set ups l n) r (getD ups n 0)
-told zero n ups (Star c) = set ups c n
-told (suc f) n ups node = ups
+unfoldable pub waysTold : ℕ → ℕ → List ℕ → Node → List ℕ
+waysTold zero n ups Drop = ups
+waysTold zero n ups Id = ups
+waysTold zero n ups (Field a) = ups
+waysTold zero n ups Dup = ups
+waysTold zero n ups (Sum l r) = set (set ups l (getD ups n 0)) r (getD ups n 0)
+waysTold zero n ups (Seq l r) = set (set ups l n) r (getD ups n 0)
+waysTold zero n ups (Star c) = set ups c n
+waysTold (suc f) n ups node = ups
 
 -- the way up from a node
 abbrev pub wayFrom : List ℕ → ℕ → ℕ
@@ -81,14 +81,14 @@ pub record Labels (L : NodeLists) (labels : List ℕ) : Type 0 where
   pub labelled : (n : ℕ) → n < nodeCount L → getD labels n 0 ≡ dupsBelow L (suc n)
 
 -- a dup is put at the place of its number
-unfoldable pub placed : ℕ → ℕ → List ℕ → Node → List ℕ
-placed label n places Drop = places
-placed label n places Id = places
-placed label n places (Field a) = places
-placed label n places Dup = set places label n
-placed label n places (Sum l r) = places
-placed label n places (Seq l r) = places
-placed label n places (Star c) = places
+unfoldable pub dupPlaced : ℕ → ℕ → List ℕ → Node → List ℕ
+dupPlaced label n places Drop = places
+dupPlaced label n places Id = places
+dupPlaced label n places (Field a) = places
+dupPlaced label n places Dup = set places label n
+dupPlaced label n places (Sum l r) = places
+dupPlaced label n places (Seq l r) = places
+dupPlaced label n places (Star c) = places
 
 -- the nodes of the remainders; there is none: 512
 pub record Places (L : NodeLists) (places : List ℕ) : Type 0 where
@@ -100,12 +100,12 @@ pub record Places (L : NodeLists) (places : List ℕ) : Type 0 where
 -- ---- sets
 
 -- the set has these members
-pub record SetOf (set : List ℕ) (X : Members) : Type 0 where
+pub record HasMembers (set : List ℕ) (X : Members) : Type 0 where
   pub wide : length set ≡ 32
   pub members : (γ : ℕ) → member set γ ≡ X γ
 
 -- the packets from `from` on, below `to`, are added
-pub record Ran (from to : ℕ) (set set′ : List ℕ) : Type 0 where
+pub record RangeAdded (from to : ℕ) (set set′ : List ℕ) : Type 0 where
   pub wide : length set′ ≡ 32
   pub members : (γ : ℕ) → member set′ γ ≡ member set γ || (leb from γ && ltb γ to)
 
@@ -126,7 +126,7 @@ withValue sizes f v γ = ltb γ (product sizes) && eqb (valueAt sizes f γ) v
 pub record Fielding (sizes : List ℕ) (count : ℕ) (all : List ℕ) (a : FieldAction) : Type 0 where
   pub sized : LegalSizes sizes
   pub counted : count ≡ product sizes
-  pub every : SetOf all (everyPacket sizes)
+  pub every : HasMembers all (everyPacket sizes)
   pub inField : badField sizes (fieldOf a) (valueOf a) ≡ false
 
 -- a policy to load, and the packets below N
@@ -134,7 +134,7 @@ pub record Loading (sizes : List ℕ) (L : NodeLists) (count : ℕ) (all : List 
   pub sized : LegalSizes sizes
   pub legal : Legal sizes L
   pub counted : count ≡ product sizes
-  pub every : SetOf all (everyPacket sizes)
+  pub every : HasMembers all (everyPacket sizes)
 
 -- node n of the policy is made of tests alone
 pub record TestNode (L : NodeLists) (n : ℕ) : Type 0 where
@@ -142,7 +142,7 @@ pub record TestNode (L : NodeLists) (n : ℕ) : Type 0 where
   pub alone : isTest (treeOf L n) ≡ true
 
 -- slot k has these members, and the other slots are as they were
-pub record Kept (k : ℕ) (X : Members) (tests tests′ : List ℕ) : Type 0 where
+pub record SlotFilled (k : ℕ) (X : Members) (tests tests′ : List ℕ) : Type 0 where
   pub long : length tests′ ≡ length tests
   pub here : (γ : ℕ) → slot tests′ k γ ≡ X γ
   pub others : (m γ : ℕ) → (m ≡ k → ⊥) → slot tests′ m γ ≡ slot tests m γ
@@ -166,10 +166,10 @@ testUnder alone (suc f) node = 512
 -- node c, if it is one, gets the next set
 pub record Gave (sizes : List ℕ) (L : NodeLists) (c k : ℕ) (sets tests : List ℕ) (k′ : ℕ) (sets′ tests′ : List ℕ) : Type 0 where
   pub none : 512 ≤ c → (k′ ≡ k) × (sets′ ≡ sets) × (tests′ ≡ tests)
-  pub some : c < 512 → (k′ ≡ k + 1) × (sets′ ≡ set sets c (k + 1)) × Kept (k + 1) (passing sizes (treeOf L c)) tests tests′
+  pub some : c < 512 → (k′ ≡ k + 1) × (sets′ ≡ set sets c (k + 1)) × SlotFilled (k + 1) (passing sizes (treeOf L c)) tests tests′
 
 -- the sets of the tests that may be entered: those under nodes that are no tests alone, and the root
-pub record Numbered (sizes : List ℕ) (L : NodeLists) (sets tests : List ℕ) : Type 0 where
+pub record TestSets (sizes : List ℕ) (L : NodeLists) (sets tests : List ℕ) : Type 0 where
   pub small : (n : ℕ) → getD sets n 0 ≤ 256
   pub right : (n : ℕ) → 0 < getD sets n 0 → (γ : ℕ) → slot tests (getD sets n 0) γ ≡ passing sizes (treeOf L n) γ
   pub given : (n : ℕ) → n < nodeCount L → isTest (treeOf L n) ≡ false → Each (λ c. isTest (treeOf L c) ≡ true → 0 < getD sets c 0) (children (nodeAt L n))

@@ -3,7 +3,7 @@ ghost use Rattle.policy.specs.AsLists.{asLists};
 ghost use mathlib.Core.List.{[]};
 ghost use mathlib.Core.Path.{_≡_};
 ghost use Rattle.policy.specs.declared.Node.the-variants.{Field};
-ghost use Rattle.loaded.specs.Loading.{Formed, Placed, aloneOf, Alone};
+ghost use Rattle.loaded.specs.Loading.{Formed, ChildrenPlaced, aloneOf, Alone};
 use policy::FieldAction;
 use policy::Node;
 
@@ -19,7 +19,7 @@ fn is_test(action: FieldAction) -> u16
 
 // Inner. Whether a node is tests alone, from what is known of its children.
 fn flag_of(node: Node, alone: &[u16; 512]) -> u16
-    requires { ⌜ Placed node ⌝ }
+    requires { ⌜ ChildrenPlaced node ⌝ }
     ensures { λ r. ⌜ r ≡ aloneOf (now (alone .entry)) node ⌝ }
 {
     match node {

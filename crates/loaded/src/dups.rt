@@ -3,7 +3,7 @@ ghost use Prim.Native.Nat.{_+_, _<_};
 ghost use mathlib.Core.Path.{_≡_};
 ghost use Rattle.policy.specs.AsLists.{asLists};
 ghost use Rattle.policy.specs.NodeLists.{isDup, one};
-ghost use Rattle.loaded.specs.Loading.{Formed, Labels, placed, Places};
+ghost use Rattle.loaded.specs.Loading.{Formed, Labels, dupPlaced, Places};
 use policy::Node;
 
 // Inner. The number of the dups up to and with a node, where there are d before it.
@@ -41,7 +41,7 @@ pub fn labels_of(kind: &[u8], first: &[u16], second: &[u16]) -> [u16; 512]
 // Inner. A dup is put at the place of its number.
 fn put(node: Node, label: u16, n: usize, places: &mut [u16; 32])
     requires { ⌜ (label < 32) × (n < 512) ⌝ }
-    ensures { λ _. ⌜ now (places .exit) ≡ placed label n (now (places .entry)) node ⌝ }
+    ensures { λ _. ⌜ now (places .exit) ≡ dupPlaced label n (now (places .entry)) node ⌝ }
 {
     match node {
         Node::Dup => {

@@ -1,12 +1,12 @@
 // The guard of a node: a packet set that holds every packet which the node lets through or leads to a dup.
 ghost use mathlib.Core.Path.{_≡_};
 ghost use Rattle.policy.specs.AsLists.{asLists};
-ghost use Rattle.loaded.specs.Loading.{Formed, Placed, guardOf, Guards};
+ghost use Rattle.loaded.specs.Loading.{Formed, ChildrenPlaced, guardOf, Guards};
 use policy::Node;
 
 // Inner. The guard of a node with this flag and this set, from the guards of its children.
 fn guard_of(node: Node, flag: u16, set: u16, guards: &[u16; 512]) -> u16
-    requires { ⌜ Placed node ⌝ }
+    requires { ⌜ ChildrenPlaced node ⌝ }
     ensures { λ r. ⌜ r ≡ guardOf (now (guards .entry)) flag set node ⌝ }
 {
     if flag != 0 {

@@ -3,10 +3,10 @@ ghost use Prim.Native.Nat.{_<_};
 ghost use mathlib.Core.Path.{_≡_};
 ghost use lib.ListN.{length, getD};
 ghost use Rattle.policy.specs.AsLists.{asLists};
-ghost use Rattle.loaded.specs.Loading.{Placed, Alone, Loading, TestNode, pick, testUnder, Gave, Numbered};
+ghost use Rattle.loaded.specs.Loading.{ChildrenPlaced, Alone, Loading, TestNode, pick, testUnder, Gave, TestSets};
 use crate::Tests;
 use crate::sets;
-use packet_set::PacketSet;
+use packet_set::PacketWords;
 use policy::Node;
 
 // Inner. Node c where it is tests alone, and else d.
@@ -22,7 +22,7 @@ fn pick_test(alone: &[u16; 512], c: usize, d: usize) -> usize
 
 // Inner. The child that is tests alone, of a node that is not: there is at most one. 512: there is none.
 fn test_under(node: Node, flag: u16, alone: &[u16; 512]) -> usize
-    requires { ⌜ Placed node ⌝ }
+    requires { ⌜ ChildrenPlaced node ⌝ }
     ensures { λ r. ⌜ r ≡ testUnder (now (alone .entry)) flag node ⌝ }
 {
     if flag != 0 {
@@ -52,7 +52,7 @@ fn give(
     kind: &[u8],
     first: &[u16],
     second: &[u16],
-    all: &PacketSet,
+    all: &PacketWords,
     c: usize,
     k: usize,
     sets: &mut [u16; 512],
@@ -79,11 +79,11 @@ pub fn number(
     first: &[u16],
     second: &[u16],
     alone: &[u16; 512],
-    all: &PacketSet,
+    all: &PacketWords,
     tests: &mut Tests,
 ) -> [u16; 512]
     requires { ⌜ Loading (now sizes) (asLists (now kind) (now first) (now second)) count (now all) × Alone (asLists (now kind) (now first) (now second)) (now alone) × (length (now tests) ≡ 8224) ⌝ }
-    ensures { λ r. ⌜ Numbered (now (sizes .entry)) (asLists (now (kind .entry)) (now (first .entry)) (now (second .entry))) r (now (tests .exit)) ⌝ }
+    ensures { λ r. ⌜ TestSets (now (sizes .entry)) (asLists (now (kind .entry)) (now (first .entry)) (now (second .entry))) r (now (tests .exit)) ⌝ }
 {
     let mut sets = [0u16; 512];
     let mut k: usize = 0;

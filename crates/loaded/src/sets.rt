@@ -9,17 +9,17 @@ ghost use Rattle.policy.specs.Legality.{badField};
 ghost use Rattle.policy.specs.Tree.{field};
 ghost use Rattle.packet_set.specs.InnerMembers.{member};
 ghost use Rattle.loaded.specs.Loaded.{treeOf};
-ghost use Rattle.loaded.specs.Loading.{Ran, SetOf, Met, everyPacket, withValue, Fielding, Loading, TestNode, Kept};
+ghost use Rattle.loaded.specs.Loading.{RangeAdded, HasMembers, Met, everyPacket, withValue, Fielding, Loading, TestNode, SlotFilled};
 ghost use Rattle.loaded.specs.Tests.{passing};
 use crate::Tests;
-use packet_set::PacketSet;
+use packet_set::PacketWords;
 use policy::FieldAction;
 use policy::Node;
 
 // Inner. The set takes the packets from `from` on that are below `to`.
-fn insert_run(set: &mut PacketSet, from: u16, to: u16)
+fn insert_run(set: &mut PacketWords, from: u16, to: u16)
     requires { ⌜ (from ≤ to) × (to ≤ 1024) × (length (now set) ≡ 32) ⌝ }
-    ensures { λ _. ⌜ Ran from to (now (set .entry)) (now (set .exit)) ⌝ }
+    ensures { λ _. ⌜ RangeAdded from to (now (set .entry)) (now (set .exit)) ⌝ }
 {
     let mut packet = from;
     while packet < to {
@@ -29,9 +29,9 @@ fn insert_run(set: &mut PacketSet, from: u16, to: u16)
 }
 
 // Inner. The packets below N.
-pub fn every_packet(sizes: &[u16], count: u16) -> PacketSet
+pub fn every_packet(sizes: &[u16], count: u16) -> PacketWords
     requires { ⌜ LegalSizes (now sizes) × (count ≡ product (now sizes)) ⌝ }
-    ensures { λ r. ⌜ SetOf r (everyPacket (now (sizes .entry))) ⌝ }
+    ensures { λ r. ⌜ HasMembers r (everyPacket (now (sizes .entry))) ⌝ }
 {
     let mut set = packet_set::empty();
     insert_run(&mut set, 0, count);
@@ -39,9 +39,9 @@ pub fn every_packet(sizes: &[u16], count: u16) -> PacketSet
 }
 
 // Inner. The packets with a value in a field: runs as long as the field's stride, a period apart.
-pub fn with_value(sizes: &[u16], count: u16, field: u16, value: u16) -> PacketSet
+pub fn with_value(sizes: &[u16], count: u16, field: u16, value: u16) -> PacketWords
     requires { ⌜ LegalSizes (now sizes) × (count ≡ product (now sizes)) × (badField (now sizes) field value ≡ false) ⌝ }
-    ensures { λ r. ⌜ SetOf r (withValue (now (sizes .entry)) field value) ⌝ }
+    ensures { λ r. ⌜ HasMembers r (withValue (now (sizes .entry)) field value) ⌝ }
 {
     let at = field as usize;
     let stride = packet::stride_of(sizes, at);
@@ -56,7 +56,7 @@ pub fn with_value(sizes: &[u16], count: u16, field: u16, value: u16) -> PacketSe
 }
 
 // Inner. The first set keeps what is in the second.
-fn intersect(a: &mut PacketSet, b: &PacketSet)
+fn intersect(a: &mut PacketWords, b: &PacketWords)
     requires { ⌜ length (now a) ≡ 32 ⌝ }
     ensures { λ _. ⌜ Met (now (a .entry)) (now (b .entry)) (now (a .exit)) ⌝ }
 {
@@ -68,9 +68,9 @@ fn intersect(a: &mut PacketSet, b: &PacketSet)
 }
 
 // Inner. The packets that pass a test of one field; a change counts as a test that nothing passes.
-fn field_set(sizes: &[u16], count: u16, all: &PacketSet, action: FieldAction) -> PacketSet
+fn field_set(sizes: &[u16], count: u16, all: &PacketWords, action: FieldAction) -> PacketWords
     requires { ⌜ Fielding (now sizes) count (now all) action ⌝ }
-    ensures { λ r. ⌜ SetOf r (passing (now (sizes .entry)) (field action)) ⌝ }
+    ensures { λ r. ⌜ HasMembers r (passing (now (sizes .entry)) (field action)) ⌝ }
 {
     match action {
         FieldAction::Equals(f, v) => with_value(sizes, count, f, v),
@@ -90,11 +90,11 @@ pub fn test_set(
     kind: &[u8],
     first: &[u16],
     second: &[u16],
-    all: &PacketSet,
+    all: &PacketWords,
     n: usize,
-) -> PacketSet
+) -> PacketWords
     requires { ⌜ Loading (now sizes) (asLists (now kind) (now first) (now second)) count (now all) × TestNode (asLists (now kind) (now first) (now second)) n ⌝ }
-    ensures { λ r. ⌜ SetOf r (passing (now (sizes .entry)) (treeOf (asLists (now (kind .entry)) (now (first .entry)) (now (second .entry))) n)) ⌝ }
+    ensures { λ r. ⌜ HasMembers r (passing (now (sizes .entry)) (treeOf (asLists (now (kind .entry)) (now (first .entry)) (now (second .entry))) n)) ⌝ }
 {
     match policy::lent::node_at(kind, first, second, n) {
         Node::Drop => packet_set::empty(),
@@ -118,9 +118,9 @@ pub fn test_set(
 }
 
 // Inner. Set k of the tests becomes the set.
-pub fn keep(tests: &mut Tests, k: usize, set: &PacketSet)
+pub fn keep(tests: &mut Tests, k: usize, set: &PacketWords)
     requires { ⌜ (k ≤ 256) × (length (now tests) ≡ 8224) × (length (now set) ≡ 32) ⌝ }
-    ensures { λ _. ⌜ Kept k (member (now (set .entry))) (now (tests .entry)) (now (tests .exit)) ⌝ }
+    ensures { λ _. ⌜ SlotFilled k (member (now (set .entry))) (now (tests .entry)) (now (tests .exit)) ⌝ }
 {
     let start = 32 * k;
     let mut i = 0;

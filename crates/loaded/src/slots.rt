@@ -3,12 +3,12 @@ ghost use Prim.Native.Nat.{ℕ, _≤_};
 ghost use mathlib.Core.Path.{_≡_};
 ghost use Rattle.policy.specs.AsLists.{asLists};
 ghost use Rattle.policy.specs.declared.Node.the-variants.{Star};
-ghost use Rattle.loaded.specs.Loading.{Formed, Placed, Flags, seconded};
+ghost use Rattle.loaded.specs.Loading.{Formed, ChildrenPlaced, Flags, seconded};
 use policy::Node;
 
 // Inner. A sequence flags its second part.
 fn flag_second(node: Node, parts: &mut [u16; 512])
-    requires { ⌜ Placed node ⌝ }
+    requires { ⌜ ChildrenPlaced node ⌝ }
     ensures { λ _. ⌜ now (parts .exit) ≡ seconded (now (parts .entry)) node ⌝ }
 {
     match node {

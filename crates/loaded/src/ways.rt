@@ -2,13 +2,13 @@
 ghost use Prim.Native.Nat.{_<_};
 ghost use mathlib.Core.Path.{_≡_};
 ghost use Rattle.policy.specs.AsLists.{asLists};
-ghost use Rattle.loaded.specs.Loading.{Formed, Placed, Alone, told, Ways};
+ghost use Rattle.loaded.specs.Loading.{Formed, ChildrenPlaced, Alone, waysTold, Ways};
 use policy::Node;
 
 // Inner. Node n, with this flag, tells its children where what comes out of them goes on.
 fn tell(node: Node, n: usize, flag: u16, ups: &mut [u16; 512])
-    requires { ⌜ Placed node × (n < 512) ⌝ }
-    ensures { λ _. ⌜ now (ups .exit) ≡ told flag n (now (ups .entry)) node ⌝ }
+    requires { ⌜ ChildrenPlaced node × (n < 512) ⌝ }
+    ensures { λ _. ⌜ now (ups .exit) ≡ waysTold flag n (now (ups .entry)) node ⌝ }
 {
     if flag != 0 {
         return;

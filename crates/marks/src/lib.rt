@@ -10,13 +10,13 @@ ghost use Rattle.spans.specs.Spans.{touched};
 ghost use Rattle.marks.specs.Marks.{Blank, Marking, Unmarked, NextMarked, Forgotten};
 use packet_set::Lowest;
 use packet_set::Mask;
-use packet_set::PacketSet;
+use packet_set::PacketWords;
 
 // The masks of 1,024 packets, then the set of those that are touched.
 pub type Next = [Mask; 1056];
 
 // Inner. The packets that have marks in one of two next lists.
-pub fn either(left: &Next, right: &Next) -> PacketSet
+pub fn either(left: &Next, right: &Next) -> PacketWords
     ensures { λ r. ⌜ ((γ : ℕ) → member r γ ≡ (touched (now (left .entry)) γ || touched (now (right .entry)) γ)) ⌝ }
 {
     let mut set = [0u32; 32];
@@ -29,7 +29,7 @@ pub fn either(left: &Next, right: &Next) -> PacketSet
 }
 
 // Inner. The lowest packet of the set that is not below `from`, or N.
-pub fn next_marked(set: &PacketSet, from: u16, words: usize, count: u16) -> u16
+pub fn next_marked(set: &PacketWords, from: u16, words: usize, count: u16) -> u16
     requires { ⌜ (words ≤ 32) × (count ≤ 32 * words) × (from ≤ count) ⌝ }
     requires { ⌜ ((γ : ℕ) → T (member (now set) γ) → γ < count) ⌝ }
     ensures { λ r. ⌜ NextMarked count from (member (now (set .entry))) r ⌝ }

@@ -18,7 +18,7 @@ use borrow.Author.Tests.{lt-ltb, ltb-true}
 use Rattle.io.specs.Counts.{clamped}
 use Rattle.libc.specs.Io.{Moved}
 use Rattle.printing.specs.InnerWrote.{Wrote}
-use Rattle.netkat.specs.InnerReading.{added, lengthAfter, bytesAfter, goesOn, AfterRead, ReadOnce, GoneOn, ReadAll, to-end, endless}
+use Rattle.netkat.specs.InnerReading.{bytesKept, lengthAfter, bytesAfter, goesOn, AfterRead, ReadOnce, GoneOn, ReadAll, to-end, endless}
 
 -- what there is room for is written where no more than the whole chunk is
 pub wrote-room : {old new : List ℕ} (chunk : List ℕ) (room : ℕ) {at end n : ℕ} → n ≡ min room (length chunk) → Wrote old new at end (take n chunk) → Wrote old new at end (take room chunk)
@@ -48,7 +48,7 @@ module _ (old : List ℕ) (len : ℕ) (chunk : List ℕ) where
   -- a read that did not
   pub bytes-kept : {new : List ℕ} {r n : ℕ} {z got : ℤ} → z ≡ got → ltZ z (pos 0) ≡ false → Moved (length chunk) got → n ≡ clamped z (length chunk)
       → Wrote old new len r (take (length old - len) (take n chunk)) → AfterRead old len chunk got r (ltb 0 n) new
-  unfolding added lengthAfter bytesAfter goesOn
+  unfolding bytesKept lengthAfter bytesAfter goesOn
   bytes-kept {new} {r} {n} {z} {got} p t h e W = go got (subst (λ x. ltZ x (pos 0) ≡ false) p t) h (subst (λ x. n ≡ clamped x (length chunk)) p e)
     where
       goes : (k : ℕ) → ltb 0 k ≡ goesOn (pos k)
@@ -73,7 +73,7 @@ kept-within {old} {new} {len} {n} h R = go (R .got) (R .after .kept) (R .after .
   where
     go : (got : ℤ) → n ≡ lengthAfter old len (R .chunk) got → new ≡ bytesAfter old len (R .chunk) got → n ≤ length new
     go (pos k) e b =
-        let xs = added old len (R .chunk) k in
+        let xs = bytesKept old len (R .chunk) k in
         omega (arith, e, ap length b, length-append (take len old ++ xs) (drop (len + length xs) old), length-append (take len old) xs, length-take-le len old h)
     go (negsuc k) e b = omega (arith, e)
 

@@ -8,17 +8,17 @@ use lib.ListN.{length, take, drop}
 
 module _ (old : List ℕ) (len : ℕ) (chunk : List ℕ) where
   -- of the bytes that were read, as many as there is room for behind the first len
-  unfoldable pub added : ℕ → List ℕ
-  added n = take (length old - len) (take n chunk)
+  unfoldable pub bytesKept : ℕ → List ℕ
+  bytesKept n = take (length old - len) (take n chunk)
 
   -- how many bytes are kept after the read; after one that failed none, since half an input must not get a verdict
   unfoldable pub lengthAfter : ℤ → ℕ
-  lengthAfter (pos n) = len + length (added n)
+  lengthAfter (pos n) = len + length (bytesKept n)
   lengthAfter (negsuc k) = 0
 
   -- what is read stands behind what there was
   unfoldable pub bytesAfter : ℤ → List ℕ
-  bytesAfter (pos n) = take len old ++ added n ++ drop (len + length (added n)) old
+  bytesAfter (pos n) = take len old ++ bytesKept n ++ drop (len + length (bytesKept n)) old
   bytesAfter (negsuc k) = old
 
 -- the input goes on after a read that handed over bytes

@@ -5,7 +5,7 @@ ghost use lib.ListN.{length};
 ghost use Rattle.packet_set.specs.Bits.{maskBits, bit, marked, onlyBits};
 ghost use Rattle.packet_set.specs.InnerMembers.{member, wordsFor, emptySet, withPacket, unionOf, exclusiveOrOf, lowestIn, lowestAnswer};
 
-pub type PacketSet = [u32; 32];
+pub type PacketWords = [u32; 32];
 
 // A state: bit 0 stands for the whole policy, bit i for what remains after dup i.
 pub type Mask = u32;
@@ -43,14 +43,14 @@ pub fn words_for(n: usize) -> usize
 }
 
 // Inner.
-pub fn empty() -> PacketSet
+pub fn empty() -> PacketWords
     ensures { λ r. ⌜ r ≡ emptySet ⌝ }
 {
     [0u32; 32]
 }
 
 // Inner. Packet is in the set.
-pub fn contains(set: &PacketSet, packet: u16) -> bool
+pub fn contains(set: &PacketWords, packet: u16) -> bool
     requires { ⌜ packet < 1024 ⌝ }
     ensures { λ r. ⌜ r ≡ member (now (set .entry)) packet ⌝ }
 {
@@ -60,7 +60,7 @@ pub fn contains(set: &PacketSet, packet: u16) -> bool
 }
 
 // Inner. The set takes the packet.
-pub fn insert(set: &mut PacketSet, packet: u16)
+pub fn insert(set: &mut PacketWords, packet: u16)
     requires { ⌜ packet < 1024 ⌝ }
     ensures { λ _. ⌜ now (set .exit) ≡ withPacket (now (set .entry)) packet ⌝ }
 {
@@ -70,7 +70,7 @@ pub fn insert(set: &mut PacketSet, packet: u16)
 }
 
 // Inner.
-pub fn singleton(packet: u16) -> PacketSet
+pub fn singleton(packet: u16) -> PacketWords
     requires { ⌜ packet < 1024 ⌝ }
     ensures { λ r. ⌜ r ≡ withPacket emptySet packet ⌝ }
 {
@@ -80,7 +80,7 @@ pub fn singleton(packet: u16) -> PacketSet
 }
 
 // Inner. The first set becomes the union.
-pub fn union(a: &mut PacketSet, b: &PacketSet, words: usize)
+pub fn union(a: &mut PacketWords, b: &PacketWords, words: usize)
     requires { ⌜ words ≤ 32 ⌝ }
     ensures { λ _. ⌜ now (a .exit) ≡ unionOf words (now (a .entry)) (now (b .entry)) ⌝ }
 {
@@ -92,7 +92,7 @@ pub fn union(a: &mut PacketSet, b: &PacketSet, words: usize)
 }
 
 // Inner. The first set becomes the exclusive or.
-pub fn exclusive_or(a: &mut PacketSet, b: &PacketSet, words: usize)
+pub fn exclusive_or(a: &mut PacketWords, b: &PacketWords, words: usize)
     requires { ⌜ words ≤ 32 ⌝ }
     ensures { λ _. ⌜ now (a .exit) ≡ exclusiveOrOf words (now (a .entry)) (now (b .entry)) ⌝ }
 {
@@ -126,7 +126,7 @@ fn lowest_from(set: &[u32], start: usize, words: usize) -> Lowest
 }
 
 // Inner. The lowest packet in the first words.
-pub fn lowest_member(set: &PacketSet, words: usize) -> Lowest
+pub fn lowest_member(set: &PacketWords, words: usize) -> Lowest
     requires { ⌜ words ≤ 32 ⌝ }
     ensures { λ r. ⌜ r ≡ lowestAnswer (lowestIn words 0 (now (set .entry))) ⌝ }
 {

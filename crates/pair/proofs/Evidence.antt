@@ -16,7 +16,7 @@ use Rattle.automaton.specs.State.{outputMask}
 use Rattle.packet_set.proofs.Digits.{bits-same}
 use Rattle.automaton.proofs.Laws.{outputMask-fits}
 use Rattle.system.specs.System.{System, Row}
-use Rattle.system.specs.RowOrder.{startEntry, NeedsMore, run, answer, equal as allHandled, held}
+use Rattle.system.specs.RowOrder.{startEntry, NeedsMore, run, answerWith, equal as allHandled, held}
 use Rattle.system.specs.InnerTables.{Listed}
 use Rattle.system.proofs.Answers.{full-iff}
 use Rattle.system.proofs.Verdicts.{equal-is, silent-is}
@@ -142,7 +142,7 @@ module _ (sizes : List ℕ) (ps : Pair NumberedPolicy) (ok : EvaluablePair sizes
         (λ x. rules-iff .0 (e .0 x), λ k. e .1 (rules-iff .1 k))
 
   -- equal: the rows held are accepted
-  equal-accepted : (n c : ℕ) → answer S n ≡ allHandled c
+  equal-accepted : (n c : ℕ) → answerWith S n ≡ allHandled c
       → evidenceAnswer sizes ps (heldColumns sizes ps n .packets) (heldColumns sizes ps n .lefts) (heldColumns sizes ps n .rights) ≡ accepted
   unfolding evidenceAnswer heldColumns columnsOf
   equal-accepted n c e =

@@ -15,7 +15,7 @@ use Rattle.automaton.specs.State.{anyBelow}
 use Rattle.automaton.proofs.Tests.{T-true, true-T}
 use Rattle.automaton.proofs.Sets.{anyBelow-iff}
 use Rattle.system.specs.System.{System, Lawful, Row, startRow, nextRow, tells}
-use Rattle.system.specs.RowOrder.{Entry, entryAt, run, sameRow, answer, equal, held}
+use Rattle.system.specs.RowOrder.{Entry, entryAt, run, sameRow, answerWith, equal, held}
 use Rattle.system.specs.InnerTables.{Closed, InRange, Listed}
 use Rattle.system.specs.InnerWords.{Silent}
 use Rattle.packet.proofs.Tests.{or-true, and-true, last-or-before}
@@ -196,7 +196,7 @@ module _ (S : System) (L : Lawful S) (T : Table S) where
   accepted-contains e k = closed-contains S (keeps-closed (accepted-iff .0 e)) (invariant S L k .listing)
 
   -- with as many rows as an accepted table has, the search answers equal
-  pub accepted-enough : checkRules S T ≡ accepted → answer S (T .count) ≡ equal (length (held S (T .count)))
+  pub accepted-enough : checkRules S T ≡ accepted → answerWith S (T .count) ≡ equal (length (held S (T .count)))
   accepted-enough e = closed-answer S L (keeps-closed (accepted-iff .0 e)) (record { rowAt = T .row; placed = λ r p. (p .place, p .inside, p .there) })
 
   -- a table of listed rows that are closed and sound keeps the rules

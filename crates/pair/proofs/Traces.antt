@@ -19,7 +19,7 @@ use Rattle.automaton.specs.State.{StateTraces}
 use Rattle.automaton.proofs.Tests.{same-test}
 use Rattle.automaton.proofs.Laws.{split-last, outputMask-iff, nextMask-iff, whole-iff}
 use Rattle.system.specs.System.{Row, startRow, nextRow, tells}
-use Rattle.system.specs.InnerWords.{Word, end, then, follow, SilentBelow, Silent}
+use Rattle.system.specs.InnerWords.{PacketWord, end, then, leadsTo, SilentBelow, Silent}
 use Rattle.system.proofs.Basics.{length-snoc}
 use Rattle.pair.specs.Sides.{Side, left, right, other, Pair, at, NumberedPolicy}
 use Rattle.pair.specs.Pair.{SideTraces, outputAt, nextAt, inOneOutput, pairSystem}
@@ -27,7 +27,7 @@ use Rattle.pair.proofs.Sides.{at-each}
 use Rattle.pair.proofs.Lawful.{EvaluablePair}
 
 -- a list of packets below n is a word
-word-of : (n : ℕ) (t : List ℕ) → Each (λ γ. γ < n) t → Word n t
+word-of : (n : ℕ) (t : List ℕ) → Each (λ γ. γ < n) t → PacketWord n t
 unfolding Each
 word-of n [] e = end
 word-of n (γ ∷ t) e = then (e .0) (word-of n t (e .1))
@@ -56,7 +56,7 @@ module _ (sizes : List ℕ) (ps : Pair NumberedPolicy) where
   -- after the word w from α, γ is in the side's output
   unfoldable pub ends : Side → ℕ → List ℕ → ℕ → Bool
   ends s α w γ =
-      let r = follow (pairSystem sizes ps) (startRow (pairSystem sizes ps) α) w in
+      let r = leadsTo (pairSystem sizes ps) (startRow (pairSystem sizes ps) α) w in
       bit (outputAt sizes ps s (r .packet) (r .state)) γ
 
 module _ (sizes : List ℕ) (ps : Pair NumberedPolicy) (ok : EvaluablePair sizes ps) where
@@ -73,9 +73,9 @@ module _ (sizes : List ℕ) (ps : Pair NumberedPolicy) (ok : EvaluablePair sizes
       (nextMask-iff sizes (at s ps .dups) (at s ps .tree) (ok s) (at s (r .state)) (r .packet) h γ δ t)
 
   -- after a word, a side's output holds the packets that end a trace of the row before it
-  follow-output : (s : Side) {w : List ℕ} → Word (product sizes) w → (r : Row (pairSystem sizes ps)) → r .packet < product sizes → (γ : ℕ)
-      → T (bit (outputAt sizes ps s (follow (pairSystem sizes ps) r w .packet) (follow (pairSystem sizes ps) r w .state)) γ) ↔ RowTraces s r (w ++ (γ ∷ []))
-  unfolding follow RowTraces outputAt
+  follow-output : (s : Side) {w : List ℕ} → PacketWord (product sizes) w → (r : Row (pairSystem sizes ps)) → r .packet < product sizes → (γ : ℕ)
+      → T (bit (outputAt sizes ps s (leadsTo (pairSystem sizes ps) r w .packet) (leadsTo (pairSystem sizes ps) r w .state)) γ) ↔ RowTraces s r (w ++ (γ ∷ []))
+  unfolding leadsTo RowTraces outputAt
   follow-output s end r h γ = outputMask-iff sizes (at s ps .dups) (at s ps .tree) (ok s) (at s (r .state)) (r .packet) h γ
   follow-output s (then {γ = δ} {w = w} l v) r h γ =
       let ih = follow-output s v (nextRow (pairSystem sizes ps) r δ) l γ in
@@ -87,7 +87,7 @@ module _ (sizes : List ℕ) (ps : Pair NumberedPolicy) (ok : EvaluablePair sizes
       cons (ε ∷ w) = next-traces s r δ ε (w ++ (γ ∷ [])) h
 
   -- from a starting row: the packets that end a Figure 1 trace
-  pub output-after : (s : Side) (α : ℕ) → α < product sizes → {w : List ℕ} → Word (product sizes) w → (γ : ℕ)
+  pub output-after : (s : Side) (α : ℕ) → α < product sizes → {w : List ℕ} → PacketWord (product sizes) w → (γ : ℕ)
       → T (ends sizes ps s α w γ) ↔ SideTraces sizes ps s α (w ++ (γ ∷ []))
   unfolding RowTraces SideTraces ends
   output-after s α h {w} v γ =
@@ -96,23 +96,23 @@ module _ (sizes : List ℕ) (ps : Pair NumberedPolicy) (ok : EvaluablePair sizes
       (λ t. k .0 (e .0 t), λ t. e .1 (k .1 t))
 
   -- γ tells after a word exactly when one policy alone has the word and γ as a trace: the one whose output γ is in
-  pub telling-after : (α : ℕ) → α < product sizes → {w : List ℕ} → Word (product sizes) w → (γ : ℕ)
-      → tells (pairSystem sizes ps) (follow (pairSystem sizes ps) (startRow (pairSystem sizes ps) α) w) γ ≡ true
+  pub telling-after : (α : ℕ) → α < product sizes → {w : List ℕ} → PacketWord (product sizes) w → (γ : ℕ)
+      → tells (pairSystem sizes ps) (leadsTo (pairSystem sizes ps) (startRow (pairSystem sizes ps) α) w) γ ≡ true
       → Alone sizes ps (cond (ends sizes ps left α w γ) left right) α (w ++ (γ ∷ []))
   unfolding inOneOutput ends Alone
   telling-after α h {w} v γ e =
       let x = one-side (λ s. ends sizes ps s α w γ) e in
       (output-after (cond (ends sizes ps left α w γ) left right) α h v γ .0 (x .0), λ t. x .1 (output-after (other (cond (ends sizes ps left α w γ) left right)) α h v γ .1 t))
 
-  pub alone-tells : (α : ℕ) → α < product sizes → {w : List ℕ} → Word (product sizes) w → (γ : ℕ)
+  pub alone-tells : (α : ℕ) → α < product sizes → {w : List ℕ} → PacketWord (product sizes) w → (γ : ℕ)
       → (s : Side) → Alone sizes ps s α (w ++ (γ ∷ []))
-      → tells (pairSystem sizes ps) (follow (pairSystem sizes ps) (startRow (pairSystem sizes ps) α) w) γ ≡ true
+      → tells (pairSystem sizes ps) (leadsTo (pairSystem sizes ps) (startRow (pairSystem sizes ps) α) w) γ ≡ true
   unfolding inOneOutput ends Alone
   alone-tells α h {w} v γ s x = side-one (λ s. ends sizes ps s α w γ) s (output-after s α h v γ .1 (x .0)) (λ t. x .1 (output-after (other s) α h v γ .0 t))
 
   -- where it does not tell, both or neither have
-  pub silent-after : (α : ℕ) → α < product sizes → {w : List ℕ} → Word (product sizes) w → (γ : ℕ)
-      → tells (pairSystem sizes ps) (follow (pairSystem sizes ps) (startRow (pairSystem sizes ps) α) w) γ ≡ false
+  pub silent-after : (α : ℕ) → α < product sizes → {w : List ℕ} → PacketWord (product sizes) w → (γ : ℕ)
+      → tells (pairSystem sizes ps) (leadsTo (pairSystem sizes ps) (startRow (pairSystem sizes ps) α) w) γ ≡ false
       → (s z : Side) → SideTraces sizes ps s α (w ++ (γ ∷ [])) → SideTraces sizes ps z α (w ++ (γ ∷ []))
   unfolding inOneOutput ends
   silent-after α h {w} v γ e s z t = output-after z α h v γ .0 (subst T (same s z) (output-after s α h v γ .1 t))
@@ -123,9 +123,9 @@ module _ (sizes : List ℕ) (ps : Pair NumberedPolicy) (ok : EvaluablePair sizes
       same right left = sym (xor-false _ _ e)
       same right right = refl
 
-  pub traces-silent : (α : ℕ) → α < product sizes → {w : List ℕ} → Word (product sizes) w → (γ : ℕ)
+  pub traces-silent : (α : ℕ) → α < product sizes → {w : List ℕ} → PacketWord (product sizes) w → (γ : ℕ)
       → ((s z : Side) → SideTraces sizes ps s α (w ++ (γ ∷ [])) → SideTraces sizes ps z α (w ++ (γ ∷ [])))
-      → tells (pairSystem sizes ps) (follow (pairSystem sizes ps) (startRow (pairSystem sizes ps) α) w) γ ≡ false
+      → tells (pairSystem sizes ps) (leadsTo (pairSystem sizes ps) (startRow (pairSystem sizes ps) α) w) γ ≡ false
   unfolding inOneOutput ends
   traces-silent α h {w} v γ f = xor-same _ _ (same-test _ _ (there left right) (there right left))
     where
@@ -142,7 +142,7 @@ module _ (sizes : List ℕ) (ps : Pair NumberedPolicy) (ok : EvaluablePair sizes
       go : (w : List ℕ) × (ε : ℕ) × (δ ∷ u ≡ w ++ (ε ∷ [])) → SideTraces sizes ps z α (δ ∷ u)
       go (w, ε, e) =
           let below = each-append (λ γ. γ < product sizes) w (ε ∷ []) .0 (subst (Each (λ γ. γ < product sizes)) e (traces-below sizes (at s ps .tree) (ok s .inFields) α h (δ ∷ u) t)) in
-          let word : Word (product sizes) w = word-of (product sizes) w (below .0) in
+          let word : PacketWord (product sizes) w = word-of (product sizes) w (below .0) in
           let short : length w < d = omega (arith, length-snoc w ε, ap length e) in
           subst (λ x. SideTraces sizes ps z α x) (sym e)
           (silent-after α h word ε (Q .silent α h w word short ε (below .1 .0)) s z (subst (λ x. SideTraces sizes ps s α x) e t))

@@ -10,8 +10,8 @@ use lib.Seq.{getD-append-seam}
 use borrow.Author.Tests.{lt-ltb, le-ltb}
 use Rattle.policy.specs.Meaning.{SameTracesBelow}
 use Rattle.system.specs.System.{System, startRow}
-use Rattle.system.specs.InnerWords.{follow}
-use Rattle.system.specs.RowOrder.{Answer, full as moreRows, equal as allHandled, different as tellingRow, entryAt, NeedsMore, finished, telling, turn, current, run, entering, path, answer, held}
+use Rattle.system.specs.InnerWords.{leadsTo}
+use Rattle.system.specs.RowOrder.{RunAnswer, full as moreRows, equal as allHandled, different as tellingRow, entryAt, NeedsMore, finished, telling, turn, current, run, entering, path, answerWith, held}
 use Rattle.packet.proofs.Tests.{lt-or-le}
 use Rattle.system.proofs.Basics.{length-snoc}
 use Rattle.system.proofs.Runs.{telling≢handling, invariant}
@@ -38,24 +38,24 @@ module _ (sizes : List ℕ) (ps : Pair NumberedPolicy) where
   sideAt : ℕ → ℕ → List ℕ → Side
   sideAt n i t = sideOf sizes ps (entryAt S (held S n) i .row) (lastOf t)
 
-  pub search-full : (n m : ℕ) → answer S n ≡ moreRows → searchAnswer sizes ps n m ≡ rowsFull n
+  pub search-full : (n m : ℕ) → answerWith S n ≡ moreRows → searchAnswer sizes ps n m ≡ rowsFull n
   unfolding searchAnswer
   search-full n m e = rw (e, searchAnswer)
 
-  pub search-equal : (n m c : ℕ) → answer S n ≡ allHandled c → searchAnswer sizes ps n m ≡ equal c
+  pub search-equal : (n m c : ℕ) → answerWith S n ≡ allHandled c → searchAnswer sizes ps n m ≡ equal c
   unfolding searchAnswer
   search-equal n m c e = rw (e, searchAnswer)
 
-  search-reported : (n m i α : ℕ) (t : List ℕ) → answer S n ≡ tellingRow i α t → searchAnswer sizes ps n m ≡ reported m (sideAt n i t) α t
+  search-reported : (n m i α : ℕ) (t : List ℕ) → answerWith S n ≡ tellingRow i α t → searchAnswer sizes ps n m ≡ reported m (sideAt n i t) α t
   unfolding searchAnswer sideAt
   search-reported n m i α t e = rw (e, searchAnswer)
 
-  pub search-different : (n m i α : ℕ) (t : List ℕ) → answer S n ≡ tellingRow i α t → length t ≤ m
+  pub search-different : (n m i α : ℕ) (t : List ℕ) → answerWith S n ≡ tellingRow i α t → length t ≤ m
       → searchAnswer sizes ps n m ≡ different (sideOf sizes ps (entryAt S (held S n) i .row) (lastOf t)) α t
   unfolding reported sideAt
   search-different n m i α t e h = search-reported n m i α t e ∙ ap (λ b. cond b (traceShort (length t)) (different (sideAt n i t) α t)) (le-ltb m (length t) h)
 
-  pub search-short : (n m i α : ℕ) (t : List ℕ) → answer S n ≡ tellingRow i α t → m < length t → searchAnswer sizes ps n m ≡ traceShort (length t)
+  pub search-short : (n m i α : ℕ) (t : List ℕ) → answerWith S n ≡ tellingRow i α t → m < length t → searchAnswer sizes ps n m ≡ traceShort (length t)
   unfolding reported
   search-short n m i α t e h = search-reported n m i α t e ∙ ap (λ b. cond b (traceShort (length t)) (different (sideAt n i t) α t)) (lt-ltb m (length t) h)
 
@@ -73,16 +73,16 @@ module _ (sizes : List ℕ) (ps : Pair NumberedPolicy) where
 
   -- What each answer says of the row order.
   pub data Searched (n m : ℕ) : SearchAnswer → Type 0 where
-    is-full : {k : ℕ} → answer S n ≡ moreRows → n ≡ k → Searched n m (rowsFull k)
-    is-equal : {c : ℕ} → answer S n ≡ allHandled c → Searched n m (equal c)
-    is-short : {k : ℕ} (i α : ℕ) (t : List ℕ) → answer S n ≡ tellingRow i α t → m < length t → length t ≡ k → Searched n m (traceShort k)
-    is-telling : {s : Side} {α : ℕ} {t : List ℕ} (i : ℕ) → answer S n ≡ tellingRow i α t → length t ≤ m
+    is-full : {k : ℕ} → answerWith S n ≡ moreRows → n ≡ k → Searched n m (rowsFull k)
+    is-equal : {c : ℕ} → answerWith S n ≡ allHandled c → Searched n m (equal c)
+    is-short : {k : ℕ} (i α : ℕ) (t : List ℕ) → answerWith S n ≡ tellingRow i α t → m < length t → length t ≡ k → Searched n m (traceShort k)
+    is-telling : {s : Side} {α : ℕ} {t : List ℕ} (i : ℕ) → answerWith S n ≡ tellingRow i α t → length t ≤ m
         → sideOf sizes ps (entryAt S (held S n) i .row) (lastOf t) ≡ s → Searched n m (different s α t)
 
   pub searched : (n m : ℕ) → Searched n m (searchAnswer sizes ps n m)
-  searched n m = go (answer S n) refl
+  searched n m = go (answerWith S n) refl
     where
-      go : (a : Answer) → answer S n ≡ a → Searched n m (searchAnswer sizes ps n m)
+      go : (a : RunAnswer) → answerWith S n ≡ a → Searched n m (searchAnswer sizes ps n m)
       go moreRows e = subst (Searched n m) (sym (search-full n m e)) (is-full e refl)
       go (allHandled c) e = subst (Searched n m) (sym (search-equal n m c e)) (is-equal e)
       go (tellingRow i α t) e = long (lt-or-le m (length t))
@@ -135,20 +135,20 @@ module _ (sizes : List ℕ) (ps : Pair NumberedPolicy) where
             (x .whole, silent-iff sizes ps ok .0 (x .silent))
 
     -- the telling row is where its path leads
-    telling-leads : (n i α : ℕ) (t : List ℕ) → answer S n ≡ tellingRow i α t
-        → follow S (startRow S α) (path S (held S n) i) ≡ entryAt S (held S n) i .row
+    telling-leads : (n i α : ℕ) (t : List ℕ) → answerWith S n ≡ tellingRow i α t
+        → leadsTo S (startRow S α) (path S (held S n) i) ≡ entryAt S (held S n) i .row
     telling-leads n i α t e = go (subst (Answered S n) e (answered S n))
       where
         x : IsDifferent S n i α t
         x = different-is S (lawful sizes ps ok) n i α t e
 
         go : Answered S n (tellingRow i α t)
-            → follow S (startRow S α) (path S (held S n) i) ≡ entryAt S (held S n) i .row
+            → leadsTo S (startRow S α) (path S (held S n) i) ≡ entryAt S (held S n) i .row
         go (is-different γ h q a b c) =
-            subst (λ β. follow S (startRow S β) (path S (held S n) i) ≡ entryAt S (held S n) i .row) (x .enters)
+            subst (λ β. leadsTo S (startRow S β) (path S (held S n) i) ≡ entryAt S (held S n) i .row) (x .enters)
             (subst (λ es. i < length es → Line S es i) (sym (held-stopped S n (suc n) (short-stops S n h) h)) (line-of S (invariant S (lawful sizes ps ok) (suc n) .listing) i) (x .inside) .leads)
 
-    telling-distinguishes : (n i α : ℕ) (t : List ℕ) → answer S n ≡ tellingRow i α t
+    telling-distinguishes : (n i α : ℕ) (t : List ℕ) → answerWith S n ≡ tellingRow i α t
         → Distinguishes sizes ps (sideOf sizes ps (entryAt S (held S n) i .row) (lastOf t)) α t
     unfolding sideOf Alone ends
     telling-distinguishes n i α t e =
@@ -177,8 +177,8 @@ module _ (sizes : List ℕ) (ps : Pair NumberedPolicy) where
         alone : Alone sizes ps (sideOf sizes ps (entryAt S (held S n) i .row) (lastOf t)) α t
         alone =
             subst (λ r. Alone sizes ps (sideOf sizes ps r (lastOf t)) α t) (telling-leads n i α t e)
-            (subst (λ γ. Alone sizes ps (sideOf sizes ps (follow S (startRow S α) w) γ) α t) (sym last)
-            (subst (λ u. Alone sizes ps (sideOf sizes ps (follow S (startRow S α) w) (x .last)) α u) (x .goes)
+            (subst (λ γ. Alone sizes ps (sideOf sizes ps (leadsTo S (startRow S α) w) γ) α t) (sym last)
+            (subst (λ u. Alone sizes ps (sideOf sizes ps (leadsTo S (startRow S α) w) (x .last)) α u) (x .goes)
             (telling-after sizes ps ok α (y .enters) (y .word) (x .last) (y .last-tells))))
 
     -- different: that policy alone has the trace, and no shorter trace tells the two apart from any packet

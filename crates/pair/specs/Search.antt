@@ -8,7 +8,7 @@ use lib.ListN.{length, getD}
 use Rattle.packet.specs.Sizes.{product}
 use Rattle.packet_set.specs.Bits.{bit}
 use Rattle.system.specs.System.{Row}
-use Rattle.system.specs.RowOrder.{Entry, entryAt, full as moreRows, equal as allHandled, different as tellingRow, answer, held}
+use Rattle.system.specs.RowOrder.{Entry, entryAt, full as moreRows, equal as allHandled, different as tellingRow, answerWith, held}
 use Rattle.pair.specs.Sides.{Side, left, right, other, Pair, NumberedPolicy}
 use Rattle.pair.specs.Pair.{SideTraces, outputAt, pairSystem}
 
@@ -43,7 +43,7 @@ module _ (sizes : List ℕ) (ps : Pair NumberedPolicy) where
   -- the search's answer with so many rows and so long a trace lent
   unfoldable pub searchAnswer : ℕ → ℕ → SearchAnswer
   searchAnswer rows lent =
-      elim (answer (pairSystem sizes ps) rows) [
+      elim (answerWith (pairSystem sizes ps) rows) [
         | moreRows ↦ rowsFull rows
         | allHandled count ↦ equal count
         | tellingRow i α trace ↦ reported lent (sideOf (entryAt (pairSystem sizes ps) (held (pairSystem sizes ps) rows) i .row) (lastOf trace)) α trace

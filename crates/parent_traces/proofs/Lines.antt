@@ -12,7 +12,7 @@ use Rattle.system.specs.System.{System}
 use Rattle.system.specs.RowOrder.{Entry, entryAt, climbing, climb}
 use Rattle.system.proofs.Basics.{induction, length-snoc}
 use Rattle.packet.specs.Written.{written}
-use Rattle.parent_traces.specs.Lines.{rising, rise, lineDepth, linePath, lineStart, Rooted}
+use Rattle.parent_traces.specs.ParentLines.{rising, rise, lineDepth, linePath, lineStart, Rooted}
 
 module _ {A : Type 0} (first : ℕ → A) (below : ℕ → A → A) {parents : List ℕ} {n : ℕ} (R : Rooted parents n) where
   rising-first : (k i : ℕ) → getD parents i 0 ≡ i → rising first below parents k i ≡ first i

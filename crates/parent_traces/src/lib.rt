@@ -5,7 +5,7 @@ ghost use mathlib.Core.List.{[], _∷_, _++_};
 ghost use Prim.Native.Nat.{_+_, _<_, _≤_};
 ghost use lib.ListN.{length};
 ghost use Rattle.packet.specs.Written.{written};
-ghost use Rattle.parent_traces.specs.Lines.{lineDepth, linePath, lineStart, Rooted};
+ghost use Rattle.parent_traces.specs.ParentLines.{lineDepth, linePath, lineStart, Rooted};
 
 // Inner: the length of the trace that ends at row h: one packet for each row above it, and the last.
 pub fn trace_length(parents: &[u16], listed: usize, h: usize) -> usize

@@ -15,7 +15,7 @@ use Rattle.policy.specs.declared.Node.{Node}
 use Rattle.policy.specs.declared.Node.the-variants.{Field}
 use Rattle.policy.specs.Tree.{Policy, drop, id, field, dup, sum, seq, star}
 use Rattle.policy.specs.NodeLists.{nodeCount, nodeOf, nodeAt, children, dupsBelow, policyOf}
-use Rattle.policy.specs.NodesOfTree.{Entry, entry, actionEntry, treeSize, entriesFrom, listsOf, nodesOf, unlabelled}
+use Rattle.policy.specs.NodesOfTree.{NodeEntry, nodeEntry, actionEntry, treeSize, entriesFrom, listsOf, nodesOf, unlabelled}
 use Rattle.policy.specs.Legality.{badLengths, badKind, badChild, notOnce, timesChild, maxDups, Legal}
 use Rattle.policy.specs.Legality.{InFields, badEntries, wrongEntries, used, badField, fieldOf, valueOf}
 use Rattle.policy.specs.InnerEach.{Each}
@@ -26,10 +26,10 @@ use Rattle.policy.proofs.LegalityLaws.{Lengths, lengths}
 use Rattle.policy.proofs.Numbered.{each-action}
 use Rattle.policy.proofs.Postfix.{size-positive, Stands, here, reads-back, inside, inside-in, inside-le, counts, stands-below, stands-dups}
 
-one-more : (xs : List Entry) (e : Entry) → length (xs ++ e ∷ []) ≡ length xs + 1
+one-more : (xs : List NodeEntry) (e : NodeEntry) → length (xs ++ e ∷ []) ≡ length xs + 1
 one-more xs e = length-append xs (e ∷ [])
 
-two-more : {m n : ℕ} (xs ys : List Entry) (e : Entry) → length xs ≡ m → length ys ≡ n → length (xs ++ ys ++ e ∷ []) ≡ m + n + 1
+two-more : {m n : ℕ} (xs ys : List NodeEntry) (e : NodeEntry) → length xs ≡ m → length ys ≡ n → length (xs ++ ys ++ e ∷ []) ≡ m + n + 1
 two-more xs ys e h k = omega (arith, one-more (xs ++ ys) e, length-append xs ys)
 
 -- a tree has as many nodes as entries
@@ -44,19 +44,19 @@ entries-length base (seq p q) = two-more (entriesFrom base p) _ _ (entries-lengt
 entries-length base (star p) = one-more (entriesFrom base p) _ ∙ ap (λ (n : ℕ). n + 1) (entries-length base p)
 
 -- what is read past the end of the entries
-absent : Entry
+absent : NodeEntry
 absent = record { kind = 0; first = 0; second = 0 }
 
-entryNode : Entry → Node
+entryNode : NodeEntry → Node
 entryNode e = nodeOf (e .kind) (e .first) (e .second)
 
 action-node : (a : FieldAction) → entryNode (actionEntry a) ≡ Field a
-unfolding entryNode actionEntry entry nodeOf
+unfolding entryNode actionEntry nodeEntry nodeOf
 action-node (Equals f v) = refl
 action-node (Differs f v) = refl
 action-node (Set f v) = refl
 
-module _ (es : List Entry) where
+module _ (es : List NodeEntry) where
   -- the three lists read at i are the entry read at i
   read-at : {X : Type 0} (f : ℕ → ℕ → ℕ → X) (i : ℕ)
       → f (getD (listsOf es .kind) i 0) (getD (listsOf es .first) i 0) (getD (listsOf es .second) i 0)
@@ -64,19 +64,19 @@ module _ (es : List Entry) where
   unfolding listsOf absent
   read-at f i =
       λ k.
-      f (List·getD-map (λ (e : Entry). e .kind) es i absent k) (List·getD-map (λ (e : Entry). e .first) es i absent k)
-      (List·getD-map (λ (e : Entry). e .second) es i absent k)
+      f (List·getD-map (λ (e : NodeEntry). e .kind) es i absent k) (List·getD-map (λ (e : NodeEntry). e .first) es i absent k)
+      (List·getD-map (λ (e : NodeEntry). e .second) es i absent k)
 
-  node-at : (n : ℕ) (x : Entry) → getD es n absent ≡ x → nodeAt (listsOf es) n ≡ entryNode x
+  node-at : (n : ℕ) (x : NodeEntry) → getD es n absent ≡ x → nodeAt (listsOf es) n ≡ entryNode x
   unfolding nodeAt entryNode
   node-at n x e = read-at nodeOf n ∙ ap entryNode e
 
   -- the entries from base on
-  Holds : ℕ → List Entry → Type 0
+  Holds : ℕ → List NodeEntry → Type 0
   Holds base [] = Unit
   Holds base (x ∷ xs) = (getD es base absent ≡ x) × Holds (suc base) xs
 
-  holds-append : (base : ℕ) (xs ys : List Entry) → Holds base (xs ++ ys) → Holds base xs × Holds (base + length xs) ys
+  holds-append : (base : ℕ) (xs ys : List NodeEntry) → Holds base (xs ++ ys) → Holds base xs × Holds (base + length xs) ys
   unfolding Holds
   holds-append base [] ys h = (tt, subst (λ (k : ℕ). Holds k ys) (omega arith) h)
   holds-append base (x ∷ xs) ys h =
@@ -84,14 +84,14 @@ module _ (es : List Entry) where
       ((h .0, r .0), subst (λ (k : ℕ). Holds k ys) (omega arith) (r .1))
 
   -- the entries of one tree, and of two, with the entry over them
-  holds-one : (base : ℕ) (p : Policy) (x : Entry) → Holds base (entriesFrom base p ++ x ∷ [])
+  holds-one : (base : ℕ) (p : Policy) (x : NodeEntry) → Holds base (entriesFrom base p ++ x ∷ [])
       → Holds base (entriesFrom base p) × (nodeAt (listsOf es) (base + treeSize p) ≡ entryNode x)
   unfolding Holds
   holds-one base p x h =
       let r = holds-append base (entriesFrom base p) (x ∷ []) h in
       (r .0, here (listsOf es) _ _ (entryNode x) (ap (λ (n : ℕ). base + n) (entries-length base p)) (node-at _ x (r .1 .0)))
 
-  holds-two : (base : ℕ) (p q : Policy) (x : Entry) → Holds base (entriesFrom base p ++ entriesFrom (base + treeSize p) q ++ x ∷ [])
+  holds-two : (base : ℕ) (p q : Policy) (x : NodeEntry) → Holds base (entriesFrom base p ++ entriesFrom (base + treeSize p) q ++ x ∷ [])
       → Holds base (entriesFrom base p)
       × Holds (base + treeSize p) (entriesFrom (base + treeSize p) q)
       × (nodeAt (listsOf es) (base + treeSize p + treeSize q) ≡ entryNode x)
@@ -108,7 +108,7 @@ module _ (es : List Entry) where
       )
 
   stands : (base : ℕ) (p : Policy) → Holds base (entriesFrom base p) → Stands (listsOf es) base p
-  unfolding Stands entriesFrom Holds entryNode entry nodeOf
+  unfolding Stands entriesFrom Holds entryNode nodeEntry nodeOf
   stands base drop h = node-at base _ (h .0)
   stands base id h = node-at base _ (h .0)
   stands base (field a) h = node-at base _ (h .0) ∙ action-node a
@@ -117,18 +117,18 @@ module _ (es : List Entry) where
   stands base (seq p q) h = let r = holds-two base p q _ h in (stands base p (r .0), stands (base + treeSize p) q (r .1), r .2)
   stands base (star p) h = let r = holds-one base p _ h in (stands base p (r .0), r .1)
 
-holds-all : (before es : List Entry) → Holds (before ++ es) (length before) es
+holds-all : (before es : List NodeEntry) → Holds (before ++ es) (length before) es
 unfolding Holds
 holds-all before [] = tt
 holds-all before (x ∷ xs) = (
   getD-append-seam before x xs absent,
-  subst₂ (λ (l : List Entry) (k : ℕ). Holds l k xs) (append-snoc before x xs) (omega (arith, one-more before x))
+  subst₂ (λ (l : List NodeEntry) (k : ℕ). Holds l k xs) (append-snoc before x xs) (omega (arith, one-more before x))
       (holds-all (before ++ (x ∷ [])) xs),
 )
 
 pub nodes-count : (p : Policy) → nodeCount (nodesOf p) ≡ treeSize p
 unfolding nodeCount nodesOf listsOf
-nodes-count p = length-map (entriesFrom 0 p) (λ (e : Entry). e .kind) ∙ entries-length 0 p
+nodes-count p = length-map (entriesFrom 0 p) (λ (e : NodeEntry). e .kind) ∙ entries-length 0 p
 
 nodes-stand : (p : Policy) → Stands (nodesOf p) 0 p
 unfolding nodesOf
@@ -154,13 +154,13 @@ nodes-lengths p h =
     })
 
 -- what holds of each kind of entry that a tree may have, tests and changes apart
-record EachKind (P : Entry → Type 0) : Type 0 where
-  drop : P (entry 0 0 0)
-  id : P (entry 1 0 0)
-  dup : P (entry 5 0 0)
-  sum : (l r : ℕ) → P (entry 6 l r)
-  seq : (l r : ℕ) → P (entry 7 l r)
-  star : (c : ℕ) → P (entry 8 c 0)
+record EachKind (P : NodeEntry → Type 0) : Type 0 where
+  drop : P (nodeEntry 0 0 0)
+  id : P (nodeEntry 1 0 0)
+  dup : P (nodeEntry 5 0 0)
+  sum : (l r : ℕ) → P (nodeEntry 6 l r)
+  seq : (l r : ℕ) → P (nodeEntry 7 l r)
+  star : (c : ℕ) → P (nodeEntry 8 c 0)
 
 every-action : (H : FieldAction → Type 0) → ((a : FieldAction) → H a) → (p : Policy) → EachAction H p
 every-action H f drop = tt
@@ -171,11 +171,11 @@ every-action H f (sum p q) = (every-action H f p, every-action H f q)
 every-action H f (seq p q) = (every-action H f p, every-action H f q)
 every-action H f (star p) = every-action H f p
 
-each-two : (P : Entry → Type 0) (xs ys : List Entry) (x : Entry) → Each P xs → Each P ys → P x → Each P (xs ++ ys ++ x ∷ [])
+each-two : (P : NodeEntry → Type 0) (xs ys : List NodeEntry) (x : NodeEntry) → Each P xs → Each P ys → P x → Each P (xs ++ ys ++ x ∷ [])
 unfolding Each
 each-two P xs ys x e f h = each-append P (xs ++ ys) (x ∷ []) .1 (each-append P xs ys .1 (e, f), (h, tt))
 
-entries-each : (P : Entry → Type 0) → EachKind P → (base : ℕ) (p : Policy) → EachAction (λ a. P (actionEntry a)) p
+entries-each : (P : NodeEntry → Type 0) → EachKind P → (base : ℕ) (p : Policy) → EachAction (λ a. P (actionEntry a)) p
     → Each P (entriesFrom base p)
 unfolding Each entriesFrom
 entries-each P k base drop h = (k .drop, tt)
@@ -192,12 +192,12 @@ entries-each P k base (star p) h = each-append P (entriesFrom base p) _ .1 (entr
 
 -- nor cause 5
 pub nodes-kinds : (p : Policy) (i : ℕ) → badKind (nodesOf p) i ≡ false
-unfolding badKind nodesOf absent entry actionEntry
+unfolding badKind nodesOf absent nodeEntry actionEntry
 nodes-kinds p i =
     let known = entries-each Known kinds 0 p (every-action _ actions p) in
     read-at (entriesFrom 0 p) (λ k a b. ltb 8 k) i ∙ le-ltb 8 _ (each-at Known (entriesFrom 0 p) absent (omega arith) known i)
   where
-    Known : Entry → Type 0
+    Known : NodeEntry → Type 0
     Known e = e .kind ≤ 8
 
     kinds : EachKind Known
@@ -228,12 +228,12 @@ nodes-once p j h = rw (nodes-times p j ∙ inside-in 0 _ j (omega arith) h)
 
 -- nor cause 6 where each test and change names a field and a value of it
 pub nodes-entries : (sizes : List ℕ) (p : Policy) → InFields sizes p → (i : ℕ) → badEntries sizes (nodesOf p) i ≡ false
-unfolding badEntries nodesOf absent entry actionEntry wrongEntries used fieldOf valueOf
+unfolding badEntries nodesOf absent nodeEntry actionEntry wrongEntries used fieldOf valueOf
 nodes-entries sizes p h i =
     let right = entries-each Right kinds 0 p (each-action sizes (λ a. Right (actionEntry a)) actions p h) in
     read-at (entriesFrom 0 p) (wrongEntries sizes) i ∙ each-at Right (entriesFrom 0 p) absent refl right i
   where
-    Right : Entry → Type 0
+    Right : NodeEntry → Type 0
     Right e = wrongEntries sizes (e .kind) (e .first) (e .second) ≡ false
 
     kinds : EachKind Right

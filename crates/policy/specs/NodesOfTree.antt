@@ -7,18 +7,18 @@ use Rattle.policy.specs.Tree.{Policy, drop, id, field, dup, sum, seq, st
 use Rattle.policy.specs.NodeLists.{NodeLists}
 
 -- one node as its numbers
-pub record Entry : Type 0 where
+pub record NodeEntry : Type 0 where
   pub kind : ℕ
   pub first : ℕ
   pub second : ℕ
 
-unfoldable pub entry : ℕ → ℕ → ℕ → Entry
-entry kind first second = record { kind = kind; first = first; second = second }
+unfoldable pub nodeEntry : ℕ → ℕ → ℕ → NodeEntry
+nodeEntry kind first second = record { kind = kind; first = first; second = second }
 
-unfoldable pub actionEntry : FieldAction → Entry
-actionEntry (Equals f v) = entry 2 f v
-actionEntry (Differs f v) = entry 3 f v
-actionEntry (Set f v) = entry 4 f v
+unfoldable pub actionEntry : FieldAction → NodeEntry
+actionEntry (Equals f v) = nodeEntry 2 f v
+actionEntry (Differs f v) = nodeEntry 3 f v
+actionEntry (Set f v) = nodeEntry 4 f v
 
 -- how many nodes a tree has
 unfoldable pub treeSize : Policy → ℕ
@@ -31,20 +31,20 @@ treeSize (seq p q) = treeSize p + treeSize q + 1
 treeSize (star p) = treeSize p + 1
 
 -- the nodes of a tree whose first node has the number base
-unfoldable pub entriesFrom : ℕ → Policy → List Entry
-entriesFrom base drop = entry 0 0 0 ∷ []
-entriesFrom base id = entry 1 0 0 ∷ []
+unfoldable pub entriesFrom : ℕ → Policy → List NodeEntry
+entriesFrom base drop = nodeEntry 0 0 0 ∷ []
+entriesFrom base id = nodeEntry 1 0 0 ∷ []
 entriesFrom base (field a) = actionEntry a ∷ []
-entriesFrom base (dup i) = entry 5 0 0 ∷ []
+entriesFrom base (dup i) = nodeEntry 5 0 0 ∷ []
 entriesFrom base (sum p q) =
-    entriesFrom base p ++ entriesFrom (base + treeSize p) q ++ entry 6 (pred (base + treeSize p)) (pred (base + treeSize p + treeSize q)) ∷ []
+    entriesFrom base p ++ entriesFrom (base + treeSize p) q ++ nodeEntry 6 (pred (base + treeSize p)) (pred (base + treeSize p + treeSize q)) ∷ []
 entriesFrom base (seq p q) =
-    entriesFrom base p ++ entriesFrom (base + treeSize p) q ++ entry 7 (pred (base + treeSize p)) (pred (base + treeSize p + treeSize q)) ∷ []
-entriesFrom base (star p) = entriesFrom base p ++ entry 8 (pred (base + treeSize p)) 0 ∷ []
+    entriesFrom base p ++ entriesFrom (base + treeSize p) q ++ nodeEntry 7 (pred (base + treeSize p)) (pred (base + treeSize p + treeSize q)) ∷ []
+entriesFrom base (star p) = entriesFrom base p ++ nodeEntry 8 (pred (base + treeSize p)) 0 ∷ []
 
-unfoldable pub listsOf : List Entry → NodeLists
+unfoldable pub listsOf : List NodeEntry → NodeLists
 listsOf es =
-    record { kind = map (λ (e : Entry). e .kind) es; first = map (λ (e : Entry). e .first) es; second = map (λ (e : Entry). e .second) es }
+    record { kind = map (λ (e : NodeEntry). e .kind) es; first = map (λ (e : NodeEntry). e .first) es; second = map (λ (e : NodeEntry). e .second) es }
 
 unfoldable pub nodesOf : Policy → NodeLists
 nodesOf p = listsOf (entriesFrom 0 p)

@@ -30,21 +30,21 @@ use Rattle.listed_rows.specs.Standing.{answerFor, Standing, Continues, pairMask
 use Rattle.listed_rows.proofs.Standing.{stands-none, stands-length}
 use Rattle.compare.specs.declared.Compared.{Compared}
 use Rattle.compare.specs.declared.Compared.the-variants.{Same}
-use Rattle.compare.specs.Comparison.{BothLoaded, BothMarking, BothBlank, differsAt, rowOf, answerAt, CompareReady, ComparedStates}
+use Rattle.compare.specs.Comparison.{BothLoaded, BothMarking, BothBlank, differsAt, pairRow, answerAt, CompareReady, ComparedStates}
 use Rattle.compare.proofs.Telling.{differs-lowest, same-turn, differs-turn}
 use Rattle.row_handling.specs.declared.Handled.{Handled}
 use Rattle.row_handling.specs.declared.Handled.the-variants.{Open, Stopped}
 use Rattle.verdict.specs.declared.Ended.{Ended}
 use Rattle.verdict.specs.declared.Ended.the-variants.{Done, Full}
 use Rattle.verdict.specs.InnerEnding.{tellingAt}
-use Rattle.row_handling.specs.Step.{goesOn, runAt, afterRow, stepAnswer, stepRows, RowHandled, HandleReady, StepDone}
+use Rattle.row_handling.specs.Step.{openOrDone, runAt, afterRow, stepAnswer, stepRows, RowHandled, HandleReady, StepDone}
 
-pub goes-open : (h n : ℕ) → h < n → Open n ≡ goesOn h n
-unfolding goesOn
+pub goes-open : (h n : ℕ) → h < n → Open n ≡ openOrDone h n
+unfolding openOrDone
 goes-open h n l = sym (ap (λ b. cond b (Open n) (Stopped (Done n))) (lt-ltb h n l))
 
-pub goes-done : (h n : ℕ) → n ≤ h → Stopped (Done n) ≡ goesOn h n
-unfolding goesOn
+pub goes-done : (h n : ℕ) → n ≤ h → Stopped (Done n) ≡ openOrDone h n
+unfolding openOrDone
 goes-done h n l = sym (ap (λ b. cond b (Open n) (Stopped (Done n))) (le-ltb h n l))
 
 module _ (sizes : List ℕ) (ps : Pair NumberedPolicy) (lent : ℕ) (x : Run (pairSystem sizes ps)) where
@@ -52,17 +52,17 @@ module _ (sizes : List ℕ) (ps : Pair NumberedPolicy) (lent : ℕ) (x : Run (pa
   unfolding answerFor afterRow
   full-after e = go (ltb lent (length (x .rows))) e
     where
-      go : (b : Bool) → FullUp ≡ cond b FullUp (Rows (length (x .rows))) → Stopped Full ≡ cond b (Stopped Full) (goesOn (x .handled) (length (x .rows)))
+      go : (b : Bool) → FullUp ≡ cond b FullUp (Rows (length (x .rows))) → Stopped Full ≡ cond b (Stopped Full) (openOrDone (x .handled) (length (x .rows)))
       go true e = refl
       go false e = absurd (let z : _≡_ {A = ℕ} 0 1 = cc in omega arith)
 
-  rows-after : (m : ℕ) → Rows m ≡ answerFor lent (length (x .rows)) → goesOn (x .handled) m ≡ afterRow sizes ps lent x
+  rows-after : (m : ℕ) → Rows m ≡ answerFor lent (length (x .rows)) → openOrDone (x .handled) m ≡ afterRow sizes ps lent x
   unfolding answerFor afterRow
   rows-after m e = go (ltb lent (length (x .rows))) e
     where
-      go : (b : Bool) → Rows m ≡ cond b FullUp (Rows (length (x .rows))) → goesOn (x .handled) m ≡ cond b (Stopped Full) (goesOn (x .handled) (length (x .rows)))
+      go : (b : Bool) → Rows m ≡ cond b FullUp (Rows (length (x .rows))) → openOrDone (x .handled) m ≡ cond b (Stopped Full) (openOrDone (x .handled) (length (x .rows)))
       go true e = absurd (let z : _≡_ {A = ℕ} 0 1 = cc in omega arith)
-      go false e = let same : m ≡ length (x .rows) = cc in ap (goesOn (x .handled)) same
+      go false e = let same : m ≡ length (x .rows) = cc in ap (openOrDone (x .handled)) same
 
 module _ {sizes : List ℕ} {nodes tests : List (List ℕ)} {y : Lists} {p : Progress} {next : List (List ℕ)} {work : List ℕ} (P : HandleReady sizes nodes tests y p next work) where
   abbrev count : ℕ
@@ -121,8 +121,8 @@ module _ {sizes : List ℕ} {nodes tests : List (List ℕ)} {y : Lists} {p : Pro
       left-over : x .handled < length (x .rows)
       left-over = omega (arith, P .row, stands-length S M stands)
 
-      row-is : current S x ≡ rowOf sizes L R r
-      row-is = ap (λ e. e .row) (entries-at S M _ _ n h (P .row)) ∙ ap (rowOf sizes L R) (sym is)
+      row-is : current S x ≡ pairRow sizes L R r
+      row-is = ap (λ e. e .row) (entries-at S M _ _ n h (P .row)) ∙ ap (pairRow sizes L R) (sym is)
 
       answer-is : answer ≡ answerAt sizes L R (current S x)
       answer-is = C .compared L R b .answers ∙ ap (answerAt sizes L R) (sym row-is)
@@ -160,9 +160,9 @@ module _ {sizes : List ℕ} {nodes tests : List (List ℕ)} {y : Lists} {p : Pro
         fills-at : a ≡ FullUp → RowHandled sizes (policies L R) y z count n h (Stopped Full)
         fills-at f = record { answers = full-after _ _ _ _ (sym f ∙ continues .answers) ∙ sym step-is; standing = handled-standing }
 
-        goes-at : (m : ℕ) → a ≡ Rows m → (r : Handled) → r ≡ goesOn (h + 1) m → RowHandled sizes (policies L R) y z count n h r
+        goes-at : (m : ℕ) → a ≡ Rows m → (r : Handled) → r ≡ openOrDone (h + 1) m → RowHandled sizes (policies L R) y z count n h r
         unfolding order.handle
-        goes-at m f r g = record { answers = g ∙ ap (λ i. goesOn i m) (omega arith) ∙ rows-after sizes (policies L R) (length (y .packets)) (order.handle S x) m (sym f ∙ continues .answers) ∙ sym step-is; standing = handled-standing }
+        goes-at m f r g = record { answers = g ∙ ap (λ i. openOrDone i m) (omega arith) ∙ rows-after sizes (policies L R) (length (y .packets)) (order.handle S x) m (sym f ∙ continues .answers) ∙ sym step-is; standing = handled-standing }
 
     stopped-open : {A : Type 0} (e : Ended) (m : ℕ) → Stopped e ≡ Open m → A
     stopped-open e m q = absurd (let z : _≡_ {A = ℕ} 0 1 = cc in omega arith)
@@ -175,6 +175,6 @@ module _ {sizes : List ℕ} {nodes tests : List (List ℕ)} {y : Lists} {p : Pro
       pub row-fills : a ≡ FullUp → StepDone sizes nodes tests y z p work (Stopped Full) next′ work′
       row-fills f = record { handled = λ L R b. fills-at b e A f; blank = λ m q. stopped-open _ m q; kept = C .kept }
 
-      pub row-goes : (m : ℕ) → a ≡ Rows m → (r : Handled) → r ≡ goesOn (h + 1) m → {next″ : List (List ℕ)} → BothBlank next″
+      pub row-goes : (m : ℕ) → a ≡ Rows m → (r : Handled) → r ≡ openOrDone (h + 1) m → {next″ : List (List ℕ)} → BothBlank next″
           → StepDone sizes nodes tests y z p work r next″ work′
       row-goes m f r g blank = record { handled = λ L R b. goes-at b e A m f r g; blank = λ k q. blank; kept = C .kept }

@@ -23,8 +23,8 @@ use Rattle.row_handling.specs.declared.Handled.{Handled}
 use Rattle.row_handling.specs.declared.Handled.the-variants.{Open, Stopped}
 
 -- of n listed rows h are handled: open or done
-unfoldable pub goesOn : ℕ → ℕ → Handled
-goesOn h n = cond (ltb h n) (Open n) (Stopped (Done n))
+unfoldable pub openOrDone : ℕ → ℕ → Handled
+openOrDone h n = cond (ltb h n) (Open n) (Stopped (Done n))
 
 module _ (sizes : List ℕ) (ps : Pair NumberedPolicy) where
   -- the run that the columns stand for: the first n rows, h of them handled
@@ -33,7 +33,7 @@ module _ (sizes : List ℕ) (ps : Pair NumberedPolicy) where
 
   -- a row has been handled: full if there are more rows than were lent
   unfoldable pub afterRow : ℕ → Run (pairSystem sizes ps) → Handled
-  afterRow lent x = cond (ltb lent (length (x .rows))) (Stopped Full) (goesOn (x .handled) (length (x .rows)))
+  afterRow lent x = cond (ltb lent (length (x .rows))) (Stopped Full) (openOrDone (x .handled) (length (x .rows)))
 
   -- what the step answers
   unfoldable pub stepAnswer : ℕ → Run (pairSystem sizes ps) → Handled

@@ -1,7 +1,7 @@
 // One row of the search is handled (document 01, "States and rows"). All functions here are inner.
 ghost use mathlib.Core.Path.{_≡_};
 ghost use Rattle.index.specs.Appending.{lists, listsAtEntry, listsAtExit};
-ghost use Rattle.row_handling.specs.Step.{goesOn, HandleReady, StepDone};
+ghost use Rattle.row_handling.specs.Step.{openOrDone, HandleReady, StepDone};
 use compare::Compared;
 use index::Appended;
 use index::Mask;
@@ -21,7 +21,7 @@ pub enum Handled {
 
 // Inner: whether all rows are handled.
 fn goes_on(handled: usize, listed: usize) -> Handled
-    ensures { λ r. ⌜ r ≡ goesOn handled listed ⌝ }
+    ensures { λ r. ⌜ r ≡ openOrDone handled listed ⌝ }
 {
     if handled < listed {
         return Handled::Open(listed);

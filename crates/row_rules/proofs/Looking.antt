@@ -18,10 +18,10 @@ use Rattle.packet_set.specs.Bits.{onlyBits}
 use Rattle.index.specs.declared.Lookup.{Lookup}
 use Rattle.index.specs.declared.Lookup.the-variants.{Listed}
 use Rattle.index.specs.declared.Row.{Row}
-use Rattle.index.specs.Columns.{Small, rowAt, sameRow, listedBelow}
-use Rattle.index.specs.Index.{Indexed, Placed}
+use Rattle.index.specs.Columns.{Small, rowAt, rowsAgree, listedBelow}
+use Rattle.index.specs.Index.{Indexed, LookEnds}
 use Rattle.row_rules.specs.declared.Spot.the-variants.{At, Nowhere}
-use Rattle.row_rules.specs.Presence.{spotOf, maskRow, fits, zeroStates, inColumns, strays, startMissing, nextMissing, Repeated}
+use Rattle.row_rules.specs.Presence.{spotOf, maskRow, rowInRange, zeroStates, inColumns, strays, startMissing, nextMissing, Repeated}
 
 -- ---- one row
 
@@ -35,27 +35,27 @@ module _ (l r : ℕ) where
   left-zero e = sym (ap (λ (b : Bool). b && eqb r 0) (eq-eqb l 0 e))
 
 module _ (count leftDups rightDups α l r : ℕ) where
-  pub packet-over : count ≤ α → false ≡ fits count leftDups rightDups α l r
-  unfolding fits
+  pub packet-over : count ≤ α → false ≡ rowInRange count leftDups rightDups α l r
+  unfolding rowInRange
   packet-over h = sym (ap (λ (b : Bool). b && (onlyBits l leftDups && onlyBits r rightDups)) (le-ltb α count h))
 
   module _ (small : α < count) where
-    pub left-strays : onlyBits l leftDups ≡ false → false ≡ fits count leftDups rightDups α l r
-    unfolding fits
+    pub left-strays : onlyBits l leftDups ≡ false → false ≡ rowInRange count leftDups rightDups α l r
+    unfolding rowInRange
     left-strays e = sym (ap₂ (λ (a b : Bool). a && (b && onlyBits r rightDups)) (lt-ltb α count small) e)
 
-    pub left-fits : onlyBits l leftDups ≡ true → onlyBits r rightDups ≡ fits count leftDups rightDups α l r
-    unfolding fits
+    pub left-fits : onlyBits l leftDups ≡ true → onlyBits r rightDups ≡ rowInRange count leftDups rightDups α l r
+    unfolding rowInRange
     left-fits e = sym (ap₂ (λ (a b : Bool). a && (b && onlyBits r rightDups)) (lt-ltb α count small) e)
 
 -- ---- one row of the table
 
 module _ (packets lefts rights : List ℕ) where
   -- rule (a) at row i, read off a row
-  pub strays-at : (count leftDups rightDups i : ℕ) (x : Row) → x ≡ rowAt packets lefts rights i → (b : Bool) → b ≡ fits count leftDups rightDups (x .packet) (getD (x .states) 0 0) (getD (x .states) 1 0)
+  pub strays-at : (count leftDups rightDups i : ℕ) (x : Row) → x ≡ rowAt packets lefts rights i → (b : Bool) → b ≡ rowInRange count leftDups rightDups (x .packet) (getD (x .states) 0 0) (getD (x .states) 1 0)
       → strays packets lefts rights count leftDups rightDups i ≡ not b
   unfolding strays
-  strays-at count leftDups rightDups i x e b f = ap not (ap (λ (y : Row). fits count leftDups rightDups (y .packet) (getD (y .states) 0 0) (getD (y .states) 1 0)) (sym e) ∙ sym f)
+  strays-at count leftDups rightDups i x e b f = ap not (ap (λ (y : Row). rowInRange count leftDups rightDups (y .packet) (getD (y .states) 0 0) (getD (y .states) 1 0)) (sym e) ∙ sym f)
 
   pub start-at : (α : ℕ) (b : Bool) → b ≡ listedBelow (rowAt packets lefts rights) (length packets) (maskRow α 1 1) → startMissing packets lefts rights α ≡ not b
   unfolding startMissing inColumns
@@ -117,7 +117,7 @@ module _ {packets lefts rights trees : List ℕ} {count i : ℕ} where
   pub looked-up : {n : ℕ} → Indexed packets lefts rights count n trees → Small packets count → i < length packets → (x : Row) → x ≡ rowAt packets lefts rights i → x .packet < count
   looked-up I small l x isRow = subst (λ y. y .packet < count) (sym isRow) (small .small i l)
 
-  pub repeats : {n : ℕ} (x : Row) → x ≡ rowAt packets lefts rights i → {answer : Lookup} → Placed (rowAt packets lefts rights) count n trees x answer → (j : ℕ) → answer ≡ Listed j
+  pub repeats : {n : ℕ} (x : Row) → x ≡ rowAt packets lefts rights i → {answer : Lookup} → LookEnds (rowAt packets lefts rights) count n trees x answer → (j : ℕ) → answer ≡ Listed j
       → ltb j i ≡ true → Repeated packets lefts rights i
   repeats x isRow p j e l =
-      record { first = j; before = ltb-true j i l; same = subst (λ y. sameRow (rowAt packets lefts rights j) y ≡ true) isRow (p .listed j e .same) }
+      record { first = j; before = ltb-true j i l; same = subst (λ y. rowsAgree (rowAt packets lefts rights j) y ≡ true) isRow (p .listed j e .same) }

@@ -8,7 +8,7 @@ use lib.Dec.{eqb, ltb}
 use lib.ListN.{length, getD}
 use Rattle.packet_set.specs.Bits.{onlyBits}
 use Rattle.index.specs.declared.Row.{Row}
-use Rattle.index.specs.Columns.{rowAt, sameRow, listedBelow}
+use Rattle.index.specs.Columns.{rowAt, rowsAgree, listedBelow}
 use Rattle.row_rules.specs.declared.Spot.{Spot}
 use Rattle.row_rules.specs.declared.Spot.the-variants.{At, Nowhere}
 
@@ -22,8 +22,8 @@ abbrev pub maskRow : ℕ → ℕ → ℕ → Row
 maskRow α l r = record { packet = α; states = l ∷ r ∷ [] }
 
 -- rule (a) at one row: a packet below N, and masks of only bits 0 to the number of dups
-unfoldable pub fits : ℕ → ℕ → ℕ → ℕ → ℕ → ℕ → Bool
-fits count leftDups rightDups α l r = ltb α count && (onlyBits l leftDups && onlyBits r rightDups)
+unfoldable pub rowInRange : ℕ → ℕ → ℕ → ℕ → ℕ → ℕ → Bool
+rowInRange count leftDups rightDups α l r = ltb α count && (onlyBits l leftDups && onlyBits r rightDups)
 
 -- both states are 0
 unfoldable pub zeroStates : ℕ → ℕ → Bool
@@ -36,7 +36,7 @@ module _ (packets lefts rights : List ℕ) where
 
   -- rule (a) is broken at row i
   unfoldable pub strays : ℕ → ℕ → ℕ → ℕ → Bool
-  strays count leftDups rightDups i = not (fits count leftDups rightDups (getD packets i 0) (getD lefts i 0) (getD rights i 0))
+  strays count leftDups rightDups i = not (rowInRange count leftDups rightDups (getD packets i 0) (getD lefts i 0) (getD rights i 0))
 
   -- rule (b) is broken at packet α
   unfoldable pub startMissing : ℕ → Bool
@@ -50,4 +50,4 @@ module _ (packets lefts rights : List ℕ) where
   pub record Repeated (i : ℕ) : Type 0 where
     pub first : ℕ
     pub before : first < i
-    pub same : sameRow (rowAt packets lefts rights first) (rowAt packets lefts rights i) ≡ true
+    pub same : rowsAgree (rowAt packets lefts rights first) (rowAt packets lefts rights i) ≡ true

@@ -9,7 +9,7 @@ ghost use Rattle.packet.specs.Lowest.{lowest};
 ghost use Rattle.index.specs.Columns.{leftOf, rightOf, EvenColumns, Small};
 ghost use Rattle.index.specs.Index.{Indexed};
 ghost use Rattle.marks.specs.Marks.{Marking};
-ghost use Rattle.row_rules.specs.Presence.{spotOf, fits, zeroStates, strays, startMissing, nextMissing, Repeated};
+ghost use Rattle.row_rules.specs.Presence.{spotOf, rowInRange, zeroStates, strays, startMissing, nextMissing, Repeated};
 use index::Lookup;
 use index::Mask;
 use index::POLICIES;
@@ -25,7 +25,7 @@ pub enum Spot {
 // Rule (a) at one row.
 fn row_fits(row: Row, count: u16, left_dups: u32, right_dups: u32) -> bool
     requires { ⌜ («left_dups» < 32) × («right_dups» < 32) ⌝ }
-    ensures { λ r. ⌜ r ≡ fits count «left_dups» «right_dups» (row .packet) (getD (row .states) 0 0) (getD (row .states) 1 0) ⌝ }
+    ensures { λ r. ⌜ r ≡ rowInRange count «left_dups» «right_dups» (row .packet) (getD (row .states) 0 0) (getD (row .states) 1 0) ⌝ }
 {
     if count <= row.packet {
         return false;

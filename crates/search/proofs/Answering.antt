@@ -20,7 +20,7 @@ use Rattle.pair.specs.Search.{SearchAnswer, equal, different, rowsFull, traceSh
 use Rattle.pair.proofs.Lawful.{EvaluablePair, legal-pair}
 use Rattle.pair.proofs.Verdicts as verdicts
 use Rattle.index.specs.Appending.{Lists, lists}
-use Rattle.lent_lists.specs.Lent.{listsStage, rowsMisfit}
+use Rattle.lent_lists.specs.LentLists.{listsStage, rowsMisfit}
 use Rattle.packet.specs.Written.{written}
 use Rattle.listed_rows.proofs.Searching.{holds}
 use Rattle.lent_lists.proofs.Testing.{front-tests, tests-passed, lists-passed, row-list-fits, rows-few}

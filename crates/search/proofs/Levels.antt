@@ -8,7 +8,7 @@ use lib.ListN.{length, getD, replicate}
 use Rattle.packet.specs.Sizes.{product}
 use Rattle.index.specs.declared.Appended.{Appended}
 use Rattle.index.specs.declared.Appended.the-variants.{Rows, Full as FullUp}
-use Rattle.index.specs.Index.{sizeOf, Indexed, Indexable}
+use Rattle.index.specs.Index.{bucketCount, Indexed, Indexable}
 use Rattle.index.specs.Appending.{Lists}
 use Rattle.index.proofs.Growth.{indexed-none}
 use Rattle.listed_rows.specs.declared.Progress.{Progress}
@@ -112,7 +112,7 @@ module _ {sizes : List ℕ} {nodes tests : List (List ℕ)} {b : Lists} {p : Pro
                 ended = λ stop g. let z : _≡_ {A = ℕ} 0 1 = cc in absurd (omega arith);
                 outgrown = λ w g. let same : q ≡ w = cc in subst (λ v. (v .count ≡ p .count) × Underway sizes L R x y v) same (D .count, D .led L R l x U);
               };
-          outgrown = λ w g. subst (λ n. sizeOf (b .trees) < n) (K .lengths .packets) (subst (λ m. m / 3 < length (y .packets)) (K .lengths .trees) less);
+          outgrown = λ w g. subst (λ n. bucketCount (b .trees) < n) (K .lengths .packets) (subst (λ m. m / 3 < length (y .packets)) (K .lengths .trees) less);
           kept = K .clean;
         }
 

@@ -23,7 +23,7 @@ use Rattle.pair.specs.Search.{sideOf, searchAnswer, reported}
 use Rattle.pair.proofs.Lawful.{legal-pair, lawful}
 use Rattle.index.specs.declared.Appended.{Appended}
 use Rattle.index.specs.declared.Appended.the-variants.{Rows, Full as FullUp}
-use Rattle.index.specs.Index.{sizeOf, Indexed, Indexable}
+use Rattle.index.specs.Index.{bucketCount, Indexed, Indexable}
 use Rattle.index.specs.Appending.{Lists}
 use Rattle.index.specs.Entries.{Masks}
 use Rattle.listed_rows.specs.declared.Progress.{Progress}
@@ -37,7 +37,7 @@ use Rattle.verdict.specs.declared.Ended.{Ended}
 use Rattle.verdict.specs.declared.Ended.the-variants.{Done, Full}
 use Rattle.row_handling.specs.declared.Handled.{Handled}
 use Rattle.row_handling.specs.declared.Handled.the-variants.{Open, Stopped}
-use Rattle.row_handling.specs.Step.{goesOn, runAt, afterRow, stepAnswer, stepRows, RowHandled, HandleReady}
+use Rattle.row_handling.specs.Step.{openOrDone, runAt, afterRow, stepAnswer, stepRows, RowHandled, HandleReady}
 use Rattle.verdict.specs.InnerEnding.{tellingAt, CanRead, tellingAnswer, answerAtEnd, endedAnswer, ReadableAt, Readable}
 use Rattle.search.specs.InnerRows.{withIndex, RowsRun, Underway}
 
@@ -56,7 +56,7 @@ module _ (sizes : List ℕ) (L R : NodeLists) where
     fills : turn S (run S k) ≡ handling → lent < length (run S (suc k) .rows) → Stepped lent k (Stopped Full)
 
   stepped : (lent k : ℕ) → run S k .handled < length (run S k .rows) → Stepped lent k (stepAnswer sizes (policies L R) lent (run S k))
-  unfolding stepAnswer afterRow goesOn
+  unfolding stepAnswer afterRow openOrDone
   stepped lent k more = go (turn S (run S k)) refl
     where
       on : (b : Bool) → turn S (run S k) ≡ handling → length (run S (suc k) .rows) ≤ lent → ltb (run S (suc k) .handled) (length (run S (suc k) .rows)) ≡ b
@@ -65,7 +65,7 @@ module _ (sizes : List ℕ) (L R : NodeLists) where
       on false goes fits e = ends goes refl fits (ltb-false _ _ e)
 
       after : turn S (run S k) ≡ handling → (b : Bool) → ltb lent (length (run S (suc k) .rows)) ≡ b
-          → Stepped lent k (cond b (Stopped Full) (goesOn (run S (suc k) .handled) (length (run S (suc k) .rows))))
+          → Stepped lent k (cond b (Stopped Full) (openOrDone (run S (suc k) .handled) (length (run S (suc k) .rows))))
       after goes true e = fills goes (ltb-true _ _ e)
       after goes false e = on (ltb (run S (suc k) .handled) (length (run S (suc k) .rows))) goes (ltb-false _ _ e) refl
 
@@ -177,7 +177,7 @@ module _ {sizes : List ℕ} {nodes tests : List (List ℕ)} {L R : NodeLists} (b
 
     -- ---- another index
 
-    pub indexable : {trees : List ℕ} → 65536 ≤ sizeOf trees → Indexable (y .packets) count n trees
+    pub indexable : {trees : List ℕ} → 65536 ≤ bucketCount trees → Indexable (y .packets) count n trees
     indexable l = record { within = O .standing .indexed .within; room = omega (arith, underway-few); small = underway-small }
 
     pub reindexed : {trees : List ℕ} → Indexed (y .packets) (y .left) (y .right) count n trees → Underway sizes L R x (withIndex y trees) p

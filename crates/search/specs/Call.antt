@@ -18,7 +18,7 @@ use Rattle.system.specs.RowOrder.{NeedsMore}
 use Rattle.pair.specs.Sides.{Side, policies}
 use Rattle.pair.specs.Pair.{pairSystem}
 use Rattle.pair.specs.Search.{SearchAnswer, Columns, searchAnswer, heldColumns, Distinguishes}
-use Rattle.lent_lists.specs.Lent.{listsStage, lentTests}
+use Rattle.lent_lists.specs.LentLists.{listsStage, lentTests}
 use Rattle.packet.specs.Written.{written}
 use Rattle.verdict.specs.declared.Verdict.{Verdict}
 use Rattle.verdict.specs.Verdicts.{tellingVerdict, verdictOf, traceAfter}

@@ -10,7 +10,7 @@ use Rattle.pair.specs.Sides.{policies}
 use Rattle.pair.specs.Pair.{pairSystem}
 use Rattle.pair.specs.Search.{searchAnswer}
 use Rattle.index.specs.Columns.{EvenColumns}
-use Rattle.index.specs.Index.{sizeOf}
+use Rattle.index.specs.Index.{bucketCount}
 use Rattle.index.specs.Appending.{Lists, lists}
 use Rattle.listed_rows.specs.declared.Progress.{Progress}
 use Rattle.listed_rows.specs.Standing.{Standing, pairMasks}
@@ -64,7 +64,7 @@ module _ (sizes : List ℕ) (nodes tests : List (List ℕ)) where
   -- round after round, whatever policies are loaded and wherever the row order started; an index for all rows lent is not outgrown
   pub record RoundsDone (y z : Lists) (p : Progress) (work : List ℕ) (answer : Level) (work′ : List ℕ) : Type 0 where
     pub leads : (L R : NodeLists) → BothLoaded sizes L R nodes tests → (x : Lists) → Underway sizes L R x y p → Leads sizes L R x z (p .count) answer
-    pub outgrown : (q : Progress) → answer ≡ Outgrown q → sizeOf (y .trees) < length (y .packets)
+    pub outgrown : (q : Progress) → answer ≡ Outgrown q → bucketCount (y .trees) < length (y .packets)
     pub kept : work′ ≡ work
 
   -- what the rest of a row order asks: it is underway on some index

@@ -9,12 +9,12 @@ use Rattle.packet.specs.declared.Refusal.{Refusal}
 use Rattle.packet.specs.declared.Tested.{Tested}
 use Rattle.packet.specs.declared.Tested.the-variants.{Passed, Refused as Stopped}
 use Rattle.policy.specs.AsLists.{asLists}
-use Rattle.policy.specs.NodesOfTree.{Entry, treeSize, entriesFrom, listsOf, nodesOf}
+use Rattle.policy.specs.NodesOfTree.{NodeEntry, treeSize, entriesFrom, listsOf, nodesOf}
 use Rattle.policy.proofs.Nodes.{entries-length}
 use Rattle.grammar.specs.declared.Answer.{Answer}
 use Rattle.grammar.specs.declared.Answer.the-variants.{Nodes, Refused}
 use Rattle.grammar.specs.Tokens.{fieldNames}
-use Rattle.grammar.specs.Answer.{answered, textTree, answerTo, leftBy, shortest, TextRead}
+use Rattle.grammar.specs.Answer.{answerAfter, textTree, answerTo, leftBy, shortest, TextRead}
 use Rattle.packet.specs.Written.{written}
 use Rattle.grammar.proofs.AnswerLaws.{few-enough, count-parts}
 use Rattle.search_texts.specs.Call.{textNodes, textStage}
@@ -29,23 +29,23 @@ zeros-length = length-replicate {A = ℕ} 512 0
 zero≢one : _≡_ {A = ℕ} 0 1 → ⊥
 zero≢one z = omega arith
 
-nodes-stage : (t : Tested) (n m : ℕ) → Nodes m ≡ answered t n → (t ≡ Passed) × (n ≡ m)
-unfolding answered
+nodes-stage : (t : Tested) (n m : ℕ) → Nodes m ≡ answerAfter t n → (t ≡ Passed) × (n ≡ m)
+unfolding answerAfter
 nodes-stage Passed n m e = (refl, let same : m ≡ n = cc in sym same)
 nodes-stage (Stopped r) n m e = absurd (zero≢one (let z : _≡_ {A = ℕ} 0 1 = cc in z))
 
-refused-stage : (t : Tested) (n : ℕ) (r : Refusal) → Refused r ≡ answered t n → t ≡ Stopped r
-unfolding answered
+refused-stage : (t : Tested) (n : ℕ) (r : Refusal) → Refused r ≡ answerAfter t n → t ≡ Stopped r
+unfolding answerAfter
 refused-stage Passed n r e = absurd (zero≢one (let z : _≡_ {A = ℕ} 0 1 = cc in z))
 refused-stage (Stopped q) n r e = ap Stopped (let same : r ≡ q = cc in sym same)
 
 -- a text that passes has its number of nodes as the answer
 pub stage-answer : (text : List ℕ) → textStage text ≡ Passed → answerTo fieldNames text 512 ≡ Nodes (treeSize (textTree fieldNames text))
-unfolding textStage answerTo answered
-stage-answer text e = ap (λ (t : Tested). answered t (treeSize (textTree fieldNames text))) e
+unfolding textStage answerTo answerAfter
+stage-answer text e = ap (λ (t : Tested). answerAfter t (treeSize (textTree fieldNames text))) e
 
 -- the front of a list that entries were written into
-front : (f : Entry → ℕ) (es : List Entry) (n : ℕ) (old : List ℕ) → length es ≡ n → take n (written (map f es) old) ≡ map f es
+front : (f : NodeEntry → ℕ) (es : List NodeEntry) (n : ℕ) (old : List ℕ) → length es ≡ n → take n (written (map f es) old) ≡ map f es
 unfolding written
 front f es n old e = take-at (map f es) (drop (length (map f es)) old) n (length-map es f ∙ e)
 
@@ -54,7 +54,7 @@ module _ (text K F S : List ℕ) {r : Answer} {K′ F′ S′ : List ℕ} (d : T
   unfolding shortest
   room = omega arith
 
-  answer-is : r ≡ answered (textStage text) (treeSize (textTree fieldNames text))
+  answer-is : r ≡ answerAfter (textStage text) (treeSize (textTree fieldNames text))
   unfolding textStage answerTo
   answer-is = d .answer ∙ ap (answerTo fieldNames text) room
 
@@ -77,9 +77,9 @@ module _ (text K F S : List ℕ) {r : Answer} {K′ F′ S′ : List ℕ} (d : T
   unfolding textNodes nodesOf listsOf leftBy
   read-nodes {n} e =
       same
-      (ap (take n) (d .kinds ∙ ap (λ (a : Answer). leftBy a (nodesOf (textTree fieldNames text) .kind) K) e) ∙ front (λ (x : Entry). x .kind) (entriesFrom 0 (textTree fieldNames text)) n K (many e))
-      (ap (take n) (d .firsts ∙ ap (λ (a : Answer). leftBy a (nodesOf (textTree fieldNames text) .first) F) e) ∙ front (λ (x : Entry). x .first) (entriesFrom 0 (textTree fieldNames text)) n F (many e))
-      (ap (take n) (d .seconds ∙ ap (λ (a : Answer). leftBy a (nodesOf (textTree fieldNames text) .second) S) e) ∙ front (λ (x : Entry). x .second) (entriesFrom 0 (textTree fieldNames text)) n S (many e))
+      (ap (take n) (d .kinds ∙ ap (λ (a : Answer). leftBy a (nodesOf (textTree fieldNames text) .kind) K) e) ∙ front (λ (x : NodeEntry). x .kind) (entriesFrom 0 (textTree fieldNames text)) n K (many e))
+      (ap (take n) (d .firsts ∙ ap (λ (a : Answer). leftBy a (nodesOf (textTree fieldNames text) .first) F) e) ∙ front (λ (x : NodeEntry). x .first) (entriesFrom 0 (textTree fieldNames text)) n F (many e))
+      (ap (take n) (d .seconds ∙ ap (λ (a : Answer). leftBy a (nodesOf (textTree fieldNames text) .second) S) e) ∙ front (λ (x : NodeEntry). x .second) (entriesFrom 0 (textTree fieldNames text)) n S (many e))
     where
       same : {a a′ b b′ c c′ : List ℕ} → a ≡ a′ → b ≡ b′ → c ≡ c′ → asLists a b c ≡ asLists a′ b′ c′
       same p q t = rw (p, q, t) refl

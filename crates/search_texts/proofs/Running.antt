@@ -20,7 +20,7 @@ use Rattle.policy.specs.NodesOfTree.{treeSize}
 use Rattle.pair.specs.Sides.{Side, left, right, other, at, policies}
 use Rattle.pair.specs.Pair.{SideTraces}
 use Rattle.pair.specs.Search.{Distinguishes}
-use Rattle.lent_lists.specs.Lent.{listsStage, lentTests}
+use Rattle.lent_lists.specs.LentLists.{listsStage, lentTests}
 use Rattle.grammar.specs.Tokens.{fieldNames}
 use Rattle.grammar.specs.Answer.{textTree}
 use Rattle.grammar.proofs.NodeLaws.{text-traces}

@@ -16,7 +16,7 @@ use Rattle.system.specs.RowOrder.{NeedsMore}
 use Rattle.pair.specs.Sides.{Side, Pair, NumberedPolicy, policies}
 use Rattle.pair.specs.Pair.{pairSystem}
 use Rattle.pair.specs.Search.{SearchAnswer, Columns, Distinguishes}
-use Rattle.lent_lists.specs.Lent.{listsStage}
+use Rattle.lent_lists.specs.LentLists.{listsStage}
 use Rattle.grammar.specs.Tokens.{fieldNames}
 use Rattle.grammar.specs.Answer.{textTree, tested}
 use Rattle.verdict.specs.declared.Verdict.{Verdict}

@@ -17,7 +17,7 @@ use Rattle.packet_set.specs.Bits.{bit}
 use Rattle.packet_set.specs.InnerMembers.{Members}
 use Rattle.packet_set.proofs.Digits.{bit-of-zero, bit-or, bits-below}
 use Rattle.packet_set.proofs.Trailing.{trailing-lowest}
-use Rattle.spans.specs.Spans.{Rewritten, Tells}
+use Rattle.spans.specs.Spans.{Rewritten, TellsMember}
 
 pub record Doing (f : ℕ → ℕ) (old now : List ℕ) (p : ℕ) : Type 0 where
   pub long : length now ≡ length old
@@ -80,7 +80,7 @@ module _ (f : ℕ → ℕ) where
         at b (inr t) = (i, ap (λ (x : ℕ). bit x b) (sym e) ∙ t)
 
     pub all-seen : ((j : ℕ) → i ≤ j → f j ≡ 0) → (X : Members) → ((γ : ℕ) → X γ ≡ bit (f (γ / 32)) (γ % 32))
-        → (r : Bool) → Tells r (λ b. ltb b 32 && bit any b) → Tells r X
+        → (r : Bool) → TellsMember r (λ b. ltb b 32 && bit any b) → TellsMember r X
     all-seen z X x r t = record {
       none = λ e γ. x γ ∙ word γ (low γ (t .none e (γ % 32))) (decLt (γ / 32) i);
       found = λ e. let h = t .found e in let b = and-true (ltb (h .0) 32) (bit any (h .0)) (T-true (ltb (h .0) 32 && bit any (h .0)) (h .1)) in
@@ -109,7 +109,7 @@ module _ (f : ℕ → ℕ) where
         go (no l) = z j (omega arith)
 
 -- a word that is not 0 has a bit, and one that fits has it below 32
-pub bit-found : (word : ℕ) → word < 2 ^ 32 → Tells (not (eqb word 0)) (λ b. ltb b 32 && bit word b)
+pub bit-found : (word : ℕ) → word < 2 ^ 32 → TellsMember (not (eqb word 0)) (λ b. ltb b 32 && bit word b)
 bit-found word fits = record {
   none = λ e b. ap (λ (q : Bool). ltb b 32 && q) (ap (λ (x : ℕ). bit x b) (eqb-true word 0 (not-false (eqb word 0) e)) ∙ bit-of-zero b) ∙ and-false (ltb b 32);
   found = λ e. let n = eqb-false word 0 (not-true (eqb word 0) e) in at (positive n (decLt 0 word));

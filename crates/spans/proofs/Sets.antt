@@ -16,7 +16,7 @@ use Rattle.packet_set.specs.Bits.{bit}
 use Rattle.packet_set.specs.InnerMembers.{Members, member, emptySet, withPacket, without}
 use Rattle.packet_set.proofs.Digits.{bit-or, bit-and, bit-without, bit-of-zero, shift-marks}
 use Rattle.packet_set.proofs.Words.{length-with, member-with}
-use Rattle.spans.specs.Spans.{slot, Spanned, Rewritten, Hull, Holds, Tells, Left, Noted}
+use Rattle.spans.specs.Spans.{slot, Spanned, Rewritten, Hull, Holds, TellsMember, Left, Noted}
 use Rattle.spans.proofs.Rewriting.{Doing, none-done, one-done, all-done, Any, none-seen, one-seen, all-seen, all-zero}
 
 -- ---- a word is in the span or outside
@@ -136,11 +136,11 @@ module _ (from to : ℕ) (set : List ℕ) (s : Spanned from to set) (f : ℕ →
     pub words-end : Doing f set now i → Rewritten f set now
     words-end d = all-done f set now i d (λ j h. same-zero j (above-span from to set s j (omega arith)))
 
-    pub words-tell : (any : ℕ) → Any f any i → (X : Members) → ((γ : ℕ) → X γ ≡ bit (f (γ / 32)) (γ % 32)) → (r : Bool) → Tells r (λ b. ltb b 32 && bit any b) → Tells r X
+    pub words-tell : (any : ℕ) → Any f any i → (X : Members) → ((γ : ℕ) → X γ ≡ bit (f (γ / 32)) (γ % 32)) → (r : Bool) → TellsMember r (λ b. ltb b 32 && bit any b) → TellsMember r X
     words-tell any a = all-seen f any i a (λ j h. zeros j (above-span from to set s j (omega arith)))
 
     -- what is left, if the loop leaves f of the words
-    pub words-left : (any : ℕ) → Any f any i → Rewritten f set now → (r : Bool) → Tells r (λ b. ltb b 32 && bit any b) × (r ≡ false → any ≡ 0) → Left r now
+    pub words-left : (any : ℕ) → Any f any i → Rewritten f set now → (r : Bool) → TellsMember r (λ b. ltb b 32 && bit any b) × (r ≡ false → any ≡ 0) → Left r now
     unfolding member
     words-left any a w r t = record {
       none = λ e. record { wide = w .long ∙ s .wide; within = omega arith; outside = λ j o. w .words j ∙ all-zero f any i a (λ k h. zeros k (above-span from to set s k (omega arith))) (t .1 e) j };
@@ -212,7 +212,7 @@ module _ (from to : ℕ) (set tests : List ℕ) (k : ℕ) (s : Spanned from to s
         is : bitAnd (getD now i 0) (getD tests (32 * k + i) 0) ≡ commonWord set tests k i
         is = ap (λ (x : ℕ). bitAnd x (getD tests (32 * k + i) 0)) (w .words .left i (omega arith))
 
-    pub keeping-end : to ≤ i → (r : Bool) → Tells r (λ b. ltb b 32 && bit any b) × (r ≡ false → any ≡ 0) → Holds from to now (λ γ. member set γ && slot tests k γ) × Left r now
+    pub keeping-end : to ≤ i → (r : Bool) → TellsMember r (λ b. ltb b 32 && bit any b) × (r ≡ false → any ≡ 0) → Holds from to now (λ γ. member set γ && slot tests k γ) × Left r now
     keeping-end l r t =
         let w′ = words-end from to set s (commonWord set tests k) (common-zero set tests k) now i l (w .words) in (
           holds-now from to set s (commonWord set tests k) (common-zero set tests k) now w′ (λ γ. member set γ && slot tests k γ) (common-members from to set s tests k),
@@ -277,7 +277,7 @@ module _ (work : List ℕ) (n : ℕ) (set : List ℕ) where
           new = ap₂ (λ (x y : ℕ). without x y) left old
 
       pub noting-end : to ≤ i → n < 512 → (seen seen′ : List ℕ) → length seen ≡ 16 → seen′ ≡ withPacket seen n
-          → (r : Bool) → Tells r (λ b. ltb b 32 && bit any b) × (r ≡ false → any ≡ 0) → Noted n from to work seen set r work′ seen′ set′
+          → (r : Bool) → TellsMember r (λ b. ltb b 32 && bit any b) × (r ≡ false → any ≡ 0) → Noted n from to work seen set r work′ seen′ set′
       unfolding member
       noting-end l small seen seen′ wide e r t = record {
         slots = λ m γ. slots m γ (decLt γ 1024);

@@ -52,7 +52,7 @@ pub record Holds (from to : ℕ) (set : List ℕ) (X : Members) : Type 0 where
   pub members : (γ : ℕ) → member set γ ≡ X γ
 
 -- an answer says whether there is a member: `false` says that there is none
-pub record Tells (some : Bool) (X : Members) : Type 0 where
+pub record TellsMember (some : Bool) (X : Members) : Type 0 where
   pub none : some ≡ false → (γ : ℕ) → X γ ≡ false
   pub found : some ≡ true → (γ : ℕ) × T (X γ)
 

@@ -7,9 +7,9 @@ ghost use lib.Dec.{T, ltb};
 ghost use lib.ListN.{length};
 ghost use Rattle.packet_set.specs.Bits.{bit};
 ghost use Rattle.packet_set.specs.InnerMembers.{member, emptySet, withPacket};
-ghost use Rattle.spans.specs.Spans.{slot, Spanned, Rewritten, clearedWord, markedEntry, Hull, Holds, Tells, Left, Noted, GotMark, Unseen};
+ghost use Rattle.spans.specs.Spans.{slot, Spanned, Rewritten, clearedWord, markedEntry, Hull, Holds, TellsMember, Left, Noted, GotMark, Unseen};
 use packet_set::Lowest;
-use packet_set::PacketSet;
+use packet_set::PacketWords;
 
 // The words `from` to `to` - 1 of a set; its other words are 0.
 pub struct Span {
@@ -52,13 +52,13 @@ pub fn hull(a: Span, b: Span) -> Span
 
 // Inner. Has the word a bit that is 1? (A call, since a parameter is known to fit its type.)
 fn any_bit(word: u32) -> bool
-    ensures { λ r. ⌜ Tells r (λ b. ltb b 32 && bit word b) × (r ≡ false → word ≡ 0) ⌝ }
+    ensures { λ r. ⌜ TellsMember r (λ b. ltb b 32 && bit word b) × (r ≡ false → word ≡ 0) ⌝ }
 {
     word != 0
 }
 
 // Inner. Has the set a packet that slot k of the tests has? (`false` says that it has none.)
-pub fn meets(tests: &[u32; 8224], k: usize, span: Span, set: &PacketSet) -> bool
+pub fn meets(tests: &[u32; 8224], k: usize, span: Span, set: &PacketWords) -> bool
     requires { ⌜ (k ≤ 256) × Spanned (span .from) (span .to) (now set) ⌝ }
     ensures { λ r. ⌜ (r ≡ false → (γ : ℕ) → (member (now (set .entry)) γ && slot (now (tests .entry)) k γ) ≡ false) ⌝ }
 {
@@ -75,7 +75,7 @@ pub fn meets(tests: &[u32; 8224], k: usize, span: Span, set: &PacketSet) -> bool
 }
 
 // Inner. The set keeps the packets that slot k of the tests has; is any left?
-pub fn keep(tests: &[u32; 8224], k: usize, span: Span, set: &mut PacketSet) -> bool
+pub fn keep(tests: &[u32; 8224], k: usize, span: Span, set: &mut PacketWords) -> bool
     requires { ⌜ (k ≤ 256) × Spanned (span .from) (span .to) (now set) ⌝ }
     ensures { λ r. ⌜ Holds (span .from) (span .to) (now (set .exit)) (λ γ. member (now (set .entry)) γ && slot (now (tests .entry)) k γ) × Left r (now (set .exit)) ⌝ }
 {
@@ -93,7 +93,13 @@ pub fn keep(tests: &[u32; 8224], k: usize, span: Span, set: &mut PacketSet) -> b
 }
 
 // Inner. Slot n of the work list takes the set, and node n is seen; what was not there before stays in the set. Is anything new?
-pub fn note(work: &mut [u32], seen: &mut [u32; 16], n: u16, span: Span, set: &mut PacketSet) -> bool
+pub fn note(
+    work: &mut [u32],
+    seen: &mut [u32; 16],
+    n: u16,
+    span: Span,
+    set: &mut PacketWords,
+) -> bool
     requires { ⌜ (n < 512) × (16384 ≤ length (now work)) × (length (now seen) ≡ 16) × Spanned (span .from) (span .to) (now set) ⌝ }
     ensures { λ r. ⌜ Noted n (span .from) (span .to) (now (work .entry)) (now (seen .entry)) (now (set .entry)) r (now (work .exit)) (now (seen .exit)) (now (set .exit)) ⌝ }
 {
@@ -131,7 +137,7 @@ fn mark_word(next: &mut [u32; 1056], label: u32, i: usize, word: u32)
 }
 
 // Inner. Each packet of the set gets the mark.
-pub fn mark(next: &mut [u32; 1056], label: u32, span: Span, set: &PacketSet)
+pub fn mark(next: &mut [u32; 1056], label: u32, span: Span, set: &PacketWords)
     requires { ⌜ (label < 32) × (length (now next) ≡ 1056) × Spanned (span .from) (span .to) (now set) ⌝ }
     ensures { λ _. ⌜ GotMark label (now (set .entry)) (now (next .entry)) (now (next .exit)) ⌝ }
 {
@@ -146,7 +152,7 @@ pub fn mark(next: &mut [u32; 1056], label: u32, span: Span, set: &PacketSet)
 }
 
 // Inner. The first set becomes the union; its span.
-pub fn join(a: &mut PacketSet, in_a: Span, b: &PacketSet, in_b: Span) -> Span
+pub fn join(a: &mut PacketWords, in_a: Span, b: &PacketWords, in_b: Span) -> Span
     requires { ⌜ Spanned (in_a .from) (in_a .to) (now a) × Spanned (in_b .from) (in_b .to) (now b) ⌝ }
     ensures { λ r. ⌜ Holds (r .from) (r .to) (now (a .exit)) (λ γ. member (now (a .entry)) γ || member (now (b .entry)) γ) ⌝ }
 {
@@ -160,7 +166,7 @@ pub fn join(a: &mut PacketSet, in_a: Span, b: &PacketSet, in_b: Span) -> Span
 }
 
 // Inner. The set becomes empty.
-pub fn clear(set: &mut PacketSet, span: Span)
+pub fn clear(set: &mut PacketWords, span: Span)
     requires { ⌜ Spanned (span .from) (span .to) (now set) ⌝ }
     ensures { λ _. ⌜ now (set .exit) ≡ emptySet ⌝ }
 {

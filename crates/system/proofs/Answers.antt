@@ -10,7 +10,7 @@ use lib.ListN.{length, take}
 use lib.Seq.{take-all, take-take, length-take-le}
 use borrow.Author.Tests.{lt-ltb, le-ltb}
 use Rattle.system.specs.System.{System, Row, nextRow}
-use Rattle.system.specs.RowOrder.{Entry, startEntry, Run, Turn, finished, telling, handling, starts, listed, append, appendNext, current, turn, handle, runFrom, run, NeedsMore, path, entering, Answer, full, equal, different, verdict, answer, held}
+use Rattle.system.specs.RowOrder.{Entry, startEntry, Run, Turn, finished, telling, handling, starts, listed, append, appendNext, current, turn, handle, runFrom, run, NeedsMore, path, entering, RunAnswer, full, equal, different, runAnswer, answerWith, held}
 use Rattle.system.proofs.Basics.{lt-or-le, prefix-chain, Prefix, prefix-refl, prefix-snoc, prefix-length, prefix-take}
 use Rattle.system.proofs.Listing.{append-kept, append-new}
 use Rattle.system.proofs.Runs.{finished≢handling, telling≢handling, Stopped, going-or-stopped, run-handle, run-stay, row-turn}
@@ -83,49 +83,49 @@ module _ (S : System) where
       go (inr l) (inl c) = omega (arith, prefix-length (run-longer k (suc n) (omega arith)))
       go (inr l) (inr c) = subst (λ x. n < length (x .rows)) (run-short n k l (inl c)) h
 
-  answer-verdict : (n : ℕ) → length (run S (suc n) .rows) ≤ n → answer S n ≡ verdict S (run S (suc n))
-  unfolding answer
-  answer-verdict n h = rw (le-ltb n (length (run S (suc n) .rows)) h, answer)
+  answer-verdict : (n : ℕ) → length (run S (suc n) .rows) ≤ n → answerWith S n ≡ runAnswer S (run S (suc n))
+  unfolding answerWith
+  answer-verdict n h = rw (le-ltb n (length (run S (suc n) .rows)) h, answerWith)
 
-  answer-more : (n : ℕ) → n < length (run S (suc n) .rows) → answer S n ≡ full
-  unfolding answer
-  answer-more n h = rw (lt-ltb n (length (run S (suc n) .rows)) h, answer)
+  answer-more : (n : ℕ) → n < length (run S (suc n) .rows) → answerWith S n ≡ full
+  unfolding answerWith
+  answer-more n h = rw (lt-ltb n (length (run S (suc n) .rows)) h, answerWith)
 
-  verdict-end : (x : Run S) → turn S x ≡ finished → verdict S x ≡ equal (length (x .rows))
-  unfolding verdict
-  verdict-end x e = rw (e, verdict)
+  verdict-end : (x : Run S) → turn S x ≡ finished → runAnswer S x ≡ equal (length (x .rows))
+  unfolding runAnswer
+  verdict-end x e = rw (e, runAnswer)
 
-  verdict-telling : (x : Run S) (γ : ℕ) → turn S x ≡ telling γ → verdict S x ≡ different (x .handled) (entering S (x .rows) (x .handled)) (path S (x .rows) (x .handled) ++ (γ ∷ []))
-  unfolding verdict
-  verdict-telling x γ e = rw (e, verdict)
+  verdict-telling : (x : Run S) (γ : ℕ) → turn S x ≡ telling γ → runAnswer S x ≡ different (x .handled) (entering S (x .rows) (x .handled)) (path S (x .rows) (x .handled) ++ (γ ∷ []))
+  unfolding runAnswer
+  verdict-telling x γ e = rw (e, runAnswer)
 
   -- What each answer says of the run after n + 1.
-  pub data Answered (n : ℕ) : Answer → Type 0 where
+  pub data Answered (n : ℕ) : RunAnswer → Type 0 where
     is-full : n < length (run S (suc n) .rows) → Answered n full
     is-equal : {c : ℕ} → length (run S (suc n) .rows) ≤ n → turn S (run S (suc n)) ≡ finished → length (run S (suc n) .rows) ≡ c → Answered n (equal c)
     is-different : {i α : ℕ} {t : List ℕ} (γ : ℕ) → length (run S (suc n) .rows) ≤ n → turn S (run S (suc n)) ≡ telling γ
         → run S (suc n) .handled ≡ i → entering S (run S (suc n) .rows) i ≡ α → path S (run S (suc n) .rows) i ++ (γ ∷ []) ≡ t → Answered n (different i α t)
 
-  pub answered : (n : ℕ) → Answered n (answer S n)
+  pub answered : (n : ℕ) → Answered n (answerWith S n)
   answered n = go (lt-or-le n (length (run S (suc n) .rows)))
     where
-      short : length (run S (suc n) .rows) ≤ n → (t : Turn) → turn S (run S (suc n)) ≡ t → Answered n (answer S n)
+      short : length (run S (suc n) .rows) ≤ n → (t : Turn) → turn S (run S (suc n)) ≡ t → Answered n (answerWith S n)
       short h finished e = subst (Answered n) (sym (answer-verdict n h ∙ verdict-end (run S (suc n)) e)) (is-equal h e refl)
       short h (telling γ) e = subst (Answered n) (sym (answer-verdict n h ∙ verdict-telling (run S (suc n)) γ e)) (is-different γ h e refl refl refl)
       short h handling e = absurd (short-stops n h e)
 
-      go : (n < length (run S (suc n) .rows)) ⊎ (length (run S (suc n) .rows) ≤ n) → Answered n (answer S n)
+      go : (n < length (run S (suc n) .rows)) ⊎ (length (run S (suc n) .rows) ≤ n) → Answered n (answerWith S n)
       go (inl h) = subst (Answered n) (sym (answer-more n h)) (is-full h)
       go (inr h) = short h (turn S (run S (suc n))) refl
 
   -- full exactly when the row order needs more than n rows
-  pub full-iff : (n : ℕ) → (answer S n ≡ full) ↔ NeedsMore S n
+  pub full-iff : (n : ℕ) → (answerWith S n ≡ full) ↔ NeedsMore S n
   full-iff n = (λ e. record { after = suc n; more = more (subst (Answered n) e (answered n)) }, λ p. answer-more n (needs-more n (p .after) (p .more)))
     where
       more : Answered n full → n < length (run S (suc n) .rows)
       more (is-full h) = h
 
-  not-full : (n : ℕ) → (answer S n ≡ full → ⊥) → length (run S (suc n) .rows) ≤ n
+  not-full : (n : ℕ) → (answerWith S n ≡ full → ⊥) → length (run S (suc n) .rows) ≤ n
   not-full n ne = ⊎-elim (λ h. absurd (ne (answer-more n h))) (λ h. h) (lt-or-le n (length (run S (suc n) .rows)))
 
   -- a run that has stopped, with room for its rows, is the run that the answer reads
@@ -136,19 +136,19 @@ module _ (S : System) where
       go (inl l) = run-kept k (suc n) (omega arith) ne
       go (inr l) = sym (run-short n k (omega (arith, prefix-length (run-longer (suc n) k l))) (inl l))
 
-  pub answer-stopped : (n k : ℕ) → Stopped S (run S k) → length (run S k .rows) ≤ n → answer S n ≡ verdict S (run S k)
+  pub answer-stopped : (n k : ℕ) → Stopped S (run S k) → length (run S k .rows) ≤ n → answerWith S n ≡ runAnswer S (run S k)
   answer-stopped n k ne h =
-      answer-verdict n (subst (λ x. length (x .rows) ≤ n) (sym (settled n k ne h)) h) ∙ ap (verdict S) (settled n k ne h)
+      answer-verdict n (subst (λ x. length (x .rows) ≤ n) (sym (settled n k ne h)) h) ∙ ap (runAnswer S) (settled n k ne h)
 
-  pub answer-finished : (n k : ℕ) → turn S (run S k) ≡ finished → length (run S k .rows) ≤ n → answer S n ≡ equal (length (run S k .rows))
+  pub answer-finished : (n k : ℕ) → turn S (run S k) ≡ finished → length (run S k .rows) ≤ n → answerWith S n ≡ equal (length (run S k .rows))
   answer-finished n k e h = answer-stopped n k (λ q. finished≢handling (sym e ∙ q)) h ∙ verdict-end (run S k) e
 
   pub answer-telling : (n k γ : ℕ) → turn S (run S k) ≡ telling γ → length (run S k .rows) ≤ n
-      → answer S n ≡ different (run S k .handled) (entering S (run S k .rows) (run S k .handled)) (path S (run S k .rows) (run S k .handled) ++ (γ ∷ []))
+      → answerWith S n ≡ different (run S k .handled) (entering S (run S k .rows) (run S k .handled)) (path S (run S k .rows) (run S k .handled) ++ (γ ∷ []))
   answer-telling n k γ e h = answer-stopped n k (λ q. telling≢handling (sym e ∙ q)) h ∙ verdict-telling (run S k) γ e
 
   -- more rows lent, the same answer
-  pub answer-kept : (n m : ℕ) → n ≤ m → (answer S n ≡ full → ⊥) → answer S m ≡ answer S n
+  pub answer-kept : (n m : ℕ) → n ≤ m → (answerWith S n ≡ full → ⊥) → answerWith S m ≡ answerWith S n
   answer-kept n m l ne =
       answer-stopped m (suc n) (short-stops n (not-full n ne)) (omega (arith, not-full n ne)) ∙ sym (answer-verdict n (not-full n ne))
 
@@ -174,7 +174,7 @@ module _ (S : System) where
   unfolding held
   held-prefix n m l = take-take n m (run S (suc m) .rows) l ∙ take-run n (suc m) (inr (omega arith))
 
-  pub held-full : (n : ℕ) → answer S n ≡ full → length (held S n) ≡ n
+  pub held-full : (n : ℕ) → answerWith S n ≡ full → length (held S n) ≡ n
   unfolding held
   held-full n e = length-take-le n (run S (suc n) .rows) (omega (arith, needs-more n (full-iff n .0 e .after) (full-iff n .0 e .more)))
 
@@ -184,5 +184,5 @@ module _ (S : System) where
   held-stopped n k ne h = ap (λ x. take n (x .rows)) (settled n k ne h) ∙ take-all n (run S k .rows) h
 
   -- n rows in place and another to come: full, and those n are the rows held
-  pub full-at : (n k : ℕ) {es : List (Entry S)} → Prefix es (run S k .rows) → length es ≡ n → n < length (run S k .rows) → (answer S n ≡ full) × (held S n ≡ es)
+  pub full-at : (n k : ℕ) {es : List (Entry S)} → Prefix es (run S k .rows) → length es ≡ n → n < length (run S k .rows) → (answerWith S n ≡ full) × (held S n ≡ es)
   full-at n k {es} p e h = (full-iff n .1 (record { after = k; more = h }), sym (held-first n k (omega arith)) ∙ prefix-take p n (omega arith) ∙ take-all n es (omega arith))

@@ -10,7 +10,7 @@ use lib.Dec.{eqb}
 use lib.ListN.{length}
 use borrow.Author.Tests.{eqb-true, eqb-false}
 use Rattle.system.specs.System.{System, Lawful, Row}
-use Rattle.system.specs.RowOrder.{Entry, entryAt, NeedsMore, equal, answer, held}
+use Rattle.system.specs.RowOrder.{Entry, entryAt, NeedsMore, equal, answerWith, held}
 use Rattle.system.specs.InnerTables.{Closed}
 use Rattle.system.proofs.Listing.{Listing}
 use Rattle.system.proofs.Runs.{invariant}
@@ -78,7 +78,7 @@ module _ (S : System) where
       at i h = T .placed (entryAt S es i .row) (closed-contains S C I (entryAt S es i .row) (record { place = i; inside = h; there = refl }))
 
   -- as many rows as a closed table has are enough, and the answer is equal
-  pub closed-answer : Lawful S → {Is : Row S → Type 0} → Closed S Is → {m : ℕ} → Counted Is m → answer S m ≡ equal (length (held S m))
+  pub closed-answer : Lawful S → {Is : Row S → Type 0} → Closed S Is → {m : ℕ} → Counted Is m → answerWith S m ≡ equal (length (held S m))
   closed-answer L C {m} T = ⊎-elim (λ e. absurd (enough (full-iff S m .0 e))) (λ e. e) (silent-is S L (closed-silent S L C) m)
     where
       enough : NeedsMore S m → ⊥

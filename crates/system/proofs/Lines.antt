@@ -6,7 +6,7 @@ use Prim.Native.Nat.{ℕ, suc, _≤_, _<_}
 use native.Mathlib.Omega.{arith}
 use lib.ListN.{length}
 use Rattle.system.specs.System.{System, startRow, nextRow}
-use Rattle.system.specs.InnerWords.{Word, end, follow}
+use Rattle.system.specs.InnerWords.{PacketWord, end, leadsTo}
 use Rattle.system.specs.RowOrder.{Entry, startEntry, entryAt, climb, depth, path, entering}
 use Rattle.system.proofs.Basics.{lt-or-le, induction, Prefix, length-snoc}
 use Rattle.system.proofs.Climb.{climb-first, climb-below, climb-kept}
@@ -17,8 +17,8 @@ module _ (S : System) (es : List (Entry S)) where
   -- The path of row i leads to it from its entering packet; its depth is the path's length.
   pub record Line (i : ℕ) : Type 0 where
     pub enters : entering S es i < S .packets
-    pub word : Word (S .packets) (path S es i)
-    pub leads : follow S (startRow S (entering S es i)) (path S es i) ≡ entryAt S es i .row
+    pub word : PacketWord (S .packets) (path S es i)
+    pub leads : leadsTo S (startRow S (entering S es i)) (path S es i) ≡ entryAt S es i .row
     pub deep : depth S es i ≡ length (path S es i)
 
 module _ (S : System) {es : List (Entry S)} {b : ℕ} (I : Listing S es b) where
@@ -67,15 +67,15 @@ module _ (S : System) {es : List (Entry S)} {b : ℕ} (I : Listing S es b) where
   entering-child = climb-child _ _
 
   pub line-of : (i : ℕ) → i < length es → Line S es i
-  unfolding follow
+  unfolding leadsTo
   line-of = line (Line S es) start child
     where
       start : (α : ℕ) → α < S .packets → Line S es α
       start α h =
           record {
             enters = subst (λ n. n < S .packets) (sym (entering-start α h)) h;
-            word = subst (Word (S .packets)) (sym (path-start α h)) end;
-            leads = subst₂ (λ β w. follow S (startRow S β) w ≡ entryAt S es α .row) (sym (entering-start α h)) (sym (path-start α h)) (sym (ap (λ e. e .row) (I .starting α h)));
+            word = subst (PacketWord (S .packets)) (sym (path-start α h)) end;
+            leads = subst₂ (λ β w. leadsTo S (startRow S β) w ≡ entryAt S es α .row) (sym (entering-start α h)) (sym (path-start α h)) (sym (ap (λ e. e .row) (I .starting α h)));
             deep = depth-start α h ∙ sym (ap length (path-start α h));
           }
 
@@ -83,9 +83,9 @@ module _ (S : System) {es : List (Entry S)} {b : ℕ} (I : Listing S es b) where
       child i g h l =
           record {
             enters = subst (λ n. n < S .packets) (sym (entering-child i g h)) (l .enters);
-            word = subst (Word (S .packets)) (sym (path-child i g h)) (word-snoc (l .word) (I .small i h));
+            word = subst (PacketWord (S .packets)) (sym (path-child i g h)) (word-snoc (l .word) (I .small i h));
             leads =
-                subst₂ (λ α w. follow S (startRow S α) w ≡ entryAt S es i .row) (sym (entering-child i g h)) (sym (path-child i g h))
+                subst₂ (λ α w. leadsTo S (startRow S α) w ≡ entryAt S es i .row) (sym (entering-child i g h)) (sym (path-child i g h))
                 (follow-snoc S _ (path S es (entryAt S es i .parent)) (entryAt S es i .row .packet)
                 ∙ ap (λ r. nextRow S r (entryAt S es i .row .packet)) (l .leads)
                 ∙ sym (I .child i g h .comes));

@@ -8,7 +8,7 @@ use native.Mathlib.Omega.{arith}
 use lib.Dec.{eqb, ltb}
 use lib.ListN.{length, getD, take, length-map, List·getD-map}
 use Rattle.system.specs.System.{System, Lawful, Row, nextRow, tells}
-use Rattle.system.specs.RowOrder.{Entry, Run, Turn, finished, telling, handling, startEntry, entryAt, starts, sameRow, listed, append, appendNext, current, turn, handle, runFrom, run, climbing, climb, depth, path, entering, verdict, Answer, full, equal, different, answer, held}
+use Rattle.system.specs.RowOrder.{Entry, Run, Turn, finished, telling, handling, startEntry, entryAt, starts, sameRow, listed, append, appendNext, current, turn, handle, runFrom, run, climbing, climb, depth, path, entering, runAnswer, RunAnswer, full, equal, different, answerWith, held}
 use Rattle.system.proofs.Basics.{clash}
 use Rattle.system.proofs.Listing.{Listing, grown, weaken, append-kept, append-new}
 use Rattle.system.proofs.Runs.{Invariant, invariant, Turned, at-end, at-telling, at-row, turned, turn-end, turn-telling, turn-row, Stopped, going-or-stopped, row-turn, run-handle, run-stay}
@@ -145,11 +145,11 @@ module _ (S S′ : System) (f : S .State → S′ .State) where
             (ap₂ (λ n z. appendNext S′ n (x .handled) (z .row) (map mapEntry (x .rows))) (C .packets) (at-map (x .rows) (x .handled))
             ∙ appendNext-map (weaken S (omega arith) (I .listing)) (row-turn S x e .0) (S .packets) (omega arith))
 
-        verdict-map : verdict S′ (mapRun x) ≡ verdict S x
-        unfolding verdict
+        verdict-map : runAnswer S′ (mapRun x) ≡ runAnswer S x
+        unfolding runAnswer
         verdict-map = ap (told S′ (mapRun x)) turn-map ∙ go (turn S x)
           where
-            told : (R : System) (y : Run R) → Turn → Answer
+            told : (R : System) (y : Run R) → Turn → RunAnswer
             told R y t =
                 elim t [
                   | finished ↦ equal (length (y .rows))
@@ -176,11 +176,11 @@ module _ (S S′ : System) (f : S .State → S′ .State) where
           go (inr ne) ih = run-stay S′ k (λ e. ne (sym (turn-map I) ∙ ap (turn S′) (sym ih) ∙ e)) ∙ ih ∙ ap mapRun (sym (run-stay S k ne))
 
       -- the same answer, and the same rows held, mapped
-      pub answer-map : (n : ℕ) → answer S′ n ≡ answer S n
-      unfolding answer
+      pub answer-map : (n : ℕ) → answerWith S′ n ≡ answerWith S n
+      unfolding answerWith
       answer-map n =
-          ap (λ x. elim (ltb n (length (x .rows))) as (λ b. Answer) [ true ↦ full | false ↦ verdict S′ x ]) (run-map (suc n))
-          ∙ ap₂ {A = ℕ} {B = Answer} {C = Answer} (λ m v. elim (ltb n m) as (λ b. Answer) [ true ↦ full | false ↦ v ]) (length-map (run S (suc n) .rows) mapEntry) (verdict-map (invariant S L (suc n)))
+          ap (λ x. elim (ltb n (length (x .rows))) as (λ b. RunAnswer) [ true ↦ full | false ↦ runAnswer S′ x ]) (run-map (suc n))
+          ∙ ap₂ {A = ℕ} {B = RunAnswer} {C = RunAnswer} (λ m v. elim (ltb n m) as (λ b. RunAnswer) [ true ↦ full | false ↦ v ]) (length-map (run S (suc n) .rows) mapEntry) (verdict-map (invariant S L (suc n)))
 
       pub held-map : (n : ℕ) → held S′ n ≡ map mapEntry (held S n)
       unfolding held

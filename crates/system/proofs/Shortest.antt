@@ -8,7 +8,7 @@ use native.Mathlib.Nat.{add-zero, zero-add}
 use native.Mathlib.Omega.{arith}
 use lib.ListN.{length}
 use Rattle.system.specs.System.{System, Lawful, Row, startRow, nextRow, tells}
-use Rattle.system.specs.InnerWords.{Word, end, then, follow, SilentBelow}
+use Rattle.system.specs.InnerWords.{PacketWord, end, then, leadsTo, SilentBelow}
 use Rattle.system.specs.RowOrder.{Entry, Run, current, telling, turn, depth, path, entering}
 use Rattle.system.specs.InnerTables.{Listed}
 use Rattle.system.proofs.Basics.{lt-or-le}
@@ -30,17 +30,17 @@ module _ (S : System) where
   -- The word w leads from α to a row where γ tells, and no lower packet does; no shorter word leads to a telling row.
   pub record Shortest (α : ℕ) (w : List ℕ) (γ : ℕ) : Type 0 where
     pub enters : α < S .packets
-    pub word : Word (S .packets) w
+    pub word : PacketWord (S .packets) w
     pub small : γ < S .packets
-    pub last-tells : tells S (follow S (startRow S α) w) γ ≡ true
-    pub lower-silent : (δ : ℕ) → δ < γ → tells S (follow S (startRow S α) w) δ ≡ false
+    pub last-tells : tells S (leadsTo S (startRow S α) w) γ ≡ true
+    pub lower-silent : (δ : ℕ) → δ < γ → tells S (leadsTo S (startRow S α) w) δ ≡ false
     pub shortest : SilentBelow S (length w)
 
   module _ (L : Lawful S) {x : Run S} (I : Invariant S x) where
     -- once the rows of depth less than d are handled, a word from a listed row leads, as far as d, to a row listed no deeper, or to a dead state
-    follow-within : {d : ℕ} → HandledBelow x d → {w : List ℕ} → Word (S .packets) w → (r : Row S) (e : ℕ) → Within (x .rows) e r → e + length w ≤ d
-        → (S .dead (follow S r w .state) ≡ true) ⊎ Within (x .rows) (e + length w) (follow S r w)
-    unfolding follow
+    follow-within : {d : ℕ} → HandledBelow x d → {w : List ℕ} → PacketWord (S .packets) w → (r : Row S) (e : ℕ) → Within (x .rows) e r → e + length w ≤ d
+        → (S .dead (leadsTo S r w .state) ≡ true) ⊎ Within (x .rows) (e + length w) (leadsTo S r w)
+    unfolding leadsTo
     follow-within H end r e l h = inr (subst (λ n. Within (x .rows) n r) (sym (add-zero e)) l)
     follow-within {d} H (then {γ = γ} {w = w} g v) r e l h = go (onward γ g) (follow-within H v (nextRow S r γ) (suc e))
       where
@@ -51,11 +51,11 @@ module _ (S : System) where
         onward = subst (λ q. (γ : ℕ) → γ < S .packets → (S .dead (nextRow S q γ .state) ≡ true) ⊎ Under S (x .rows) (l .listed .place) (nextRow S q γ)) (l .listed .there) (I .handled (l .listed .place) done .onward)
 
         go : (S .dead (nextRow S r γ .state) ≡ true) ⊎ Under S (x .rows) (l .listed .place) (nextRow S r γ)
-            → (Within (x .rows) (suc e) (nextRow S r γ) → suc e + length w ≤ d → (S .dead (follow S (nextRow S r γ) w .state) ≡ true) ⊎ Within (x .rows) (suc e + length w) (follow S (nextRow S r γ) w))
-            → (S .dead (follow S (nextRow S r γ) w .state) ≡ true) ⊎ Within (x .rows) (e + suc (length w)) (follow S (nextRow S r γ) w)
+            → (Within (x .rows) (suc e) (nextRow S r γ) → suc e + length w ≤ d → (S .dead (leadsTo S (nextRow S r γ) w .state) ≡ true) ⊎ Within (x .rows) (suc e + length w) (leadsTo S (nextRow S r γ) w))
+            → (S .dead (leadsTo S (nextRow S r γ) w .state) ≡ true) ⊎ Within (x .rows) (e + suc (length w)) (leadsTo S (nextRow S r γ) w)
         go (inl q) f = inl (follow-dead S L (nextRow S r γ) g q v)
         go (inr u) f =
-            subst (λ n. (S .dead (follow S (nextRow S r γ) w .state) ≡ true) ⊎ Within (x .rows) n (follow S (nextRow S r γ) w)) (omega arith)
+            subst (λ n. (S .dead (leadsTo S (nextRow S r γ) w .state) ≡ true) ⊎ Within (x .rows) n (leadsTo S (nextRow S r γ) w)) (omega arith)
             (f
             (record {
               listed = u .listed;
@@ -64,10 +64,10 @@ module _ (S : System) where
             (omega arith))
 
     -- a row that d packets reach is listed at depth d at most, or its state is dead
-    pub reached : {d : ℕ} → HandledBelow x d → (α : ℕ) → α < S .packets → {w : List ℕ} → Word (S .packets) w → length w ≤ d
-        → (S .dead (follow S (startRow S α) w .state) ≡ true) ⊎ Within (x .rows) (length w) (follow S (startRow S α) w)
+    pub reached : {d : ℕ} → HandledBelow x d → (α : ℕ) → α < S .packets → {w : List ℕ} → PacketWord (S .packets) w → length w ≤ d
+        → (S .dead (leadsTo S (startRow S α) w .state) ≡ true) ⊎ Within (x .rows) (length w) (leadsTo S (startRow S α) w)
     reached {d} H α h {w} v l =
-        subst (λ n. (S .dead (follow S (startRow S α) w .state) ≡ true) ⊎ Within (x .rows) n (follow S (startRow S α) w)) (zero-add (length w))
+        subst (λ n. (S .dead (leadsTo S (startRow S α) w .state) ≡ true) ⊎ Within (x .rows) n (leadsTo S (startRow S α) w)) (zero-add (length w))
         (follow-within H v (startRow S α) 0
         (record {
           listed = record { place = α; inside = omega (arith, I .listing .begun); there = ap (λ e. e .row) (I .listing .starting α h) };
@@ -91,9 +91,9 @@ module _ (S : System) where
     pub silent-below : x .handled < length (x .rows) → SilentBelow S (depth S (x .rows) (x .handled))
     silent-below h = record { silent = λ α l w v k γ g. each α l w v k γ g (reached (handled-below h) α l v (omega arith)) }
       where
-        each : (α : ℕ) → α < S .packets → (w : List ℕ) → Word (S .packets) w → length w < depth S (x .rows) (x .handled) → (γ : ℕ) → γ < S .packets
-            → (S .dead (follow S (startRow S α) w .state) ≡ true) ⊎ Within (x .rows) (length w) (follow S (startRow S α) w) → tells S (follow S (startRow S α) w) γ ≡ false
-        each α l w v k γ g (inl d) = dead-tells S L (follow S (startRow S α) w) (follow-small S (startRow S α) l v) d γ g
+        each : (α : ℕ) → α < S .packets → (w : List ℕ) → PacketWord (S .packets) w → length w < depth S (x .rows) (x .handled) → (γ : ℕ) → γ < S .packets
+            → (S .dead (leadsTo S (startRow S α) w .state) ≡ true) ⊎ Within (x .rows) (length w) (leadsTo S (startRow S α) w) → tells S (leadsTo S (startRow S α) w) γ ≡ false
+        each α l w v k γ g (inl d) = dead-tells S L (leadsTo S (startRow S α) w) (follow-small S (startRow S α) l v) d γ g
         each α l w v k γ g (inr u) =
             subst (λ r. tells S r γ ≡ false) (u .listed .there)
             (I .handled (u .listed .place) (handled-below h .done (u .listed .place) (u .listed .inside) (omega (arith, u .shallow))) .silent γ g)

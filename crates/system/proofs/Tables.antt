@@ -7,7 +7,7 @@ use Prim.Native.Nat.{ℕ, _≤_, _<_}
 use native.Mathlib.Omega.{arith}
 use lib.ListN.{length}
 use Rattle.system.specs.System.{System, Lawful, Row, startRow, nextRow, tells}
-use Rattle.system.specs.InnerWords.{Word, end, then, follow, Silent}
+use Rattle.system.specs.InnerWords.{PacketWord, end, then, leadsTo, Silent}
 use Rattle.system.specs.RowOrder.{Entry, entryAt, Run, finished, telling, turn, path, entering}
 use Rattle.system.specs.InnerTables.{Closed, InRange, Listed}
 use Rattle.system.proofs.Basics.{clash}
@@ -19,14 +19,14 @@ use Rattle.system.proofs.Lines.{Line, line, line-of}
 module _ (S : System) where
   module _ (L : Lawful S) {Is : Row S → Type 0} (C : Closed S Is) where
     -- a word leads from a row of the table to a row of the table, or to a dead state
-    pub follow-closed : (r : Row S) → r .packet < S .packets → Is r → {w : List ℕ} → Word (S .packets) w → (S .dead (follow S r w .state) ≡ true) ⊎ Is (follow S r w)
-    unfolding follow
+    pub follow-closed : (r : Row S) → r .packet < S .packets → Is r → {w : List ℕ} → PacketWord (S .packets) w → (S .dead (leadsTo S r w .state) ≡ true) ⊎ Is (leadsTo S r w)
+    unfolding leadsTo
     follow-closed r h i end = inr i
     follow-closed r h i (then {γ = γ} {w = w} l v) = go (C .onward r i γ l) (λ j. follow-closed (nextRow S r γ) l j v)
       where
         go : (S .dead (nextRow S r γ .state) ≡ true) ⊎ Is (nextRow S r γ)
-            → (Is (nextRow S r γ) → (S .dead (follow S (nextRow S r γ) w .state) ≡ true) ⊎ Is (follow S (nextRow S r γ) w))
-            → (S .dead (follow S (nextRow S r γ) w .state) ≡ true) ⊎ Is (follow S (nextRow S r γ) w)
+            → (Is (nextRow S r γ) → (S .dead (leadsTo S (nextRow S r γ) w .state) ≡ true) ⊎ Is (leadsTo S (nextRow S r γ) w))
+            → (S .dead (leadsTo S (nextRow S r γ) w .state) ≡ true) ⊎ Is (leadsTo S (nextRow S r γ) w)
         go (inl d) f = inl (follow-dead S L (nextRow S r γ) l d v)
         go (inr j) f = f j
 
@@ -34,11 +34,11 @@ module _ (S : System) where
     pub closed-silent : Silent S
     closed-silent = record { silent = λ α h w v γ l. each α h w v γ l }
       where
-        each : (α : ℕ) → α < S .packets → (w : List ℕ) → Word (S .packets) w → (γ : ℕ) → γ < S .packets → tells S (follow S (startRow S α) w) γ ≡ false
+        each : (α : ℕ) → α < S .packets → (w : List ℕ) → PacketWord (S .packets) w → (γ : ℕ) → γ < S .packets → tells S (leadsTo S (startRow S α) w) γ ≡ false
         each α h w v γ l =
             ⊎-elim
-            (λ d. dead-tells S L (follow S (startRow S α) w) (follow-small S (startRow S α) h v) d γ l)
-            (λ i. C .silent (follow S (startRow S α) w) i γ l)
+            (λ d. dead-tells S L (leadsTo S (startRow S α) w) (follow-small S (startRow S α) h v) d γ l)
+            (λ i. C .silent (leadsTo S (startRow S α) w) i γ l)
             (follow-closed (startRow S α) h (C .starting α h) v)
 
   -- a closed table holds every listed row

@@ -6,7 +6,7 @@ use Prim.Native.Nat.{ℕ, suc, _<_}
 use lib.ListN.{length}
 use Rattle.system.specs.System.{System, Lawful}
 use Rattle.system.specs.InnerWords.{Silent}
-use Rattle.system.specs.RowOrder.{run, depth, path, entering, Answer, full, equal, different, answer, held}
+use Rattle.system.specs.RowOrder.{run, depth, path, entering, RunAnswer, full, equal, different, answerWith, held}
 use Rattle.system.specs.InnerTables.{Closed, InRange, Listed}
 use Rattle.system.proofs.Basics.{length-snoc}
 use Rattle.system.proofs.Runs.{Invariant, invariant, telling-turn}
@@ -33,7 +33,7 @@ module _ (S : System) where
     pub shortest : Shortest S α (path S (held S n) i) last
 
   module _ (L : Lawful S) where
-    pub equal-is : (n c : ℕ) → answer S n ≡ equal c → IsEqual n c
+    pub equal-is : (n c : ℕ) → answerWith S n ≡ equal c → IsEqual n c
     equal-is n c e = go (subst (Answered S n) e (answered S n))
       where
         I : Invariant S (run S (suc n))
@@ -45,7 +45,7 @@ module _ (S : System) where
             (λ w cl so. record { whole = w; closed = cl; sound = so; silent = closed-silent S L cl })
             q (finished-closed S (run S (suc n)) I t) (listing-sound S (I .listing))
 
-    pub different-is : (n i α : ℕ) (trace : List ℕ) → answer S n ≡ different i α trace → IsDifferent n i α trace
+    pub different-is : (n i α : ℕ) (trace : List ℕ) → answerWith S n ≡ different i α trace → IsDifferent n i α trace
     different-is n i α trace e = go (subst (Answered S n) e (answered S n))
       where
         I : Invariant S (run S (suc n))
@@ -65,10 +65,10 @@ module _ (S : System) where
             inside = subst (λ j. j < length (run S (suc n) .rows)) q (telling-turn S (run S (suc n)) γ t .0)
 
     -- where nothing tells, the answer is full or equal
-    pub silent-is : Silent S → (n : ℕ) → (answer S n ≡ full) ⊎ (answer S n ≡ equal (length (held S n)))
+    pub silent-is : Silent S → (n : ℕ) → (answerWith S n ≡ full) ⊎ (answerWith S n ≡ equal (length (held S n)))
     silent-is Q n = go (answered S n)
       where
-        go : {a : Answer} → Answered S n a → (a ≡ full) ⊎ (a ≡ equal (length (held S n)))
+        go : {a : RunAnswer} → Answered S n a → (a ≡ full) ⊎ (a ≡ equal (length (held S n)))
         go (is-full h) = inl refl
         go (is-equal h t q) = inr (ap equal (sym (ap length (held-stopped S n (suc n) (short-stops S n h) h) ∙ q)))
         go (is-different γ h t q a w) = absurd (silent-never S Q (run S (suc n)) (invariant S L (suc n)) γ t)

@@ -121,15 +121,15 @@ module _ (S : System) where
   entering = climb (λ e. e .row .packet) (λ e α. α)
 
 -- The search's answer: the rows lent are too few; equal, with the row count; or different, with the telling row's place, the entering packet and the trace.
-pub data Answer : Type 0 where
-  full : Answer
-  equal : ℕ → Answer
-  different : ℕ → ℕ → List ℕ → Answer
+pub data RunAnswer : Type 0 where
+  full : RunAnswer
+  equal : ℕ → RunAnswer
+  different : ℕ → ℕ → List ℕ → RunAnswer
 
 module _ (S : System) where
   -- what a run that has stopped answers; one that goes on would need more rows
-  unfoldable pub verdict : Run S → Answer
-  verdict x =
+  unfoldable pub runAnswer : Run S → RunAnswer
+  runAnswer x =
       elim (turn S x) [
         | finished ↦ equal (length (x .rows))
         | telling γ ↦ different (x .handled) (entering S (x .rows) (x .handled)) (path S (x .rows) (x .handled) ++ (γ ∷ []))
@@ -137,10 +137,10 @@ module _ (S : System) where
       ]
 
   -- the answer with n rows lent: full when the row order needs more
-  unfoldable pub answer : ℕ → Answer
-  answer n =
+  unfoldable pub answerWith : ℕ → RunAnswer
+  answerWith n =
       let x = run S (suc n) in
-      elim (ltb n (length (x .rows))) [ true ↦ full | false ↦ verdict x ]
+      elim (ltb n (length (x .rows))) [ true ↦ full | false ↦ runAnswer x ]
 
   -- the rows that n lent rows hold in the end
   unfoldable pub held : ℕ → List (Entry S)

@@ -6,12 +6,13 @@ use mathlib.Core.Bool.{Bool, true, false, cond}
 use mathlib.Core.List.{List}
 use mathlib.Core.Path.{_≡_, refl, sym, _∙_, ap}
 use lib.ListN.{length}
+use Rattle.policy.specs.AsLists.{asLists}
 use Rattle.policy.specs.NodeLists.{NodeLists}
-use Rattle.policy.specs.NodesOfTree.{entry}
+use Rattle.policy.specs.NodesOfTree.{nodeEntry}
 use Rattle.grammar.specs.Tokens.{tokensFrom, fieldNames}
 use Rattle.grammar.specs.InnerKinds.{frontKind}
 use Rattle.tokens.specs.Inner.{TokenFrom}
-use Rattle.text.specs.Inner.{Level, item, starred, joined, sequence, added, sum, Entered, lists, putEntry, ReaderReady, LeafDone, Joined, Got, Done}
+use Rattle.text.specs.Inner.{ReaderLevel, item, starred, joined, sequence, added, sum, Entered, putEntry, ReaderReady, LeafDone, NodeJoined, Got, Done}
 use Rattle.tokens.specs.declared.Token as Found
 use Rattle.text.specs.declared.Step as Stepped
 use Rattle.text.specs.declared.Leaf as Leaves
@@ -20,24 +21,24 @@ use Rattle.text.proofs.PutLaws.{size-pos}
 use Rattle.text.proofs.StepLaws.{leaf-item, star-turn, star-ends, sequence-starts, sequence-ends, sum-starts, sum-ends, done-got, done-stopped, done-as}
 
 -- from where the loop begins to where it is: the lengths, and what has been done since the reader began at the lists E
-pub record Kept (l : Level) (text : List ℕ) (at nodes room : ℕ) (K₀ F₀ S₀ : List ℕ) (s₀ : Stepped.Step) (K F S : List ℕ) (s : Stepped.Step) : Type 0 where
+pub record Kept (l : ReaderLevel) (text : List ℕ) (at nodes room : ℕ) (K₀ F₀ S₀ : List ℕ) (s₀ : Stepped.Step) (K F S : List ℕ) (s : Stepped.Step) : Type 0 where
   pub kinds : length K ≡ length K₀
   pub firsts : length F ≡ length F₀
   pub seconds : length S ≡ length S₀
-  pub chain : (E : NodeLists) → Done l text at nodes room E s₀ (lists K₀ F₀ S₀) → Done l text at nodes room E s (lists K F S)
+  pub chain : (E : NodeLists) → Done l text at nodes room E s₀ (asLists K₀ F₀ S₀) → Done l text at nodes room E s (asLists K F S)
 
 -- the tokens left to read and the end, and nothing once a reader has stopped
 abbrev pub left : List ℕ → Stepped.Step → ℕ
 left text s = cond (s .ok) (suc (length (tokensFrom fieldNames text (s .at)))) 0
 
 module _ (text : List ℕ) (room : ℕ) where
-  pub kept-none : {l : Level} {at nodes : ℕ} (K F S : List ℕ) (s : Stepped.Step) → Kept l text at nodes room K F S s K F S s
+  pub kept-none : {l : ReaderLevel} {at nodes : ℕ} (K F S : List ℕ) (s : Stepped.Step) → Kept l text at nodes room K F S s K F S s
   kept-none K F S s = record { kinds = refl; firsts = refl; seconds = refl; chain = λ E d. d }
 
   pub onward : {at k : ℕ} {t : Found.Token} → TokenFrom text at t → t .kind ≡ k → (k ≡ 1 → ⊥) → at < t .next
   onward {t = t} f e h = let l : t .start < t .next = f .onward (λ q. h (sym e ∙ q)) in omega (arith, f .low)
 
-  pub nodes-pos : {l : Level} {at nodes : ℕ} {L L′ : NodeLists} {s : Stepped.Step} → Got l text at nodes room L s L′ → 0 < s .nodes
+  pub nodes-pos : {l : ReaderLevel} {at nodes : ℕ} {L L′ : NodeLists} {s : Stepped.Step} → Got l text at nodes room L s L′ → 0 < s .nodes
   nodes-pos g = omega (arith, g .nodes-is, size-pos (g .policy))
 
   -- the token after the present one
@@ -45,9 +46,9 @@ module _ (text : List ℕ) (room : ℕ) where
   ready-open r f e h =
       record { within = f .within; few = omega (arith, r .few, onward f e h); small = r .small; kinds = r .kinds; firsts = r .firsts; seconds = r .seconds }
 
-  pub ready-next : {l : Level} {at nodes k : ℕ} {K₁ F₁ S₁ K F S : List ℕ} {E L′ : NodeLists} {s : Stepped.Step} {t : Found.Token} → ReaderReady text at nodes room (lists K₁ F₁ S₁)
+  pub ready-next : {l : ReaderLevel} {at nodes k : ℕ} {K₁ F₁ S₁ K F S : List ℕ} {E L′ : NodeLists} {s : Stepped.Step} {t : Found.Token} → ReaderReady text at nodes room (asLists K₁ F₁ S₁)
       → length K ≡ length K₁ → length F ≡ length F₁ → length S ≡ length S₁ → Got l text at nodes room E s L′ → TokenFrom text (s .at) t → t .kind ≡ k → (k ≡ 1 → ⊥)
-      → ReaderReady text (t .next) (s .nodes) room (lists K F S)
+      → ReaderReady text (t .next) (s .nodes) room (asLists K F S)
   ready-next r a b c g f e h =
       record {
         within = f .within;
@@ -59,7 +60,7 @@ module _ (text : List ℕ) (room : ℕ) where
       }
 
   -- an item that is one node
-  pub item-leaf : {at nodes : ℕ} {L L′ : NodeLists} {w : Leaves.Leaf} → LeafDone text at w → w .ok ≡ true → L′ ≡ putEntry room nodes (entry (w .kind) (w .first) (w .second)) L
+  pub item-leaf : {at nodes : ℕ} {L L′ : NodeLists} {w : Leaves.Leaf} → LeafDone text at w → w .ok ≡ true → L′ ≡ putEntry room nodes (nodeEntry (w .kind) (w .first) (w .second)) L
       → Done item text at nodes room L (record { ok = true; at = w .at; nodes = nodes + 1 }) L′
   item-leaf d o l =
       done-got text room refl (leaf-item text room (d .got o) l)
@@ -69,7 +70,7 @@ module _ (text : List ℕ) (room : ℕ) where
 
   -- one more *
   pub star-next : {at nodes : ℕ} {L L₁ L₂ : NodeLists} {s : Stepped.Step} {t : Found.Token} → s .ok ≡ true → TokenFrom text (s .at) t → t .kind ≡ 8
-      → L₂ ≡ putEntry room (s .nodes) (entry 8 (s .nodes - 1) 0) L₁ → Done item text at nodes room L s L₁
+      → L₂ ≡ putEntry room (s .nodes) (nodeEntry 8 (s .nodes - 1) 0) L₁ → Done item text at nodes room L s L₁
       → Done item text at nodes room L (record { ok = true; at = t .next; nodes = s .nodes + 1 }) L₂
   star-next o f e l d =
       done-got text room refl (star-turn text room (d .got o) f e l)
@@ -108,8 +109,8 @@ module _ (text : List ℕ) (room : ℕ) where
   star-less s n o f e h = rw o (omega (arith, fewer-next text (le-refl (s .at)) f e h))
 
   -- a turn that has read one more operand, or stopped at it, leaves less
-  pub join-less : {l : Level} {k j left₀ : ℕ} {L₁ L₂ L₃ : NodeLists} {s r s′ : Stepped.Step} {t : Found.Token} → s .ok ≡ true → TokenFrom text (s .at) t → t .kind ≡ k → (k ≡ 1 → ⊥)
-      → Done l text (t .next) (s .nodes) room L₁ r L₂ → Joined j left₀ room r L₂ s′ L₃ → left text s′ < left text s
+  pub join-less : {l : ReaderLevel} {k j left₀ : ℕ} {L₁ L₂ L₃ : NodeLists} {s r s′ : Stepped.Step} {t : Found.Token} → s .ok ≡ true → TokenFrom text (s .at) t → t .kind ≡ k → (k ≡ 1 → ⊥)
+      → Done l text (t .next) (s .nodes) room L₁ r L₂ → NodeJoined j left₀ room r L₂ s′ L₃ → left text s′ < left text s
   join-less {s = s} {r = r} {s′ = s′} {t = t} o f e h d j = go (r .ok) refl
     where
       go : (b : Bool) → r .ok ≡ b → left text s′ < left text s
@@ -117,7 +118,7 @@ module _ (text : List ℕ) (room : ℕ) where
       go false q = rw (j .failed q .0, q, o) (omega arith)
 
   -- what joining asks
-  pub join-ready : {l : Level} {next n a b c : ℕ} {K F S : List ℕ} {L₁ L₂ : NodeLists} {r : Stepped.Step} → length text < 2 ^ 63 → ReaderReady text next n room (lists K F S)
+  pub join-ready : {l : ReaderLevel} {next n a b c : ℕ} {K F S : List ℕ} {L₁ L₂ : NodeLists} {r : Stepped.Step} → length text < 2 ^ 63 → ReaderReady text next n room (asLists K F S)
       → a ≡ length K → b ≡ length F → c ≡ length S → 0 < n → Done l text next n room L₁ r L₂
       → (room ≤ a) × (room ≤ b) × (room ≤ c) × (room ≤ 512) × (r .ok ≡ true → (n - 1 < r .nodes) × (r .nodes < 2 ^ 63))
   join-ready big y p q s h d = (

@@ -9,6 +9,7 @@ use mathlib.Core.Path.{_≡_, refl, sym, _∙_, ap}
 use lib.Dec.{eqb}
 use lib.ListN.{length}
 use borrow.Author.Tests.{eqb-true, eqb-false}
+use Rattle.policy.specs.AsLists.{asLists}
 use Rattle.policy.specs.Tree.{Policy}
 use Rattle.policy.specs.NodeLists.{NodeLists}
 use Rattle.policy.specs.NodesOfTree.{treeSize, entriesFrom, nodesOf, listsOf}
@@ -23,14 +24,14 @@ use Rattle.packet.specs.Written.{written}
 use Rattle.grammar.proofs.ReadLaws.{top-ends, top-stops}
 use Rattle.grammar.proofs.AnswerLaws.{parts, nodes-few, answer-is}
 use Rattle.tokens.specs.Inner.{TokenFrom}
-use Rattle.text.specs.Inner.{Ended, Counted, Entered, Past, sum, lists, ReaderReady, Got, Done}
+use Rattle.text.specs.Inner.{EndRead, WholeRead, Entered, Past, sum, ReaderReady, Got, Done}
 use Rattle.tokens.specs.declared.Token as Found
 use Rattle.text.specs.declared.Step as Stepped
 use Rattle.text.proofs.StepLaws.{kind-not}
 use Rattle.text.proofs.PutLaws.{put-written}
 
 module _ (text : List ℕ) where
-  pub ended-over : {s : Stepped.Step} {t : Found.Token} → s .ok ≡ true → TokenFrom text (s .at) t → t .kind ≡ 1 → Ended text s s
+  pub ended-over : {s : Stepped.Step} {t : Found.Token} → s .ok ≡ true → TokenFrom text (s .at) t → t .kind ≡ 1 → EndRead text s s
   ended-over o f e =
       record {
         failed = λ x. absurd (true≢false (sym o ∙ x));
@@ -38,7 +39,7 @@ module _ (text : List ℕ) where
         more = λ _ x. absurd (true≢false (sym o ∙ x));
       }
 
-  pub ended-more : {s : Stepped.Step} {t : Found.Token} → s .ok ≡ true → TokenFrom text (s .at) t → (t .kind ≡ 1 → ⊥) → Ended text s (record { ok = false; at = t .start; nodes = s .nodes })
+  pub ended-more : {s : Stepped.Step} {t : Found.Token} → s .ok ≡ true → TokenFrom text (s .at) t → (t .kind ≡ 1 → ⊥) → EndRead text s (record { ok = false; at = t .start; nodes = s .nodes })
   ended-more o f e =
       record {
         failed = λ x. absurd (true≢false (sym o ∙ x));
@@ -46,7 +47,7 @@ module _ (text : List ℕ) where
         more = λ _ _. (kind-not text 0 f e, f .start-is);
       }
 
-  pub ended-failed : {s : Stepped.Step} → s .ok ≡ false → Ended text s s
+  pub ended-failed : {s : Stepped.Step} → s .ok ≡ false → EndRead text s s
   ended-failed o = record { failed = λ _. refl; over = λ x. absurd (true≢false (sym x ∙ o)); more = λ x. absurd (true≢false (sym x ∙ o)) }
 
   whole-is : {nodes room : ℕ} {L L′ : NodeLists} {s : Stepped.Step} (g : Got sum text 0 nodes room L s L′) → outcome fieldNames text ≡ readOn (length text) (has nothing [] (g .policy)) (tokensFrom fieldNames text (s .at))
@@ -65,11 +66,11 @@ module _ (text : List ℕ) where
   unfolding Past
   ends-stop {s = s} g e = whole-is g ∙ top-stops (length text) nothing (g .policy) (tokensFrom fieldNames text (s .at)) e (g .past .0) (g .past .1) (g .past .2)
 
-  pub counted : {L L′ : NodeLists} {s r : Stepped.Step} → Done sum text 0 0 0 L s L′ → Ended text s r → Counted text r
+  pub counted : {L L′ : NodeLists} {s r : Stepped.Step} → Done sum text 0 0 0 L s L′ → EndRead text s r → WholeRead text r
   unfolding stopPlace textTree treeRead outcome tokens start Entered
   counted {L} {L′} {s} {r} d e = go (s .ok) refl
     where
-      go : (o : Bool) → s .ok ≡ o → Counted text r
+      go : (o : Bool) → s .ok ≡ o → WholeRead text r
       go true q =
           let g = d .got q in
           record {
@@ -84,25 +85,25 @@ module _ (text : List ℕ) where
 
 module _ (text : List ℕ) (room n : ℕ) (e : Nodes n ≡ answerTo fieldNames text room) where
   -- a reader that is given room for all nodes of the text writes them
-  pub nodes-written : {s : Stepped.Step} (K F S : List ℕ) {L′ : NodeLists} → n ≤ length K → n ≤ length F → n ≤ length S → Done sum text 0 0 n (lists K F S) s L′
-      → L′ ≡ lists (written (nodesOf (textTree fieldNames text) .kind) K) (written (nodesOf (textTree fieldNames text) .first) F) (written (nodesOf (textTree fieldNames text) .second) S)
+  pub nodes-written : {s : Stepped.Step} (K F S : List ℕ) {L′ : NodeLists} → n ≤ length K → n ≤ length F → n ≤ length S → Done sum text 0 0 n (asLists K F S) s L′
+      → L′ ≡ asLists (written (nodesOf (textTree fieldNames text) .kind) K) (written (nodesOf (textTree fieldNames text) .first) F) (written (nodesOf (textTree fieldNames text) .second) S)
   unfolding stopPlace textTree treeRead nodesOf outcome tokens start Entered
   nodes-written {s} K F S {L′} k f z d = go (s .ok) refl
     where
       Goal : Type 0
-      Goal = L′ ≡ lists (written (nodesOf (textTree fieldNames text) .kind) K) (written (nodesOf (textTree fieldNames text) .first) F) (written (nodesOf (textTree fieldNames text) .second) S)
+      Goal = L′ ≡ asLists (written (nodesOf (textTree fieldNames text) .kind) K) (written (nodesOf (textTree fieldNames text) .first) F) (written (nodesOf (textTree fieldNames text) .second) S)
 
       stuck : (place : ℕ) → outcome fieldNames text ≡ stop place → ⊥
       stuck place q = let y : some place ≡ none = sym (ap stopPlace q) ∙ parts text room n e .0 in let w : _≡_ {A = ℕ} 0 1 = cc in omega arith
 
-      read : (g : Got sum text 0 0 n (lists K F S) s L′) → outcome fieldNames text ≡ tree (g .policy) → Goal
+      read : (g : Got sum text 0 0 n (asLists K F S) s L′) → outcome fieldNames text ≡ tree (g .policy) → Goal
       read g q =
           let t : g .policy ≡ textTree fieldNames text = sym (ap treeRead q) in
           g .lists-are
           ∙ put-written n (entriesFrom 0 (g .policy)) K F S (omega (arith, entries-length 0 (g .policy), ap treeSize t, parts text room n e .2)) k f z
-          ∙ ap (λ (p : Policy). lists (written (listsOf (entriesFrom 0 p) .kind) K) (written (listsOf (entriesFrom 0 p) .first) F) (written (listsOf (entriesFrom 0 p) .second) S)) t
+          ∙ ap (λ (p : Policy). asLists (written (listsOf (entriesFrom 0 p) .kind) K) (written (listsOf (entriesFrom 0 p) .first) F) (written (listsOf (entriesFrom 0 p) .second) S)) t
 
-      last : (g : Got sum text 0 0 n (lists K F S) s L′) (b : Bool) → eqb (frontKind (tokensFrom fieldNames text (s .at))) 1 ≡ b → Goal
+      last : (g : Got sum text 0 0 n (asLists K F S) s L′) (b : Bool) → eqb (frontKind (tokensFrom fieldNames text (s .at))) 1 ≡ b → Goal
       last g true q = read g (ends-tree text g (eqb-true _ _ q))
       last g false q = absurd (stuck _ (ends-stop text g (eqb-false _ _ q)))
 
@@ -113,16 +114,16 @@ module _ (text : List ℕ) (room n : ℕ) (e : Nodes n ≡ answerTo fieldNames t
 -- ---- the public call, whose room is the shortest lent list
 
 module _ (text K F S : List ℕ) (room m : ℕ) (r : Answer) (inner : m ≡ min (length F) (length S)) (outer : room ≡ min (length K) m) (says : r ≡ answerTo fieldNames text room) where
-  pub read-ready : (n : ℕ) → r ≡ Nodes n → ReaderReady text 0 0 n (lists K F S)
+  pub read-ready : (n : ℕ) → r ≡ Nodes n → ReaderReady text 0 0 n (asLists K F S)
   read-ready n e =
       let h : n ≤ min 512 room = nodes-few text room n (sym e ∙ says) in
       record { within = omega arith; few = omega arith; small = omega arith; kinds = omega arith; firsts = omega arith; seconds = omega arith }
 
-  pub read-done : (n : ℕ) {s : Stepped.Step} (K′ F′ S′ : List ℕ) → r ≡ Nodes n → Done sum text 0 0 n (lists K F S) s (lists K′ F′ S′) → TextRead text K F S (Nodes n) K′ F′ S′
+  pub read-done : (n : ℕ) {s : Stepped.Step} (K′ F′ S′ : List ℕ) → r ≡ Nodes n → Done sum text 0 0 n (asLists K F S) s (asLists K′ F′ S′) → TextRead text K F S (Nodes n) K′ F′ S′
   unfolding leftBy
   read-done n K′ F′ S′ e d =
       let h : n ≤ min 512 room = nodes-few text room n (sym e ∙ says) in
-      let w = nodes-written text room n (sym e ∙ says) K F S {L′ = lists K′ F′ S′} (omega arith) (omega arith) (omega arith) d in
+      let w = nodes-written text room n (sym e ∙ says) K F S {L′ = asLists K′ F′ S′} (omega arith) (omega arith) (omega arith) d in
       record {
         answer = sym e ∙ answer-is text K F S room m r inner outer says;
         kinds = ap (λ (L : NodeLists). L .kind) w;

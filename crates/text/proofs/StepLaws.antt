@@ -9,13 +9,13 @@ use lib.ListN.{length}
 use Rattle.policy.specs.Tree.{Policy}
 use Rattle.policy.specs.Tree
 use Rattle.policy.specs.NodeLists.{NodeLists}
-use Rattle.policy.specs.NodesOfTree.{Entry, entry, actionEntry, treeSize, entriesFrom}
+use Rattle.policy.specs.NodesOfTree.{NodeEntry, nodeEntry, actionEntry, treeSize, entriesFrom}
 use Rattle.grammar.specs.Tokens.{Placed, Constant, Comparison, dropped, passed, recorded, equals, differs, assigned, tokensFrom, fieldNames}
 use Rattle.grammar.specs.InnerKinds.{frontKind, constantKind, comparisonKind}
 use Rattle.grammar.specs.Grammar.{constantPolicy, fieldAction}
 use Rattle.grammar.specs.Reading.{Before, nothing, joinSequence, joinSum, upTo, whole, wants, named, compared, has, stop, readOn}
 use Rattle.tokens.specs.Inner.{TokenFrom}
-use Rattle.text.specs.Inner.{Level, item, starred, joined, sequence, added, sum, Entered, Past, putEntry, putAll, GotLeaf, LeafDone, Closed, Joined, Got, Done}
+use Rattle.text.specs.Inner.{ReaderLevel, item, starred, joined, sequence, added, sum, Entered, Past, putEntry, putAll, GotLeaf, LeafDone, ClosingRead, NodeJoined, Got, Done}
 use Rattle.tokens.specs.declared.Token as Found
 use Rattle.text.specs.declared.Step as Stepped
 use Rattle.text.specs.declared.Leaf as Leaves
@@ -28,13 +28,13 @@ constant-size dropped = refl
 constant-size passed = refl
 constant-size recorded = refl
 
-constant-entries : (n : ℕ) (c : Constant) → entriesFrom n (constantPolicy c) ≡ entry (constantKind c) 0 0 ∷ []
+constant-entries : (n : ℕ) (c : Constant) → entriesFrom n (constantPolicy c) ≡ nodeEntry (constantKind c) 0 0 ∷ []
 unfolding constantPolicy entriesFrom constantKind
 constant-entries n dropped = refl
 constant-entries n passed = refl
 constant-entries n recorded = refl
 
-action-entries : (n : ℕ) (c : Comparison) (f v : ℕ) → entriesFrom n (Tree.field (fieldAction c f v)) ≡ entry (comparisonKind c) f v ∷ []
+action-entries : (n : ℕ) (c : Comparison) (f v : ℕ) → entriesFrom n (Tree.field (fieldAction c f v)) ≡ nodeEntry (comparisonKind c) f v ∷ []
 unfolding entriesFrom fieldAction actionEntry comparisonKind
 action-entries n equals f v = refl
 action-entries n differs f v = refl
@@ -71,7 +71,7 @@ module _ (text : List ℕ) (room : ℕ) where
               policy = constantPolicy (c .0);
               moves = λ b cs. at-constant end b cs (toks at) (kind-at f e) ∙ ap₂ (λ (x : Constant) (l : List Placed). readOn end (has b cs (constantPolicy x)) l) (c .2) (sym (f .rest));
               one = constant-size (c .0);
-              entries = λ n. constant-entries n (c .0) ∙ ap (λ (x : ℕ). entry x 0 0 ∷ []) (sym q);
+              entries = λ n. constant-entries n (c .0) ∙ ap (λ (x : ℕ). nodeEntry x 0 0 ∷ []) (sym q);
               onward = onward-of f e (λ z. omega arith);
               within = f .within;
             };
@@ -117,7 +117,7 @@ module _ (text : List ℕ) (room : ℕ) where
                       past-comparison b cs ∙ at-number end b cs (t .value) (m .0) (toks (c .next)) (kind-at w x)
                       ∙ ap₂ (λ (z : ℕ) (l : List Placed). readOn end (has b cs (Tree.field (fieldAction (m .0) (t .value) z))) l) (sym (w .value-is)) (sym (w .rest));
                   one = refl;
-                  entries = λ n. action-entries n (m .0) (t .value) (v .value) ∙ ap (λ (z : ℕ). entry z (t .value) (v .value) ∷ []) (sym q);
+                  entries = λ n. action-entries n (m .0) (t .value) (v .value) ∙ ap (λ (z : ℕ). nodeEntry z (t .value) (v .value) ∷ []) (sym q);
                   onward =
                       let l₁ : at < t .next = onward-of f e (λ z. omega arith) in
                       let l₂ : t .next < c .next = onward-of g e′ (λ z. omega arith) in
@@ -129,7 +129,7 @@ module _ (text : List ℕ) (room : ℕ) where
           }
 
   pub leaf-item : {at nodes : ℕ} {L L′ : NodeLists} {w : Leaves.Leaf} → GotLeaf text at w
-      → L′ ≡ putEntry room nodes (entry (w .kind) (w .first) (w .second)) L
+      → L′ ≡ putEntry room nodes (nodeEntry (w .kind) (w .first) (w .second)) L
       → Got item text at nodes room L (record { ok = true; at = w .at; nodes = nodes + 1 }) L′
   unfolding Past putAll
   leaf-item {nodes = n} {L = L} g l =
@@ -138,7 +138,7 @@ module _ (text : List ℕ) (room : ℕ) where
         moves = λ b h cs. g .moves b cs;
         past = tt;
         nodes-is = omega (arith, g .one);
-        lists-are = l ∙ ap (λ (es : List Entry). putAll room n es L) (sym (g .entries n));
+        lists-are = l ∙ ap (λ (es : List NodeEntry). putAll room n es L) (sym (g .entries n));
         onward = g .onward;
         within = g .within;
         few = omega (arith, g .onward);
@@ -146,7 +146,7 @@ module _ (text : List ℕ) (room : ℕ) where
 
   -- ---- a sum in parentheses
 
-  pub opened : {at nodes : ℕ} {L L′ : NodeLists} {t : Found.Token} {s r : Stepped.Step} → TokenFrom text at t → t .kind ≡ 9 → Done sum text (t .next) nodes room L s L′ → Closed text s r
+  pub opened : {at nodes : ℕ} {L L′ : NodeLists} {t : Found.Token} {s r : Stepped.Step} → TokenFrom text at t → t .kind ≡ 9 → Done sum text (t .next) nodes room L s L′ → ClosingRead text s r
       → Done item text at nodes room L r L′
   unfolding Entered Past
   opened {at} {nodes} {L} {L′} {t} {s} {r} k e d c = go (s .ok) refl
@@ -188,7 +188,7 @@ module _ (text : List ℕ) (room : ℕ) where
   -- ---- one more *
 
   pub star-turn : {at nodes : ℕ} {L L₁ L₂ : NodeLists} {s : Stepped.Step} {t : Found.Token} → Got item text at nodes room L s L₁ → TokenFrom text (s .at) t → t .kind ≡ 8
-      → L₂ ≡ putEntry room (s .nodes) (entry 8 (s .nodes - 1) 0) L₁
+      → L₂ ≡ putEntry room (s .nodes) (nodeEntry 8 (s .nodes - 1) 0) L₁
       → Got item text at nodes room L (record { ok = true; at = t .next; nodes = s .nodes + 1 }) L₂
   unfolding Past treeSize
   star-turn {at} {nodes} {L} {s = s} {t = t} g k e l =
@@ -198,7 +198,7 @@ module _ (text : List ℕ) (room : ℕ) where
         moves = λ b h cs. g .moves b h cs ∙ at-asterisk end b cs (g .policy) (toks (s .at)) (kind-at k e) ∙ ap (readOn end (has b cs (Tree.star (g .policy)))) (sym (k .rest));
         past = tt;
         nodes-is = omega (arith, g .nodes-is);
-        lists-are = l ∙ ap (putEntry room (s .nodes) (entry 8 (s .nodes - 1) 0)) (g .lists-are) ∙ put-star room nodes (s .nodes) (g .policy) L (g .nodes-is);
+        lists-are = l ∙ ap (putEntry room (s .nodes) (nodeEntry 8 (s .nodes - 1) 0)) (g .lists-are) ∙ put-star room nodes (s .nodes) (g .policy) L (g .nodes-is);
         onward = omega (arith, g .onward, k .low);
         within = k .within;
         few = omega (arith, g .few, k .low);
@@ -234,7 +234,7 @@ module _ (text : List ℕ) (room : ℕ) where
   as-joined P f b h = subst P (λ i. record { summed = b .summed; sequenced = sym h i }) (f (b .summed))
 
   pub sequence-turn : {at nodes : ℕ} {L L₁ L₂ L₃ : NodeLists} {s r : Stepped.Step} {t : Found.Token} → Got joined text at nodes room L s L₁ → TokenFrom text (s .at) t → t .kind ≡ 7
-      → Got starred text (t .next) (s .nodes) room L₁ r L₂ → L₃ ≡ putEntry room (r .nodes) (entry 7 (s .nodes - 1) (r .nodes - 1)) L₂
+      → Got starred text (t .next) (s .nodes) room L₁ r L₂ → L₃ ≡ putEntry room (r .nodes) (nodeEntry 7 (s .nodes - 1) (r .nodes - 1)) L₂
       → Got joined text at nodes room L (record { ok = true; at = r .at; nodes = r .nodes + 1 }) L₃
   unfolding Past Entered treeSize entriesFrom joinedEntries
   sequence-turn {at} {nodes} {L} {L₁} {L₂} {s = s} {r = r} {t = t} g k e y l =
@@ -246,7 +246,7 @@ module _ (text : List ℕ) (room : ℕ) where
             (λ m. past-semicolon g k e m cs ∙ y .moves (record { summed = m; sequenced = some (g .policy) }) tt cs ∙ collapse-sequence end m cs (g .policy) (y .policy) (toks (r .at)) (y .past)) b h;
         past = y .past;
         nodes-is = omega (arith, g .nodes-is, y .nodes-is);
-        lists-are = l ∙ ap (putEntry room (r .nodes) (entry 7 (s .nodes - 1) (r .nodes - 1))) (y .lists-are ∙ ap (putAll room (s .nodes) (entriesFrom (s .nodes) (y .policy))) (g .lists-are)) ∙ put-join 7 room nodes (s .nodes) (r .nodes) (g .policy) (y .policy) L (g .nodes-is) (y .nodes-is);
+        lists-are = l ∙ ap (putEntry room (r .nodes) (nodeEntry 7 (s .nodes - 1) (r .nodes - 1))) (y .lists-are ∙ ap (putAll room (s .nodes) (entriesFrom (s .nodes) (y .policy))) (g .lists-are)) ∙ put-join 7 room nodes (s .nodes) (r .nodes) (g .policy) (y .policy) L (g .nodes-is) (y .nodes-is);
         onward = omega (arith, g .onward, k .low, y .onward);
         within = y .within;
         few = omega (arith, g .few, y .few, k .low, y .onward, y .nodes-is);
@@ -273,7 +273,7 @@ module _ (text : List ℕ) (room : ℕ) where
       ∙ ap (readOn end (wants (record { summed = some (g .policy); sequenced = none }) cs)) (sym (k .rest))
 
   pub sum-turn : {at nodes : ℕ} {L L₁ L₂ L₃ : NodeLists} {s r : Stepped.Step} {t : Found.Token} → Got added text at nodes room L s L₁ → TokenFrom text (s .at) t → t .kind ≡ 6
-      → Got sequence text (t .next) (s .nodes) room L₁ r L₂ → L₃ ≡ putEntry room (r .nodes) (entry 6 (s .nodes - 1) (r .nodes - 1)) L₂
+      → Got sequence text (t .next) (s .nodes) room L₁ r L₂ → L₃ ≡ putEntry room (r .nodes) (nodeEntry 6 (s .nodes - 1) (r .nodes - 1)) L₂
       → Got added text at nodes room L (record { ok = true; at = r .at; nodes = r .nodes + 1 }) L₃
   unfolding Past Entered treeSize entriesFrom joinedEntries
   sum-turn {at} {nodes} {L} {L₁} {L₂} {s = s} {r = r} {t = t} g k e y l =
@@ -285,7 +285,7 @@ module _ (text : List ℕ) (room : ℕ) where
             (past-plus g k e cs ∙ y .moves (record { summed = some (g .policy); sequenced = none }) refl cs ∙ collapse-sum end cs (g .policy) (y .policy) (toks (r .at)) (y .past .0) (y .past .1));
         past = y .past;
         nodes-is = omega (arith, g .nodes-is, y .nodes-is);
-        lists-are = l ∙ ap (putEntry room (r .nodes) (entry 6 (s .nodes - 1) (r .nodes - 1))) (y .lists-are ∙ ap (putAll room (s .nodes) (entriesFrom (s .nodes) (y .policy))) (g .lists-are)) ∙ put-join 6 room nodes (s .nodes) (r .nodes) (g .policy) (y .policy) L (g .nodes-is) (y .nodes-is);
+        lists-are = l ∙ ap (putEntry room (r .nodes) (nodeEntry 6 (s .nodes - 1) (r .nodes - 1))) (y .lists-are ∙ ap (putAll room (s .nodes) (entriesFrom (s .nodes) (y .policy))) (g .lists-are)) ∙ put-join 6 room nodes (s .nodes) (r .nodes) (g .policy) (y .policy) L (g .nodes-is) (y .nodes-is);
         onward = omega (arith, g .onward, k .low, y .onward);
         within = y .within;
         few = omega (arith, g .few, y .few, k .low, y .onward, y .nodes-is);
@@ -294,21 +294,21 @@ module _ (text : List ℕ) (room : ℕ) where
   -- ---- a reader that has read, or stopped
 
   -- what is known where s has read: nothing has stopped it
-  pub done-got : {l : Level} {at nodes : ℕ} {L L₁ : NodeLists} {s : Stepped.Step} → s .ok ≡ true → Got l text at nodes room L s L₁ → Done l text at nodes room L s L₁
+  pub done-got : {l : ReaderLevel} {at nodes : ℕ} {L L₁ : NodeLists} {s : Stepped.Step} → s .ok ≡ true → Got l text at nodes room L s L₁ → Done l text at nodes room L s L₁
   done-got o g = record { got = λ _. g; stopped = λ x. absurd (true≢false (sym o ∙ x)) }
 
-  pub done-stopped : {l : Level} {at nodes : ℕ} {L L₁ : NodeLists} {s : Stepped.Step} → s .ok ≡ false
+  pub done-stopped : {l : ReaderLevel} {at nodes : ℕ} {L L₁ : NodeLists} {s : Stepped.Step} → s .ok ≡ false
       → ((b : Before) → Entered l b → (cs : List Before) → readOn end (wants b cs) (toks at) ≡ stop (s .at)) → Done l text at nodes room L s L₁
   done-stopped o f = record { got = λ x. absurd (true≢false (sym x ∙ o)); stopped = λ _. f }
 
   -- a reader of one level, handed on as one of another
-  pub done-as : {l m : Level} {at nodes : ℕ} {L L₁ : NodeLists} {s : Stepped.Step} → Done l text at nodes room L s L₁
+  pub done-as : {l m : ReaderLevel} {at nodes : ℕ} {L L₁ : NodeLists} {s : Stepped.Step} → Done l text at nodes room L s L₁
       → (Got l text at nodes room L s L₁ → Got m text at nodes room L s L₁) → ((b : Before) → Entered m b → Entered l b) → Done m text at nodes room L s L₁
   done-as d f h = record { got = λ o. f (d .got o); stopped = λ o b x. d .stopped o b (h b x) }
 
   -- one more operand: s has read, the mark stands there, r has read or stopped after it, and j joins the two
   pub sequence-next : {at nodes : ℕ} {L L₁ L₂ L₃ : NodeLists} {s r s′ : Stepped.Step} {t : Found.Token} → s .ok ≡ true → Done joined text at nodes room L s L₁ → TokenFrom text (s .at) t → t .kind ≡ 7
-      → Done starred text (t .next) (s .nodes) room L₁ r L₂ → Joined 7 (s .nodes - 1) room r L₂ s′ L₃ → Done joined text at nodes room L s′ L₃
+      → Done starred text (t .next) (s .nodes) room L₁ r L₂ → NodeJoined 7 (s .nodes - 1) room r L₂ s′ L₃ → Done joined text at nodes room L s′ L₃
   unfolding Entered
   sequence-next {at} {nodes} {L} {L₁} {L₂} {L₃} {s} {r} {s′} {t} o d k e y j = go (r .ok) refl
     where
@@ -323,7 +323,7 @@ module _ (text : List ℕ) (room : ℕ) where
           (λ m. past-semicolon (d .got o) k e m cs ∙ y .stopped q (record { summed = m; sequenced = some (d .got o .policy) }) tt cs) b h))
 
   pub sum-next : {at nodes : ℕ} {L L₁ L₂ L₃ : NodeLists} {s r s′ : Stepped.Step} {t : Found.Token} → s .ok ≡ true → Done added text at nodes room L s L₁ → TokenFrom text (s .at) t → t .kind ≡ 6
-      → Done sequence text (t .next) (s .nodes) room L₁ r L₂ → Joined 6 (s .nodes - 1) room r L₂ s′ L₃ → Done added text at nodes room L s′ L₃
+      → Done sequence text (t .next) (s .nodes) room L₁ r L₂ → NodeJoined 6 (s .nodes - 1) room r L₂ s′ L₃ → Done added text at nodes room L s′ L₃
   unfolding Entered
   sum-next {at} {nodes} {L} {L₁} {L₂} {L₃} {s} {r} {s′} {t} o d k e y j = go (r .ok) refl
     where
@@ -339,7 +339,7 @@ module _ (text : List ℕ) (room : ℕ) where
 
   -- ---- the closing parenthesis
 
-  pub closed-shut : {s : Stepped.Step} {t : Found.Token} → s .ok ≡ true → TokenFrom text (s .at) t → t .kind ≡ 10 → Closed text s (record { ok = true; at = t .next; nodes = s .nodes })
+  pub closed-shut : {s : Stepped.Step} {t : Found.Token} → s .ok ≡ true → TokenFrom text (s .at) t → t .kind ≡ 10 → ClosingRead text s (record { ok = true; at = t .next; nodes = s .nodes })
   closed-shut o k e =
       record {
         failed = λ x. absurd (true≢false (sym o ∙ x));
@@ -347,7 +347,7 @@ module _ (text : List ℕ) (room : ℕ) where
         unshut = λ _ x. absurd (true≢false x);
       }
 
-  pub closed-unshut : {s : Stepped.Step} {t : Found.Token} → s .ok ≡ true → TokenFrom text (s .at) t → (t .kind ≡ 10 → ⊥) → Closed text s (record { ok = false; at = t .start; nodes = s .nodes })
+  pub closed-unshut : {s : Stepped.Step} {t : Found.Token} → s .ok ≡ true → TokenFrom text (s .at) t → (t .kind ≡ 10 → ⊥) → ClosingRead text s (record { ok = false; at = t .start; nodes = s .nodes })
   closed-unshut o k e =
       record {
         failed = λ x. absurd (true≢false (sym o ∙ x));
@@ -355,13 +355,13 @@ module _ (text : List ℕ) (room : ℕ) where
         unshut = λ _ _. (kind-not k e, k .start-is);
       }
 
-  pub closed-failed : {s : Stepped.Step} → s .ok ≡ false → Closed text s s
+  pub closed-failed : {s : Stepped.Step} → s .ok ≡ false → ClosingRead text s s
   closed-failed o =
       record { failed = λ _. refl; shut = λ x. absurd (true≢false (sym x ∙ o)); unshut = λ x. absurd (true≢false (sym x ∙ o)) }
 
-  pub joined-made : {k left : ℕ} {L L′ : NodeLists} {r : Stepped.Step} → r .ok ≡ true → L′ ≡ putEntry room (r .nodes) (entry k left (r .nodes - 1)) L
-      → Joined k left room r L (record { ok = true; at = r .at; nodes = r .nodes + 1 }) L′
+  pub joined-made : {k left : ℕ} {L L′ : NodeLists} {r : Stepped.Step} → r .ok ≡ true → L′ ≡ putEntry room (r .nodes) (nodeEntry k left (r .nodes - 1)) L
+      → NodeJoined k left room r L (record { ok = true; at = r .at; nodes = r .nodes + 1 }) L′
   joined-made o l = record { failed = λ x. absurd (true≢false (sym o ∙ x)); made = λ _. (refl, l) }
 
-  pub joined-failed : {k left : ℕ} {L : NodeLists} {r : Stepped.Step} → r .ok ≡ false → Joined k left room r L r L
+  pub joined-failed : {k left : ℕ} {L : NodeLists} {r : Stepped.Step} → r .ok ≡ false → NodeJoined k left room r L r L
   joined-failed o = record { failed = λ _. (refl, refl); made = λ x. absurd (true≢false (sym x ∙ o)) }

@@ -8,7 +8,7 @@ use lib.Dec.{ltb}
 use lib.ListN.{length, set}
 use Rattle.policy.specs.Tree.{Policy}
 use Rattle.policy.specs.NodeLists.{NodeLists}
-use Rattle.policy.specs.NodesOfTree.{Entry, entry, treeSize, entriesFrom}
+use Rattle.policy.specs.NodesOfTree.{NodeEntry, nodeEntry, treeSize, entriesFrom}
 use Rattle.grammar.specs.Tokens.{tokensFrom, fieldNames}
 use Rattle.grammar.specs.InnerKinds.{frontKind, frontPlace, afterFront}
 use Rattle.grammar.specs.Reading.{Before, nothing, wants, has, stop, readOn}
@@ -17,11 +17,11 @@ use Rattle.text.specs.declared.Step as Stepped
 use Rattle.text.specs.declared.Leaf as Leaves
 
 -- levels of readers. A joined sequence may go on with `;`, an added sum with `+`.
-pub data Level : Type 0 where
-  item starred joined sequence added sum : Level
+pub data ReaderLevel : Type 0 where
+  item starred joined sequence added sum : ReaderLevel
 
 -- what stands before what a reader of the level reads
-unfoldable pub Entered : Level → Before → Type 0
+unfoldable pub Entered : ReaderLevel → Before → Type 0
 Entered item b = Unit
 Entered starred b = Unit
 Entered joined b = b .sequenced ≡ none
@@ -30,7 +30,7 @@ Entered added b = b ≡ nothing
 Entered sum b = b ≡ nothing
 
 -- the kinds of tokens that can stand where a reader of the level has stopped
-unfoldable pub Past : Level → ℕ → Type 0
+unfoldable pub Past : ReaderLevel → ℕ → Type 0
 Past item k = Unit
 Past starred k = k ≡ 8 → ⊥
 Past joined k = k ≡ 8 → ⊥
@@ -42,16 +42,13 @@ Past sum k = (k ≡ 8 → ⊥) × (k ≡ 7 → ⊥) × (k ≡ 6 → ⊥)
 unfoldable pub putAt : ℕ → ℕ → ℕ → List ℕ → List ℕ
 putAt room n v xs = cond (ltb n room) (set xs n v) xs
 
-unfoldable pub putEntry : ℕ → ℕ → Entry → NodeLists → NodeLists
+unfoldable pub putEntry : ℕ → ℕ → NodeEntry → NodeLists → NodeLists
 putEntry room n e L =
     record { kind = putAt room n (e .kind) (L .kind); first = putAt room n (e .first) (L .first); second = putAt room n (e .second) (L .second) }
 
-unfoldable pub putAll : ℕ → ℕ → List Entry → NodeLists → NodeLists
+unfoldable pub putAll : ℕ → ℕ → List NodeEntry → NodeLists → NodeLists
 putAll room n [] L = L
 putAll room n (e ∷ es) L = putAll room (suc n) es (putEntry room n e L)
-
-abbrev pub lists : List ℕ → List ℕ → List ℕ → NodeLists
-lists kind first second = record { kind = kind; first = first; second = second }
 
 -- what a reader asks: nodes so far are no more than bytes so far, and no more are written than there is room for
 pub record ReaderReady (text : List ℕ) (at nodes room : ℕ) (L : NodeLists) : Type 0 where
@@ -68,7 +65,7 @@ pub record GotLeaf (text : List ℕ) (at : ℕ) (r : Leaves.Leaf) : Type 0 where
   pub moves : (b : Before) (cs : List Before)
       → readOn (length text) (wants b cs) (tokensFrom fieldNames text at) ≡ readOn (length text) (has b cs policy) (tokensFrom fieldNames text (r .at))
   pub one : treeSize policy ≡ 1
-  pub entries : (n : ℕ) → entriesFrom n policy ≡ entry (r .kind) (r .first) (r .second) ∷ []
+  pub entries : (n : ℕ) → entriesFrom n policy ≡ nodeEntry (r .kind) (r .first) (r .second) ∷ []
   pub onward : at < r .at
   pub within : r .at ≤ length text
 
@@ -77,18 +74,18 @@ pub record LeafDone (text : List ℕ) (at : ℕ) (r : Leaves.Leaf) : Type 0 wher
   pub stopped : r .ok ≡ false → (b : Before) (cs : List Before) → readOn (length text) (wants b cs) (tokensFrom fieldNames text at) ≡ stop (r .at)
 
 -- the closing parenthesis after what s has read
-pub record Closed (text : List ℕ) (s r : Stepped.Step) : Type 0 where
+pub record ClosingRead (text : List ℕ) (s r : Stepped.Step) : Type 0 where
   pub failed : s .ok ≡ false → r ≡ s
   pub shut : s .ok ≡ true → r .ok ≡ true → (frontKind (tokensFrom fieldNames text (s .at)) ≡ 10) × (tokensFrom fieldNames text (r .at) ≡ afterFront (tokensFrom fieldNames text (s .at))) × (s .at < r .at) × (r .at ≤ length text) × (r .nodes ≡ s .nodes)
   pub unshut : s .ok ≡ true → r .ok ≡ false → (frontKind (tokensFrom fieldNames text (s .at)) ≡ 10 → ⊥) × (r .at ≡ frontPlace (length text) (tokensFrom fieldNames text (s .at)))
 
 -- the node that joins what r has read to what stands before it
-pub record Joined (k left room : ℕ) (r : Stepped.Step) (L : NodeLists) (r′ : Stepped.Step) (L′ : NodeLists) : Type 0 where
+pub record NodeJoined (k left room : ℕ) (r : Stepped.Step) (L : NodeLists) (r′ : Stepped.Step) (L′ : NodeLists) : Type 0 where
   pub failed : r .ok ≡ false → (r′ ≡ r) × (L′ ≡ L)
-  pub made : r .ok ≡ true → (r′ ≡ record { ok = true; at = r .at; nodes = r .nodes + 1 }) × (L′ ≡ putEntry room (r .nodes) (entry k left (r .nodes - 1)) L)
+  pub made : r .ok ≡ true → (r′ ≡ record { ok = true; at = r .at; nodes = r .nodes + 1 }) × (L′ ≡ putEntry room (r .nodes) (nodeEntry k left (r .nodes - 1)) L)
 
 -- a reader has read a policy, whose nodes are those after the first so many
-pub record Got (l : Level) (text : List ℕ) (at nodes room : ℕ) (L : NodeLists) (r : Stepped.Step) (L′ : NodeLists) : Type 0 where
+pub record Got (l : ReaderLevel) (text : List ℕ) (at nodes room : ℕ) (L : NodeLists) (r : Stepped.Step) (L′ : NodeLists) : Type 0 where
   pub policy : Policy
   pub moves : (b : Before) → Entered l b → (cs : List Before)
       → readOn (length text) (wants b cs) (tokensFrom fieldNames text at) ≡ readOn (length text) (has b cs policy) (tokensFrom fieldNames text (r .at))
@@ -100,18 +97,18 @@ pub record Got (l : Level) (text : List ℕ) (at nodes room : ℕ) (L : NodeList
   pub few : r .nodes + at ≤ r .at + nodes
 
 -- what a reader of the level has done
-pub record Done (l : Level) (text : List ℕ) (at nodes room : ℕ) (L : NodeLists) (r : Stepped.Step) (L′ : NodeLists) : Type 0 where
+pub record Done (l : ReaderLevel) (text : List ℕ) (at nodes room : ℕ) (L : NodeLists) (r : Stepped.Step) (L′ : NodeLists) : Type 0 where
   pub got : r .ok ≡ true → Got l text at nodes room L r L′
   pub stopped : r .ok ≡ false → (b : Before) → Entered l b → (cs : List Before)
       → readOn (length text) (wants b cs) (tokensFrom fieldNames text at) ≡ stop (r .at)
 
 -- the end of the text after what s has read
-pub record Ended (text : List ℕ) (s r : Stepped.Step) : Type 0 where
+pub record EndRead (text : List ℕ) (s r : Stepped.Step) : Type 0 where
   pub failed : s .ok ≡ false → r ≡ s
   pub over : s .ok ≡ true → r .ok ≡ true → (frontKind (tokensFrom fieldNames text (s .at)) ≡ 1) × (r .nodes ≡ s .nodes)
   pub more : s .ok ≡ true → r .ok ≡ false → (frontKind (tokensFrom fieldNames text (s .at)) ≡ 1 → ⊥) × (r .at ≡ frontPlace (length text) (tokensFrom fieldNames text (s .at)))
 
 -- the whole text has been read, or the reading has stopped
-pub record Counted (text : List ℕ) (r : Stepped.Step) : Type 0 where
+pub record WholeRead (text : List ℕ) (r : Stepped.Step) : Type 0 where
   pub read : r .ok ≡ true → (stopPlace (outcome fieldNames text) ≡ none) × (r .nodes ≡ treeSize (textTree fieldNames text))
   pub stopped : r .ok ≡ false → stopPlace (outcome fieldNames text) ≡ some (r .at)

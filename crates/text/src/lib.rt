@@ -8,12 +8,13 @@ ghost use Prim.Native.Nat.{_+_, _^_, _≤_, _<_, min};
 ghost use lib.ListN.{length};
 ghost use mathlib.Core.List.{[], _∷_};
 ghost use Rattle.packet.specs.Refusals.{refusal, refusedAt, firstOf};
-ghost use Rattle.policy.specs.NodesOfTree.{entry, treeSize};
+ghost use Rattle.policy.specs.AsLists.{asLists};
+ghost use Rattle.policy.specs.NodesOfTree.{nodeEntry, treeSize};
 ghost use Rattle.grammar.specs.Tokens.{tokens, tokensFrom, fieldNames};
-ghost use Rattle.grammar.specs.Answer.{badPlace, deepPlace, stopPlace, tooMany, answered, outcome, textTree, answerTo, TextRead};
+ghost use Rattle.grammar.specs.Answer.{badPlace, deepPlace, stopPlace, tooMany, answerAfter, outcome, textTree, answerTo, TextRead};
 ghost use Rattle.grammar.specs.InnerKinds.{frontKind, openAfterKind};
 ghost use Rattle.text.specs.Inner;
-ghost use Rattle.text.specs.Inner.{LeafDone, Closed, Joined, lists, putEntry, ReaderReady, Done, Ended, Counted};
+ghost use Rattle.text.specs.Inner.{LeafDone, ClosingRead, NodeJoined, putEntry, ReaderReady, Done, EndRead, WholeRead};
 
 // Where a reader stands: whether it has read what it reads, the byte up to which, or at which it stopped, and the nodes so far.
 struct Step {
@@ -101,8 +102,8 @@ fn put(
     second: &mut [u16],
 )
     requires { ⌜ (room ≤ length (now kind)) × (room ≤ length (now first)) × (room ≤ length (now second)) ⌝ }
-    ensures { λ _. ⌜ lists (now (kind .exit)) (now (first .exit)) (now (second .exit))
-        ≡ putEntry room n (entry k a b) (lists (now (kind .entry)) (now (first .entry)) (now (second .entry))) ⌝ }
+    ensures { λ _. ⌜ asLists (now (kind .exit)) (now (first .exit)) (now (second .exit))
+        ≡ putEntry room n (nodeEntry k a b) (asLists (now (kind .entry)) (now (first .entry)) (now (second .entry))) ⌝ }
 {
     if n < room {
         kind[n] = k;
@@ -133,8 +134,8 @@ fn put_parent(
     second: &mut [u16],
 )
     requires { ⌜ (room ≤ length (now kind)) × (room ≤ length (now first)) × (room ≤ length (now second)) × (room ≤ 512) × (a ≤ n) × (b ≤ n) ⌝ }
-    ensures { λ _. ⌜ lists (now (kind .exit)) (now (first .exit)) (now (second .exit))
-        ≡ putEntry room n (entry k a b) (lists (now (kind .entry)) (now (first .entry)) (now (second .entry))) ⌝ }
+    ensures { λ _. ⌜ asLists (now (kind .exit)) (now (first .exit)) (now (second .exit))
+        ≡ putEntry room n (nodeEntry k a b) (asLists (now (kind .entry)) (now (first .entry)) (now (second .entry))) ⌝ }
 {
     put(n, room, k, number_of(a), number_of(b), kind, first, second);
 }
@@ -151,8 +152,8 @@ fn join(
 ) -> Step
     requires { ⌜ (room ≤ length (now kind)) × (room ≤ length (now first)) × (room ≤ length (now second)) × (room ≤ 512)
         × (r .ok ≡ true → (left < r .nodes) × (r .nodes < 2 ^ 63)) ⌝ }
-    ensures { λ s. ⌜ Joined k left room r (lists (now (kind .entry)) (now (first .entry)) (now (second .entry))) s
-        (lists (now (kind .exit)) (now (first .exit)) (now (second .exit))) ⌝ }
+    ensures { λ s. ⌜ NodeJoined k left room r (asLists (now (kind .entry)) (now (first .entry)) (now (second .entry))) s
+        (asLists (now (kind .exit)) (now (first .exit)) (now (second .exit))) ⌝ }
 {
     if r.ok {
         let n = r.nodes;
@@ -169,7 +170,7 @@ fn join(
 // The closing parenthesis after what s has read.
 fn closed(text: &[u8], s: Step) -> Step
     requires { ⌜ (s .ok ≡ true → s .at ≤ length (now text)) ⌝ }
-    ensures { λ r. ⌜ Closed (now (text .entry)) s r ⌝ }
+    ensures { λ r. ⌜ ClosingRead (now (text .entry)) s r ⌝ }
 {
     if s.ok {
         let t = tokens::token_from(text, s.at);
@@ -199,9 +200,9 @@ fn item(
     first: &mut [u16],
     second: &mut [u16],
 ) -> Step
-    requires { ⌜ ReaderReady (now text) at nodes room (lists (now kind) (now first) (now second)) ⌝ }
-    ensures { λ r. ⌜ Done Inner.item (now (text .entry)) at nodes room (lists (now (kind .entry)) (now (first .entry)) (now (second .entry))) r
-        (lists (now (kind .exit)) (now (first .exit)) (now (second .exit))) ⌝ }
+    requires { ⌜ ReaderReady (now text) at nodes room (asLists (now kind) (now first) (now second)) ⌝ }
+    ensures { λ r. ⌜ Done Inner.item (now (text .entry)) at nodes room (asLists (now (kind .entry)) (now (first .entry)) (now (second .entry))) r
+        (asLists (now (kind .exit)) (now (first .exit)) (now (second .exit))) ⌝ }
 {
     let t = tokens::token_from(text, at);
     if t.kind == 9 {
@@ -234,9 +235,9 @@ fn starred(
     first: &mut [u16],
     second: &mut [u16],
 ) -> Step
-    requires { ⌜ ReaderReady (now text) at nodes room (lists (now kind) (now first) (now second)) ⌝ }
-    ensures { λ r. ⌜ Done Inner.starred (now (text .entry)) at nodes room (lists (now (kind .entry)) (now (first .entry)) (now (second .entry))) r
-        (lists (now (kind .exit)) (now (first .exit)) (now (second .exit))) ⌝ }
+    requires { ⌜ ReaderReady (now text) at nodes room (asLists (now kind) (now first) (now second)) ⌝ }
+    ensures { λ r. ⌜ Done Inner.starred (now (text .entry)) at nodes room (asLists (now (kind .entry)) (now (first .entry)) (now (second .entry))) r
+        (asLists (now (kind .exit)) (now (first .exit)) (now (second .exit))) ⌝ }
 {
     let mut s = item(text, at, nodes, room, kind, first, second);
     while s.ok {
@@ -265,9 +266,9 @@ fn sequence(
     first: &mut [u16],
     second: &mut [u16],
 ) -> Step
-    requires { ⌜ ReaderReady (now text) at nodes room (lists (now kind) (now first) (now second)) ⌝ }
-    ensures { λ r. ⌜ Done Inner.sequence (now (text .entry)) at nodes room (lists (now (kind .entry)) (now (first .entry)) (now (second .entry))) r
-        (lists (now (kind .exit)) (now (first .exit)) (now (second .exit))) ⌝ }
+    requires { ⌜ ReaderReady (now text) at nodes room (asLists (now kind) (now first) (now second)) ⌝ }
+    ensures { λ r. ⌜ Done Inner.sequence (now (text .entry)) at nodes room (asLists (now (kind .entry)) (now (first .entry)) (now (second .entry))) r
+        (asLists (now (kind .exit)) (now (first .exit)) (now (second .exit))) ⌝ }
 {
     let mut s = starred(text, at, nodes, room, kind, first, second);
     while s.ok {
@@ -292,9 +293,9 @@ fn sum(
     first: &mut [u16],
     second: &mut [u16],
 ) -> Step
-    requires { ⌜ ReaderReady (now text) at nodes room (lists (now kind) (now first) (now second)) ⌝ }
-    ensures { λ r. ⌜ Done Inner.sum (now (text .entry)) at nodes room (lists (now (kind .entry)) (now (first .entry)) (now (second .entry))) r
-        (lists (now (kind .exit)) (now (first .exit)) (now (second .exit))) ⌝ }
+    requires { ⌜ ReaderReady (now text) at nodes room (asLists (now kind) (now first) (now second)) ⌝ }
+    ensures { λ r. ⌜ Done Inner.sum (now (text .entry)) at nodes room (asLists (now (kind .entry)) (now (first .entry)) (now (second .entry))) r
+        (asLists (now (kind .exit)) (now (first .exit)) (now (second .exit))) ⌝ }
 {
     let mut s = sequence(text, at, nodes, room, kind, first, second);
     while s.ok {
@@ -312,7 +313,7 @@ fn sum(
 // The end of the text after what s has read.
 fn ended(text: &[u8], s: Step) -> Step
     requires { ⌜ (s .ok ≡ true → s .at ≤ length (now text)) ⌝ }
-    ensures { λ r. ⌜ Ended (now (text .entry)) s r ⌝ }
+    ensures { λ r. ⌜ EndRead (now (text .entry)) s r ⌝ }
 {
     if s.ok {
         let t = tokens::token_from(text, s.at);
@@ -331,7 +332,7 @@ fn ended(text: &[u8], s: Step) -> Step
 // The nodes of the whole text, none of them written. The test of cause 15 must have passed: at most 64 open parentheses bound the depth of the
 // recursion.
 fn count(text: &[u8]) -> Step
-    ensures { λ r. ⌜ Counted (now (text .entry)) r ⌝ }
+    ensures { λ r. ⌜ WholeRead (now (text .entry)) r ⌝ }
 {
     let mut kind = [0u8; 1];
     let mut first = [0u16; 1];
@@ -406,7 +407,7 @@ fn depth_stage(text: &[u8]) -> Tested
 
 // Causes 16 and 17.
 fn size_stage(text: &[u8], room: usize) -> Answer
-    ensures { λ r. ⌜ r ≡ answered (firstOf (refusedAt 16 0 (stopPlace (outcome fieldNames (now (text .entry))))
+    ensures { λ r. ⌜ r ≡ answerAfter (firstOf (refusedAt 16 0 (stopPlace (outcome fieldNames (now (text .entry))))
         ∷ refusedAt 17 0 (tooMany room (treeSize (textTree fieldNames (now (text .entry))))) ∷ [])) (treeSize (textTree fieldNames (now (text .entry)))) ⌝ }
 {
     let s = count(text);

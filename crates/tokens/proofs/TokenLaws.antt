@@ -12,7 +12,7 @@ use lib.Seq.{drop-cons, drop-drop, getD-drop}
 use borrow.Author.Tests.{ne-eqb, eqb-true}
 use Rattle.grammar.specs.Bytes.{isBlank, isLetter, isDigit, inWord}
 use Rattle.grammar.specs.Tokens.{Token, Placed, bad, isBad, wordToken, singleMark, doubleMark, beginsDouble, markToken, wordOf, frontToken, restOfToken, placedFrom, tokensFrom, fieldNames}
-use Rattle.grammar.specs.InnerKinds.{kindOf, valueOf, comparisonKind, classOf, frontKind, frontValue, frontPlace, afterFront}
+use Rattle.grammar.specs.InnerKinds.{kindOf, tokenValue, comparisonKind, classOf, frontKind, frontValue, frontPlace, afterFront}
 use Rattle.tokens.specs.Inner.{NumbersOf, FrontAt, Skipped, TokenFrom}
 use Rattle.tokens.specs.declared.Token as Found
 use Rattle.tokens.proofs.Below.{below}
@@ -129,19 +129,19 @@ front-mark text at kind value next h e n q w =
     }
 
 -- a mark of two bytes
-pub double-33 : (a : ℕ) → valueOf (doubleMark 33 a) ≡ cond (eqb a 61) 3 0
-unfolding doubleMark valueOf comparisonKind
+pub double-33 : (a : ℕ) → tokenValue (doubleMark 33 a) ≡ cond (eqb a 61) 3 0
+unfolding doubleMark tokenValue comparisonKind
 double-33 a = go (eqb a 61)
   where
-    go : (t : Bool) → valueOf (cond t (Rattle.grammar.specs.Tokens.comparison Rattle.grammar.specs.Tokens.differs) bad) ≡ cond t 3 0
+    go : (t : Bool) → tokenValue (cond t (Rattle.grammar.specs.Tokens.comparison Rattle.grammar.specs.Tokens.differs) bad) ≡ cond t 3 0
     go true = refl
     go false = refl
 
-pub double-60 : (a : ℕ) → valueOf (doubleMark 60 a) ≡ cond (eqb a 45) 4 0
-unfolding doubleMark valueOf comparisonKind
+pub double-60 : (a : ℕ) → tokenValue (doubleMark 60 a) ≡ cond (eqb a 45) 4 0
+unfolding doubleMark tokenValue comparisonKind
 double-60 a = go (eqb a 45)
   where
-    go : (t : Bool) → valueOf (cond t (Rattle.grammar.specs.Tokens.comparison Rattle.grammar.specs.Tokens.assigned) bad) ≡ cond t 4 0
+    go : (t : Bool) → tokenValue (cond t (Rattle.grammar.specs.Tokens.comparison Rattle.grammar.specs.Tokens.assigned) bad) ≡ cond t 4 0
     go true = refl
     go false = refl
 
@@ -154,14 +154,14 @@ unfolding doubleMark
 double-alone b = rw (and-false (eqb b 33), and-false (eqb b 60))
 
 -- a mark of two bytes is bad or a comparison
-pub double-cases : (b a : ℕ) → (doubleMark b a ≡ bad) ⊎ ((kindOf (doubleMark b a) ≡ 5) × (isBad (doubleMark b a) ≡ false) × (valueOf (doubleMark b a) ≡ 0 → ⊥))
-unfolding doubleMark kindOf isBad valueOf comparisonKind
+pub double-cases : (b a : ℕ) → (doubleMark b a ≡ bad) ⊎ ((kindOf (doubleMark b a) ≡ 5) × (isBad (doubleMark b a) ≡ false) × (tokenValue (doubleMark b a) ≡ 0 → ⊥))
+unfolding doubleMark kindOf isBad tokenValue comparisonKind
 double-cases b a = go (eqb b 33 && eqb a 61) (eqb b 60 && eqb a 45)
   where
     mark : Bool → Bool → Token
     mark s t = cond s (Rattle.grammar.specs.Tokens.comparison Rattle.grammar.specs.Tokens.differs) (cond t (Rattle.grammar.specs.Tokens.comparison Rattle.grammar.specs.Tokens.assigned) bad)
 
-    go : (s t : Bool) → (mark s t ≡ bad) ⊎ ((kindOf (mark s t) ≡ 5) × (isBad (mark s t) ≡ false) × (valueOf (mark s t) ≡ 0 → ⊥))
+    go : (s t : Bool) → (mark s t ≡ bad) ⊎ ((kindOf (mark s t) ≡ 5) × (isBad (mark s t) ≡ false) × (tokenValue (mark s t) ≡ 0 → ⊥))
     go true t = inr (refl, refl, λ e. omega arith)
     go false true = inr (refl, refl, λ e. omega arith)
     go false false = inl refl
@@ -170,13 +170,13 @@ pub class-double : (b : ℕ) → b < 256 → eqb (classOf b) 4 ≡ beginsDouble 
 unfolding classOf isBlank isLetter isDigit beginsDouble singleMark kindOf
 class-double b h = beq-true _ _ (below (λ b. Bool·beq (eqb (classOf b) 4) (beginsDouble b)) 256 tt b h)
 
-single-value : (b : ℕ) → b < 256 → valueOf (singleMark b) ≡ cond (eqb (kindOf (singleMark b)) 5) 2 0
-unfolding singleMark kindOf valueOf comparisonKind
-single-value b h = eqb-true _ _ (T-true _ (below (λ b. eqb (valueOf (singleMark b)) (cond (eqb (kindOf (singleMark b)) 5) 2 0)) 256 tt b h))
+single-value : (b : ℕ) → b < 256 → tokenValue (singleMark b) ≡ cond (eqb (kindOf (singleMark b)) 5) 2 0
+unfolding singleMark kindOf tokenValue comparisonKind
+single-value b h = eqb-true _ _ (T-true _ (below (λ b. eqb (tokenValue (singleMark b)) (cond (eqb (kindOf (singleMark b)) 5) 2 0)) 256 tt b h))
 
 -- a mark of one byte, by its class
 pub single-class : (b a : ℕ) → b < 256 → isBlank b ≡ false → inWord b ≡ false → beginsDouble b ≡ false
-    → (markToken b a ≡ singleMark b) × (kindOf (singleMark b) ≡ classOf b) × (valueOf (singleMark b) ≡ cond (eqb (classOf b) 5) 2 0) × (doubleMark b a ≡ bad)
+    → (markToken b a ≡ singleMark b) × (kindOf (singleMark b) ≡ classOf b) × (tokenValue (singleMark b) ≡ cond (eqb (classOf b) 5) 2 0) × (doubleMark b a ≡ bad)
 unfolding markToken classOf inWord beginsDouble
 single-class b a h blank word double =
     let letter : isLetter b ≡ false = or-false (isLetter b) (isDigit b) word .0 in
@@ -190,19 +190,19 @@ word-within text at r h e = let l : length (wordOf (drop at text)) ≤ length (d
 module _ (text : List ℕ) (at : ℕ) (h : at < length text) (word : inWord (getD text at 0) ≡ false) where
   -- no mark of two bytes
   front-bad : beginsDouble (getD text at 0) ≡ true → doubleMark (getD text at 0) (getD text (at + 1) 0) ≡ bad → FrontAt text at (record { kind = 0; value = 0; start = at; next = at + 1 })
-  unfolding markToken isBad kindOf valueOf
+  unfolding markToken isBad kindOf tokenValue
   front-bad d e = front-mark text at 0 0 (at + 1) h word (rw (d, e) (record { kind-is = refl; value-is = refl })) (rw e (omega arith)) (omega arith)
 
   pub front-alone : beginsDouble (getD text at 0) ≡ true → length text ≤ at + 1 → FrontAt text at (record { kind = 0; value = 0; start = at; next = at + 1 })
   front-alone d l = front-bad d (rw (List·getD-eq-default text 0 l) (double-alone (getD text at 0)))
 
-  pub front-none : (k : ℕ) → beginsDouble (getD text at 0) ≡ true → k ≡ valueOf (doubleMark (getD text at 0) (getD text (at + 1) 0)) → k ≡ 0 → FrontAt text at (record { kind = 0; value = 0; start = at; next = at + 1 })
+  pub front-none : (k : ℕ) → beginsDouble (getD text at 0) ≡ true → k ≡ tokenValue (doubleMark (getD text at 0) (getD text (at + 1) 0)) → k ≡ 0 → FrontAt text at (record { kind = 0; value = 0; start = at; next = at + 1 })
   front-none k d e z = ⊎-elim (λ q. front-bad d q) (λ p. absurd (p .2 (sym e ∙ z))) (double-cases (getD text at 0) (getD text (at + 1) 0))
 
-  pub front-double : (k : ℕ) → beginsDouble (getD text at 0) ≡ true → at + 1 < length text → k ≡ valueOf (doubleMark (getD text at 0) (getD text (at + 1) 0)) → (k ≡ 0 → ⊥) → FrontAt text at (record { kind = 5; value = k; start = at; next = at + 1 + 1 })
-  unfolding markToken valueOf
+  pub front-double : (k : ℕ) → beginsDouble (getD text at 0) ≡ true → at + 1 < length text → k ≡ tokenValue (doubleMark (getD text at 0) (getD text (at + 1) 0)) → (k ≡ 0 → ⊥) → FrontAt text at (record { kind = 5; value = k; start = at; next = at + 1 + 1 })
+  unfolding markToken tokenValue
   front-double k d l e z =
-      ⊎-elim (λ q. absurd (z (e ∙ ap valueOf q)))
+      ⊎-elim (λ q. absurd (z (e ∙ ap tokenValue q)))
       (λ p. front-mark text at 5 k (at + 1 + 1) h word (rw d (record { kind-is = sym (p .0); value-is = e })) (rw (p .1) refl) (omega arith))
       (double-cases (getD text at 0) (getD text (at + 1) 0))
 

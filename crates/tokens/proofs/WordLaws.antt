@@ -14,7 +14,7 @@ use Rattle.packet.proofs.Lowest.{lowest-found, lowest-none-whole}
 use Rattle.packet.proofs.Tests.{and-true, T-true}
 use Rattle.grammar.specs.Bytes.{isDigit}
 use Rattle.grammar.specs.Tokens.{Token, number, bad, sameWord, allDigits, decimal, leadingZero, isNumber, numberToken, fieldNames, fieldNamed, fieldToken, wordToken}
-use Rattle.grammar.specs.InnerKinds.{kindOf, valueOf, constantKind}
+use Rattle.grammar.specs.InnerKinds.{kindOf, tokenValue, constantKind}
 use Rattle.tokens.specs.Inner.{numberFrom, Named, NumbersOf}
 use Rattle.tokens.proofs.Below.{below}
 
@@ -92,7 +92,7 @@ unfolding fieldNamed fieldNames
 named-none w f miss e = record { found = λ l. absurd (omega arith); missing = λ _. lowest-none-whole (bears w) f 8 miss e }
 
 pub field-is : (o : Option ℕ) (w : List ℕ) (r : ℕ) → Named o r → r < 8 → NumbersOf (fieldToken o w) 3 r
-unfolding fieldToken kindOf valueOf
+unfolding fieldToken kindOf tokenValue
 field-is o w r n h = subst (λ (p : Option ℕ). NumbersOf (fieldToken p w) 3 r) (sym (n .found h)) (record { kind-is = refl; value-is = refl })
 
 pub field-not : (o : Option ℕ) (w : List ℕ) (r k v : ℕ) → Named o r → 8 ≤ r → NumbersOf (numberToken w) k v → NumbersOf (fieldToken o w) k v
@@ -112,7 +112,7 @@ leading-long w h = rw (lt-ltb 1 (length w) h) (go (eqb (getD w 0 0) 48))
     go false = refl
 
 pub bad-numbers : (t : Token) → t ≡ bad → NumbersOf t 0 0
-unfolding kindOf valueOf
+unfolding kindOf tokenValue
 bad-numbers t e = subst (λ (t : Token). NumbersOf t 0 0) (sym e) (record { kind-is = refl; value-is = refl })
 
 pub number-zero : (w : List ℕ) → leadingZero w ≡ true → numberToken w ≡ bad
@@ -136,7 +136,7 @@ number-over w e h = rw (number-test w e) (go (allDigits w && leb (decimal 0 w) 6
     go false q l = refl
 
 pub number-is : (w : List ℕ) (n : ℕ) → leadingZero w ≡ false → n ≡ numberFrom 0 w → n ≤ 65535 → NumbersOf (numberToken w) 4 n
-unfolding numberToken numberFrom kindOf valueOf
+unfolding numberToken numberFrom kindOf tokenValue
 number-is w n e q h = rw (number-test w e) (go (allDigits w && leb (decimal 0 w) 65535) q)
   where
     go : (b : Bool) → n ≡ cond b (decimal 0 w) 65536 → NumbersOf (cond b (number (decimal 0 w)) bad) 4 n
@@ -144,15 +144,15 @@ number-is w n e q h = rw (number-test w e) (go (allDigits w && leb (decimal 0 w)
     go false q = absurd (omega arith)
 
 pub word-drop : (w : List ℕ) → sameWord w (100 ∷ 114 ∷ 111 ∷ 112 ∷ []) ≡ true → NumbersOf (wordToken fieldNames w) 2 0
-unfolding wordToken kindOf valueOf constantKind
+unfolding wordToken kindOf tokenValue constantKind
 word-drop w e = rw e (record { kind-is = refl; value-is = refl })
 
 pub word-id : (w : List ℕ) → sameWord w (100 ∷ 114 ∷ 111 ∷ 112 ∷ []) ≡ false → sameWord w (105 ∷ 100 ∷ []) ≡ true → NumbersOf (wordToken fieldNames w) 2 1
-unfolding wordToken kindOf valueOf constantKind
+unfolding wordToken kindOf tokenValue constantKind
 word-id w d e = rw (d, e) (record { kind-is = refl; value-is = refl })
 
 pub word-dup : (w : List ℕ) → sameWord w (100 ∷ 114 ∷ 111 ∷ 112 ∷ []) ≡ false → sameWord w (105 ∷ 100 ∷ []) ≡ false → sameWord w (100 ∷ 117 ∷ 112 ∷ []) ≡ true → NumbersOf (wordToken fieldNames w) 2 5
-unfolding wordToken kindOf valueOf constantKind
+unfolding wordToken kindOf tokenValue constantKind
 word-dup w d i e = rw (d, i, e) (record { kind-is = refl; value-is = refl })
 
 pub word-other : (w : List ℕ) (k v : ℕ) → sameWord w (100 ∷ 114 ∷ 111 ∷ 112 ∷ []) ≡ false → sameWord w (105 ∷ 100 ∷ []) ≡ false → sameWord w (100 ∷ 117 ∷ 112 ∷ []) ≡ false → NumbersOf (fieldToken (fieldNamed fieldNames w) w) k v → NumbersOf (wordToken fieldNames w) k v

@@ -8,7 +8,7 @@ use lib.Dec.{leb}
 use lib.ListN.{length, getD, drop}
 use Rattle.grammar.specs.Bytes.{isBlank}
 use Rattle.grammar.specs.Tokens.{Token, allDigits, decimal, frontToken, restOfToken, tokensFrom, fieldNames}
-use Rattle.grammar.specs.InnerKinds.{kindOf, valueOf, frontKind, frontValue, frontPlace, afterFront}
+use Rattle.grammar.specs.InnerKinds.{kindOf, tokenValue, frontKind, frontValue, frontPlace, afterFront}
 use Rattle.tokens.specs.declared.Token as Found
 
 -- the value of digits that follow others of value n, or 65,536 where they are no digits or make more than 65,535
@@ -23,7 +23,7 @@ pub record Named (o : Option ℕ) (r : ℕ) : Type 0 where
 -- these are the numbers of the token
 pub record NumbersOf (t : Token) (kind value : ℕ) : Type 0 where
   pub kind-is : kind ≡ kindOf t
-  pub value-is : value ≡ valueOf t
+  pub value-is : value ≡ tokenValue t
 
 -- the first byte from `at` on that is no blank, or the end
 pub record Skipped (text : List ℕ) (at r : ℕ) : Type 0 where

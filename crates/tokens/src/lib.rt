@@ -9,7 +9,7 @@ ghost use Prim.Native.Nat.{_+_, _≤_, _<_};
 ghost use lib.ListN.{length, getD, drop};
 ghost use Rattle.grammar.specs.Bytes.{isBlank, inWord};
 ghost use Rattle.grammar.specs.Tokens.{wordOf, doubleMark, beginsDouble};
-ghost use Rattle.grammar.specs.InnerKinds.{classTable, valueOf};
+ghost use Rattle.grammar.specs.InnerKinds.{classTable, tokenValue};
 ghost use Rattle.tokens.specs.Inner.{Skipped, FrontAt, TokenFrom};
 
 // A token by its numbers, with the byte at which it starts and the byte after it.
@@ -64,7 +64,7 @@ fn word_at(classes: &[u8], text: &[u8], at: usize) -> Token
 
 // The kind of the comparison that two bytes are, or 0.
 fn double(b: u8, after: u8) -> u16
-    ensures { λ r. ⌜ r ≡ valueOf (doubleMark b after) ⌝ }
+    ensures { λ r. ⌜ r ≡ tokenValue (doubleMark b after) ⌝ }
 {
     if b == 33 {
         if after == 61 {

@@ -23,7 +23,7 @@ use Rattle.pair.specs.TraceCheck.{TraceAnswer, only, both, neither, has, answer
 use Rattle.pair.proofs.Lawful.{EvaluablePair, legal-pair}
 use Rattle.pair.proofs.TraceCheck.{trace-iff, different-only, trace-empty}
 use Rattle.pair.proofs.Verdicts.{different-tells}
-use Rattle.lent_lists.specs.Lent.{workAfter}
+use Rattle.lent_lists.specs.LentLists.{workAfter}
 use Rattle.traces.specs.declared.TraceChecked.{TraceChecked}
 use Rattle.traces.specs.declared.TraceChecked.the-variants.{Left, Right, Both, Neither, Refused as CheckRefused}
 use Rattle.traces.specs.Checking.{packetsStage, checkedAs, checkedUnless, listsTests, traceTests, traceCall, CheckedTrace, FollowReady, Followed}

@@ -21,8 +21,8 @@ use Rattle.legality.specs.declared.PairTested.{PairTested}
 use Rattle.legality.specs.Answers.{FrontOf}
 use Rattle.policy.specs.Legality.{Legal}
 use Rattle.policy.specs.NodeLists.{NodeLists}
-use Rattle.lent_lists.specs.Lent as rows
-use Rattle.lent_lists.specs.Lent.{listsStage}
+use Rattle.lent_lists.specs.LentLists as rows
+use Rattle.lent_lists.specs.LentLists.{listsStage}
 use Rattle.lent_lists.proofs.Testing as rows-laws
 use Rattle.lent_lists.proofs.Testing.{front-tests, tests-passed, lists-passed, work-passes}
 use Rattle.traces.specs.Checking.{badPacket, packetsStage, listsTests, traceTests}

@@ -20,8 +20,8 @@ use Rattle.pair.specs.Sides.{left, right, policies}
 use Rattle.pair.specs.TraceCheck.{TraceAnswer, only, both, neither, has, traceAnswer}
 use Rattle.loaded.specs.Loaded.{Loaded}
 use Rattle.engine.specs.Stepping.{Stands}
-use Rattle.lent_lists.specs.Lent as rows
-use Rattle.lent_lists.specs.Lent.{listsStage, workAfter}
+use Rattle.lent_lists.specs.LentLists as rows
+use Rattle.lent_lists.specs.LentLists.{listsStage, workAfter}
 use Rattle.traces.specs.declared.TraceChecked.{TraceChecked}
 use Rattle.traces.specs.declared.TraceChecked.the-variants.{Left, Right, Both, Neither, Refused as CheckRefused}
 

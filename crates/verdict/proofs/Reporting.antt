@@ -10,7 +10,7 @@ use Rattle.packet.specs.Refusals.{refusal}
 use Rattle.system.proofs.Basics.{length-snoc}
 use Rattle.pair.specs.Sides.{Side, left, right}
 use Rattle.pair.specs.Search.{SearchAnswer, different, traceShort, reported}
-use Rattle.parent_traces.specs.Lines.{lineDepth, linePath, lineStart}
+use Rattle.parent_traces.specs.ParentLines.{lineDepth, linePath, lineStart}
 use Rattle.packet.specs.Written.{written}
 use Rattle.parent_traces.proofs.Lines.{length-path}
 use Rattle.verdict.specs.declared.Ended.{Ended}

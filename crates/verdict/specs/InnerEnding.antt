@@ -4,7 +4,7 @@ use mathlib.Core.List.{List, [], _∷_, _++_}
 use lib.ListN.{length}
 use Rattle.pair.specs.Sides.{Side, left, right}
 use Rattle.pair.specs.Search.{SearchAnswer, equal, rowsFull, reported}
-use Rattle.parent_traces.specs.Lines.{linePath, lineStart, Rooted}
+use Rattle.parent_traces.specs.ParentLines.{linePath, lineStart, Rooted}
 use Rattle.verdict.specs.declared.Ended.{Ended}
 use Rattle.verdict.specs.declared.Ended.the-variants.{Done, Left, Right, Full}
 use Rattle.verdict.specs.declared.Stop.{Stop}

@@ -3,13 +3,13 @@ use borrow.Author.Needs.{needs}
 use mathlib.Core.Path.{_≡_, sym}
 use mathlib.Core.Bool.{true}
 use Prim.Native.Nat.{_≤_, _-_}
-use Rattle.index.specs.Columns.{policyCount, sameStates}
+use Rattle.index.specs.Columns.{policyCount, masksAgree}
 use Rattle.index.proofs.States.{states-none, states-more, states-differ, states-all}
 use Rattle.index.proofs.same_states.Statement.{statement}
 use Rattle.index.proofs.same_states.Tie as tie
 
 abbrev Inv-loop : tie.InvT-loop
-Inv-loop a b k₀ k = (k ≤ policyCount) × (sameStates k a b ≡ true)
+Inv-loop a b k₀ k = (k ≤ policyCount) × (masksAgree k a b ≡ true)
 
 abbrev μ-loop : tie.MeasureT-loop
 μ-loop a b k₀ k = policyCount - k

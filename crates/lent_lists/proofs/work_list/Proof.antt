@@ -1,6 +1,6 @@
 -- `lent::work_list` meets its contract. Assumes nothing.
 use borrow.Author.Needs.{needs}
-use Rattle.lent_lists.specs.Lent.{rowsMisfit, listsStage}
+use Rattle.lent_lists.specs.LentLists.{rowsMisfit, listsStage}
 use Rattle.lent_lists.proofs.work_list.Statement.{statement}
 use Rattle.lent_lists.proofs.work_list.Tie as tie
 

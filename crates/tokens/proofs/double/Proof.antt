@@ -1,7 +1,7 @@
 -- `double` meets its contract.
 use mathlib.Core.Path.{sym, ap}
 use borrow.Author.Tests.{eq-eqb, ne-eqb}
-use Rattle.grammar.specs.InnerKinds.{valueOf}
+use Rattle.grammar.specs.InnerKinds.{tokenValue}
 use Rattle.tokens.proofs.TokenLaws.{double-33, double-60, double-other}
 use Rattle.tokens.proofs.double.Statement.{statement}
 use Rattle.tokens.proofs.double.Tie as tie
@@ -19,8 +19,8 @@ returns-4 : tie.Need-returns-4
 returns-4 c = rw (c .before .if3 .taken, double-60 (c .before .before .before .args .after), ne-eqb _ _ (c .if4 .left))
 
 returns-5 : tie.Need-returns-5
-unfolding valueOf
-returns-5 c = sym (ap valueOf (double-other _ (c .before .before .args .after) (ne-eqb _ _ (c .before .if1 .left)) (ne-eqb _ _ (c .if3 .left))))
+unfolding tokenValue
+returns-5 c = sym (ap tokenValue (double-other _ (c .before .before .args .after) (ne-eqb _ _ (c .before .if1 .left)) (ne-eqb _ _ (c .if3 .left))))
 
 pub double-spec : {M : Type 1} → statement M
 double-spec = tie.close (tie.spec returns returns-2 returns-3 returns-4 returns-5)

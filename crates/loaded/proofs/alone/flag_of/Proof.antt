@@ -3,7 +3,7 @@ use mathlib.Core.Path.{_∙_, subst}
 use native.Mathlib.Omega.{arith}
 use Rattle.policy.specs.InnerEach.{Each}
 use Rattle.policy.specs.NodeLists.{children}
-use Rattle.loaded.specs.Loading.{Placed, aloneOf}
+use Rattle.loaded.specs.Loading.{ChildrenPlaced, aloneOf}
 use Rattle.loaded.proofs.Flags.{flag-is, flag-action, and-none, and-some}
 use borrow.Author.Needs.{needs}
 use Rattle.loaded.proofs.alone.flag_of.Statement.{statement}
@@ -31,12 +31,12 @@ cast-if1 : tie.Need-cast-if1
 cast-if1 c = search needs
 
 mul-if1 : tie.Need-mul-if1
-unfolding Placed Each children
-mul-if1 c = let h = subst Placed (c .before .node2 .given .1) (c .before .before .before .pre) in omega arith
+unfolding ChildrenPlaced Each children
+mul-if1 c = let h = subst ChildrenPlaced (c .before .node2 .given .1) (c .before .before .before .pre) in omega arith
 
 element-copy-out-if1 : tie.Need-element-copy-out-if1
-unfolding Placed Each children
-element-copy-out-if1 c = subst Placed (c .before .node2 .given .1) (c .before .before .before .pre) .0
+unfolding ChildrenPlaced Each children
+element-copy-out-if1 c = subst ChildrenPlaced (c .before .node2 .given .1) (c .before .before .before .pre) .0
 
 returns : tie.Need-returns
 unfolding aloneOf
@@ -46,12 +46,12 @@ cast-result : tie.Need-cast-result
 cast-result c = search needs
 
 mul-result : tie.Need-mul-result
-unfolding Placed Each children
-mul-result c = let h = subst Placed (c .before .before .before .node2 .given .1) (c .before .before .before .before .before .pre) in omega arith
+unfolding ChildrenPlaced Each children
+mul-result c = let h = subst ChildrenPlaced (c .before .before .before .node2 .given .1) (c .before .before .before .before .before .pre) in omega arith
 
 element-copy-out-result : tie.Need-element-copy-out-result
-unfolding Placed Each children
-element-copy-out-result c = subst Placed (c .before .before .before .node2 .given .1) (c .before .before .before .before .before .pre) .1 .0
+unfolding ChildrenPlaced Each children
+element-copy-out-result c = subst ChildrenPlaced (c .before .before .before .node2 .given .1) (c .before .before .before .before .before .pre) .1 .0
 
 enum-known-node-3 : tie.Need-enum-known-node-3
 enum-known-node-3 c = search needs
@@ -60,12 +60,12 @@ cast-if2 : tie.Need-cast-if2
 cast-if2 c = search needs
 
 mul-if2 : tie.Need-mul-if2
-unfolding Placed Each children
-mul-if2 c = let h = subst Placed (c .before .node3 .given .1) (c .before .before .before .pre) in omega arith
+unfolding ChildrenPlaced Each children
+mul-if2 c = let h = subst ChildrenPlaced (c .before .node3 .given .1) (c .before .before .before .pre) in omega arith
 
 element-copy-out-if2 : tie.Need-element-copy-out-if2
-unfolding Placed Each children
-element-copy-out-if2 c = subst Placed (c .before .node3 .given .1) (c .before .before .before .pre) .0
+unfolding ChildrenPlaced Each children
+element-copy-out-if2 c = subst ChildrenPlaced (c .before .node3 .given .1) (c .before .before .before .pre) .0
 
 returns-2 : tie.Need-returns-2
 unfolding aloneOf
@@ -75,12 +75,12 @@ cast-result-2 : tie.Need-cast-result-2
 cast-result-2 c = search needs
 
 mul-result-2 : tie.Need-mul-result-2
-unfolding Placed Each children
-mul-result-2 c = let h = subst Placed (c .before .before .before .node3 .given .1) (c .before .before .before .before .before .pre) in omega arith
+unfolding ChildrenPlaced Each children
+mul-result-2 c = let h = subst ChildrenPlaced (c .before .before .before .node3 .given .1) (c .before .before .before .before .before .pre) in omega arith
 
 element-copy-out-result-2 : tie.Need-element-copy-out-result-2
-unfolding Placed Each children
-element-copy-out-result-2 c = subst Placed (c .before .before .before .node3 .given .1) (c .before .before .before .before .before .pre) .1 .0
+unfolding ChildrenPlaced Each children
+element-copy-out-result-2 c = subst ChildrenPlaced (c .before .before .before .node3 .given .1) (c .before .before .before .before .before .pre) .1 .0
 
 enum-told-4 : tie.Need-enum-told-4
 enum-told-4 c = search needs

@@ -1,5 +1,5 @@
 -- `put` meets its contract, case by case. Assumes nothing.
-use Rattle.loaded.specs.Loading.{placed}
+use Rattle.loaded.specs.Loading.{dupPlaced}
 use Rattle.loaded.proofs.Labelling.{placed-is}
 use borrow.Author.Needs.{needs}
 use Rattle.loaded.proofs.dups.put.Statement.{statement}
@@ -36,31 +36,31 @@ enum-told-7 : tie.Need-enum-told-7
 enum-told-7 c = search needs
 
 returns : tie.Need-returns
-unfolding placed
+unfolding dupPlaced
 returns c = placed-is _ _ _ _ _ (c .enum-told .given .1)
 
 returns-2 : tie.Need-returns-2
-unfolding placed
+unfolding dupPlaced
 returns-2 c = placed-is _ _ _ _ _ (c .enum-told2 .given .1)
 
 returns-3 : tie.Need-returns-3
-unfolding placed
+unfolding dupPlaced
 returns-3 c = placed-is _ _ _ _ _ (c .enum-told3 .given .1)
 
 returns-4 : tie.Need-returns-4
-unfolding placed
+unfolding dupPlaced
 returns-4 c = placed-is _ _ _ _ _ (c .enum-told4 .given .1)
 
 returns-5 : tie.Need-returns-5
-unfolding placed
+unfolding dupPlaced
 returns-5 c = placed-is _ _ _ _ _ (c .enum-told5 .given .1)
 
 returns-6 : tie.Need-returns-6
-unfolding placed
+unfolding dupPlaced
 returns-6 c = placed-is _ _ _ _ _ (c .enum-told6 .given .1)
 
 returns-7 : tie.Need-returns-7
-unfolding placed
+unfolding dupPlaced
 returns-7 c = placed-is _ _ _ _ _ (c .enum-told7 .given .1)
 
 pub put-spec : {M : Type 1} → statement M

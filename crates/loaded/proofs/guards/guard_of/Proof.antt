@@ -3,7 +3,7 @@ use mathlib.Core.Path.{subst}
 use native.Mathlib.Omega.{arith}
 use Rattle.policy.specs.InnerEach.{Each}
 use Rattle.policy.specs.NodeLists.{children}
-use Rattle.loaded.specs.Loading.{Placed, guardOf}
+use Rattle.loaded.specs.Loading.{ChildrenPlaced, guardOf}
 use Rattle.loaded.proofs.Guarding.{guard-flag, guard-is}
 use borrow.Author.Needs.{needs}
 use Rattle.loaded.proofs.guards.guard_of.Statement.{statement}
@@ -34,12 +34,12 @@ cast-result : tie.Need-cast-result
 cast-result c = search needs
 
 mul-result : tie.Need-mul-result
-unfolding Placed Each children
-mul-result c = let h = subst Placed (c .before .node .given .1) (c .before .before .before .before .pre) in omega arith
+unfolding ChildrenPlaced Each children
+mul-result c = let h = subst ChildrenPlaced (c .before .node .given .1) (c .before .before .before .before .pre) in omega arith
 
 element-copy-out-result : tie.Need-element-copy-out-result
-unfolding Placed Each children
-element-copy-out-result c = let h = subst Placed (c .before .node .given .1) (c .before .before .before .before .pre) in omega arith
+unfolding ChildrenPlaced Each children
+element-copy-out-result c = let h = subst ChildrenPlaced (c .before .node .given .1) (c .before .before .before .before .pre) in omega arith
 
 enum-told-6 : tie.Need-enum-told-6
 enum-told-6 c = search needs

@@ -2,7 +2,7 @@
 use mathlib.Core.Path.{_∙_, subst}
 use Rattle.policy.specs.InnerEach.{Each}
 use Rattle.policy.specs.NodeLists.{children}
-use Rattle.loaded.specs.Loading.{Placed, testUnder}
+use Rattle.loaded.specs.Loading.{ChildrenPlaced, testUnder}
 use Rattle.loaded.proofs.Giving.{under-flag, under-is, pick-twice}
 use borrow.Author.Needs.{needs}
 use Rattle.loaded.proofs.numbering.test_under.Statement.{statement}
@@ -30,15 +30,15 @@ cast-pick-test : tie.Need-cast-pick-test
 cast-pick-test c = search needs
 
 pick-test-requires : tie.Need-pick-test-requires
-unfolding Placed Each children
-pick-test-requires c κs = subst Placed (c .before .node .given .1) (c .before .before .before .before .pre) .1 .0
+unfolding ChildrenPlaced Each children
+pick-test-requires c κs = subst ChildrenPlaced (c .before .node .given .1) (c .before .before .before .before .pre) .1 .0
 
 cast-pick-test-2 : tie.Need-cast-pick-test-2
 cast-pick-test-2 c = search needs
 
 pick-test-requires-2 : tie.Need-pick-test-requires-2
-unfolding Placed Each children
-pick-test-requires-2 c κs = subst Placed (c .before .before .node .given .1) (c .before .before .before .before .before .pre) .0
+unfolding ChildrenPlaced Each children
+pick-test-requires-2 c κs = subst ChildrenPlaced (c .before .before .node .given .1) (c .before .before .before .before .before .pre) .0
 
 enum-known-node-2 : tie.Need-enum-known-node-2
 enum-known-node-2 c = search needs
@@ -47,15 +47,15 @@ cast-pick-test-3 : tie.Need-cast-pick-test-3
 cast-pick-test-3 c = search needs
 
 pick-test-requires-3 : tie.Need-pick-test-requires-3
-unfolding Placed Each children
-pick-test-requires-3 c κs = subst Placed (c .before .node2 .given .1) (c .before .before .before .before .pre) .1 .0
+unfolding ChildrenPlaced Each children
+pick-test-requires-3 c κs = subst ChildrenPlaced (c .before .node2 .given .1) (c .before .before .before .before .pre) .1 .0
 
 cast-pick-test-4 : tie.Need-cast-pick-test-4
 cast-pick-test-4 c = search needs
 
 pick-test-requires-4 : tie.Need-pick-test-requires-4
-unfolding Placed Each children
-pick-test-requires-4 c κs = subst Placed (c .before .before .node2 .given .1) (c .before .before .before .before .before .pre) .0
+unfolding ChildrenPlaced Each children
+pick-test-requires-4 c κs = subst ChildrenPlaced (c .before .before .node2 .given .1) (c .before .before .before .before .before .pre) .0
 
 enum-known-node-3 : tie.Need-enum-known-node-3
 enum-known-node-3 c = search needs
@@ -64,8 +64,8 @@ cast-pick-test-5 : tie.Need-cast-pick-test-5
 cast-pick-test-5 c = search needs
 
 pick-test-requires-5 : tie.Need-pick-test-requires-5
-unfolding Placed Each children
-pick-test-requires-5 c κs = subst Placed (c .before .node3 .given .1) (c .before .before .before .before .pre) .0
+unfolding ChildrenPlaced Each children
+pick-test-requires-5 c κs = subst ChildrenPlaced (c .before .node3 .given .1) (c .before .before .before .before .pre) .0
 
 returns-2 : tie.Need-returns-2
 unfolding testUnder

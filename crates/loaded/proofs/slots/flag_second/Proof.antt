@@ -3,7 +3,7 @@ use mathlib.Core.Path.{subst}
 use native.Mathlib.Omega.{arith}
 use Rattle.policy.specs.InnerEach.{Each}
 use Rattle.policy.specs.NodeLists.{children}
-use Rattle.loaded.specs.Loading.{Placed, seconded}
+use Rattle.loaded.specs.Loading.{ChildrenPlaced, seconded}
 use Rattle.loaded.proofs.Guarding.{seconded-is}
 use borrow.Author.Needs.{needs}
 use Rattle.loaded.proofs.slots.flag_second.Statement.{statement}
@@ -31,12 +31,12 @@ cast-parts : tie.Need-cast-parts
 cast-parts c = search needs
 
 mul-parts : tie.Need-mul-parts
-unfolding Placed Each children
-mul-parts c = let h = subst Placed (c .before .node .given .1) (c .before .before .before .pre) in omega arith
+unfolding ChildrenPlaced Each children
+mul-parts c = let h = subst ChildrenPlaced (c .before .node .given .1) (c .before .before .before .pre) in omega arith
 
 element-write-parts : tie.Need-element-write-parts
-unfolding Placed Each children
-element-write-parts c = subst Placed (c .before .node .given .1) (c .before .before .before .pre) .1 .0
+unfolding ChildrenPlaced Each children
+element-write-parts c = subst ChildrenPlaced (c .before .node .given .1) (c .before .before .before .pre) .1 .0
 
 enum-told-6 : tie.Need-enum-told-6
 enum-told-6 c = search needs

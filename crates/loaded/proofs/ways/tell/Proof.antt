@@ -3,7 +3,7 @@ use mathlib.Core.Path.{subst}
 use native.Mathlib.Omega.{arith}
 use Rattle.policy.specs.InnerEach.{Each}
 use Rattle.policy.specs.NodeLists.{children}
-use Rattle.loaded.specs.Loading.{Placed, told}
+use Rattle.loaded.specs.Loading.{ChildrenPlaced, waysTold}
 use Rattle.loaded.proofs.Upward.{told-flag, told-is}
 use borrow.Author.Needs.{needs}
 use Rattle.loaded.proofs.ways.tell.Statement.{statement}
@@ -40,23 +40,23 @@ cast-ups : tie.Need-cast-ups
 cast-ups c = search needs
 
 mul-ups : tie.Need-mul-ups
-unfolding Placed Each children
-mul-ups c = let h = subst Placed (c .before .node .given .1) (c .before .before .before .before .before .pre .0) in omega arith
+unfolding ChildrenPlaced Each children
+mul-ups c = let h = subst ChildrenPlaced (c .before .node .given .1) (c .before .before .before .before .before .pre .0) in omega arith
 
 element-write-ups : tie.Need-element-write-ups
-unfolding Placed Each children
-element-write-ups c = subst Placed (c .before .node .given .1) (c .before .before .before .before .before .pre .0) .0
+unfolding ChildrenPlaced Each children
+element-write-ups c = subst ChildrenPlaced (c .before .node .given .1) (c .before .before .before .before .before .pre .0) .0
 
 cast-ups-2 : tie.Need-cast-ups-2
 cast-ups-2 c = search needs
 
 mul-ups-2 : tie.Need-mul-ups-2
-unfolding Placed Each children
-mul-ups-2 c = let h = subst Placed (c .before .node .given .1) (c .before .before .before .before .before .pre .0) in omega arith
+unfolding ChildrenPlaced Each children
+mul-ups-2 c = let h = subst ChildrenPlaced (c .before .node .given .1) (c .before .before .before .before .before .pre .0) in omega arith
 
 element-write-ups-2 : tie.Need-element-write-ups-2
-unfolding Placed Each children
-element-write-ups-2 c = subst Placed (c .before .node .given .1) (c .before .before .before .before .before .pre .0) .1 .0
+unfolding ChildrenPlaced Each children
+element-write-ups-2 c = subst ChildrenPlaced (c .before .node .given .1) (c .before .before .before .before .before .pre .0) .1 .0
 
 enum-known-node-2 : tie.Need-enum-known-node-2
 enum-known-node-2 c = search needs
@@ -65,23 +65,23 @@ cast-ups-3 : tie.Need-cast-ups-3
 cast-ups-3 c = search needs
 
 mul-ups-3 : tie.Need-mul-ups-3
-unfolding Placed Each children
-mul-ups-3 c = let h = subst Placed (c .before .node2 .given .1) (c .before .before .before .before .before .pre .0) in omega arith
+unfolding ChildrenPlaced Each children
+mul-ups-3 c = let h = subst ChildrenPlaced (c .before .node2 .given .1) (c .before .before .before .before .before .pre .0) in omega arith
 
 element-write-ups-3 : tie.Need-element-write-ups-3
-unfolding Placed Each children
-element-write-ups-3 c = subst Placed (c .before .node2 .given .1) (c .before .before .before .before .before .pre .0) .0
+unfolding ChildrenPlaced Each children
+element-write-ups-3 c = subst ChildrenPlaced (c .before .node2 .given .1) (c .before .before .before .before .before .pre .0) .0
 
 cast-ups-4 : tie.Need-cast-ups-4
 cast-ups-4 c = search needs
 
 mul-ups-4 : tie.Need-mul-ups-4
-unfolding Placed Each children
-mul-ups-4 c = let h = subst Placed (c .before .node2 .given .1) (c .before .before .before .before .before .pre .0) in omega arith
+unfolding ChildrenPlaced Each children
+mul-ups-4 c = let h = subst ChildrenPlaced (c .before .node2 .given .1) (c .before .before .before .before .before .pre .0) in omega arith
 
 element-write-ups-4 : tie.Need-element-write-ups-4
-unfolding Placed Each children
-element-write-ups-4 c = subst Placed (c .before .node2 .given .1) (c .before .before .before .before .before .pre .0) .1 .0
+unfolding ChildrenPlaced Each children
+element-write-ups-4 c = subst ChildrenPlaced (c .before .node2 .given .1) (c .before .before .before .before .before .pre .0) .1 .0
 
 enum-known-node-3 : tie.Need-enum-known-node-3
 enum-known-node-3 c = search needs
@@ -90,39 +90,39 @@ cast-ups-5 : tie.Need-cast-ups-5
 cast-ups-5 c = search needs
 
 mul-ups-5 : tie.Need-mul-ups-5
-unfolding Placed Each children
-mul-ups-5 c = let h = subst Placed (c .before .node3 .given .1) (c .before .before .before .before .before .pre .0) in omega arith
+unfolding ChildrenPlaced Each children
+mul-ups-5 c = let h = subst ChildrenPlaced (c .before .node3 .given .1) (c .before .before .before .before .before .pre .0) in omega arith
 
 element-write-ups-5 : tie.Need-element-write-ups-5
-unfolding Placed Each children
-element-write-ups-5 c = subst Placed (c .before .node3 .given .1) (c .before .before .before .before .before .pre .0) .0
+unfolding ChildrenPlaced Each children
+element-write-ups-5 c = subst ChildrenPlaced (c .before .node3 .given .1) (c .before .before .before .before .before .pre .0) .0
 
 returns-2 : tie.Need-returns-2
-unfolding told
+unfolding waysTold
 returns-2 c = told-is _ _ _ _ _ (c .before .before .before .if1 .left) (c .enum-told .given .1)
 
 returns-3 : tie.Need-returns-3
-unfolding told
+unfolding waysTold
 returns-3 c = told-is _ _ _ _ _ (c .before .before .before .if1 .left) (c .enum-told2 .given .1)
 
 returns-4 : tie.Need-returns-4
-unfolding told
+unfolding waysTold
 returns-4 c = told-is _ _ _ _ _ (c .before .before .before .if1 .left) (c .enum-told3 .given .1)
 
 returns-5 : tie.Need-returns-5
-unfolding told
+unfolding waysTold
 returns-5 c = told-is _ _ _ _ _ (c .before .before .before .if1 .left) (c .enum-told4 .given .1)
 
 returns-6 : tie.Need-returns-6
-unfolding told
+unfolding waysTold
 returns-6 c = told-is _ _ _ _ _ (c .before .before .before .before .if1 .left) (c .before .node .given .1)
 
 returns-7 : tie.Need-returns-7
-unfolding told
+unfolding waysTold
 returns-7 c = told-is _ _ _ _ _ (c .before .before .before .before .if1 .left) (c .before .node2 .given .1)
 
 returns-8 : tie.Need-returns-8
-unfolding told
+unfolding waysTold
 returns-8 c = told-is _ _ _ _ _ (c .before .before .before .before .if1 .left) (c .before .node3 .given .1)
 
 pub tell-spec : {M : Type 1} → statement M
