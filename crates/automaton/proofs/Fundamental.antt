@@ -6,9 +6,9 @@ use mathlib.Core.Logic.{inl, inr, _↔_}
 use mathlib.Core.Path.{_≡_, refl, sym, ap, ap₂, _∙_, subst}
 use Rattle.policy.specs.Meaning.{Packets, Traces}
 use Rattle.policy.specs.Tree.{Policy, drop, id, field, dup, sum, seq, star}
-use Rattle.policy.specs.Visits.{Labelled}
+use Rattle.policy.specs.Visits.{HasDup, Labelled}
 use Rattle.automaton.specs.Reaches.{Passes, Reaches}
-use Rattle.automaton.specs.Remainder.{remainder, HasDup}
+use Rattle.automaton.specs.Remainder.{remainder}
 use Rattle.automaton.proofs.Words.{Rel, Then, Star, done, more, Tr, traces-iff}
 use Rattle.automaton.proofs.RightSpines.{Spine, spine-has, spine-remainder, remainder-spine}
 

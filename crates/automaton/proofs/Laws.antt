@@ -13,16 +13,16 @@ use Rattle.packet.specs.Sizes.{product}
 use Rattle.policy.specs.Legality.{InFields, occurrences}
 use Rattle.policy.specs.Meaning.{Packets, numbered, Traces}
 use Rattle.policy.specs.Tree.{Policy, drop}
-use Rattle.policy.specs.Visits.{labels}
+use Rattle.policy.specs.Visits.{labels, HasDup}
 use Rattle.policy.proofs.TraceLaws.{traces-non-empty}
 use Rattle.packet_set.specs.Bits.{bit, maskOf}
 use Rattle.packet_set.proofs.Digits.{bit-high, bits-same, bit-of-zero}
 use Rattle.packet_set.proofs.Masks.{maskOf-lt, bit-maskOf}
-use Rattle.automaton.specs.Remainder.{remainder, HasDup, Evaluable}
+use Rattle.automaton.specs.Remainder.{remainder, Evaluable}
 use Rattle.automaton.specs.Reaches.{Passes, Reaches}
 use Rattle.automaton.specs.State.{Marks, PacketSet, single, flow, enter, ofMarked, outputSet, enteredSet, output, next, outputMask, nextMask, StateTraces, runs, hasTrace}
 use Rattle.automaton.proofs.Tests.{T-false}
-use Rattle.automaton.proofs.RightSpines.{has-label, remainder-fields, remainder-listed}
+use Rattle.automaton.proofs.RightSpines.{remainder-fields, remainder-listed}
 use Rattle.automaton.proofs.Fundamental.{reached-has, remainder-iff}
 use Rattle.automaton.proofs.Sets.{Fits, below, empty, empty-fits, cond-fits, cond-iff, single-fits, single-iff, unionOver-fits, unionOver-iff}
 use Rattle.automaton.proofs.Flow.{From, flow-fits, enter-fits, flow-iff, enter-iff}
@@ -162,7 +162,7 @@ module _ (sizes : List ℕ) (dups : ℕ) (p : Policy) (ok : Evaluable sizes dups
       go (yes l) = bit-maskOf (suc dups) (next sizes p (bit m) β γ) i l
       go (no n) =
           bit-high (suc dups) (nextMask sizes p dups m β γ) i (nextMask-lt m β γ) (omega arith)
-          ∙ sym (T-false (next sizes p (bit m) β γ i) (λ t. n (suc-le-suc (ok .labelled .most i (has-label p i (next-marks-dups (bit m) β γ i t))))))
+          ∙ sym (T-false (next sizes p (bit m) β γ i) (λ t. n (suc-le-suc (ok .labelled .most i (next-marks-dups (bit m) β γ i t)))))
 
   pub outputMask-bit : (m β γ : ℕ) → bit (outputMask sizes p m β) γ ≡ output sizes p (bit m) β γ
   unfolding outputMask output

@@ -10,10 +10,10 @@ use native.Mathlib.Omega.{arith}
 use lib.Dec.{T, eqb, eqb→eq}
 use Rattle.policy.specs.Legality.{occurrences, InFields}
 use Rattle.policy.specs.Tree.{Policy, drop, id, field, dup, sum, seq, star}
-use Rattle.policy.specs.Visits.{labels, Labelled}
-use Rattle.policy.proofs.EachLaws.{occurrences-append, one-same}
-use Rattle.policy.proofs.LabelLaws.{labelled-sum, labelled-seq, labelled-star}
-use Rattle.automaton.specs.Remainder.{orElse, followedBy, rightSpine, remainder, HasDup}
+use Rattle.policy.specs.Visits.{labels, HasDup, Labelled}
+use Rattle.policy.proofs.EachLaws.{one-same}
+use Rattle.policy.proofs.LabelLaws.{has-one, has-either, labelled-sum, labelled-seq, labelled-star}
+use Rattle.automaton.specs.Remainder.{orElse, followedBy, rightSpine, remainder}
 use Rattle.automaton.proofs.Tests.{eqb-true, T-true}
 
 -- r is the right spine of a dup with number i
@@ -27,32 +27,16 @@ Spine (seq p q) i r = ((s : Policy) × Spine p i s × (r ≡ seq s q)) ⊎ Spine
 Spine (star p) i r = (s : Policy) × Spine p i s × (r ≡ seq s (star p))
 
 pub spine-has : (p : Policy) (i : ℕ) (r : Policy) → Spine p i r → HasDup p i
-unfolding Spine HasDup
-spine-has drop i r h = h
-spine-has id i r h = h
-spine-has (field a) i r h = h
-spine-has (dup j) i r h = h .0
-spine-has (sum p q) i r (inl h) = inl (spine-has p i r h)
-spine-has (sum p q) i r (inr h) = inr (spine-has q i r h)
-spine-has (seq p q) i r (inl h) = inl (spine-has p i (h .0) (h .1))
-spine-has (seq p q) i r (inr h) = inr (spine-has q i r h)
+unfolding Spine labels
+spine-has drop i r h = absurd h
+spine-has id i r h = absurd h
+spine-has (field a) i r h = absurd h
+spine-has (dup j) i r h = has-one j i .1 (h .0)
+spine-has (sum p q) i r (inl h) = has-either p q i .1 (inl (spine-has p i r h))
+spine-has (sum p q) i r (inr h) = has-either p q i .1 (inr (spine-has q i r h))
+spine-has (seq p q) i r (inl h) = has-either p q i .1 (inl (spine-has p i (h .0) (h .1)))
+spine-has (seq p q) i r (inr h) = has-either p q i .1 (inr (spine-has q i r h))
 spine-has (star p) i r h = spine-has p i (h .0) (h .1)
-
--- a dup of a policy is one of its labels
-pub has-label : (p : Policy) (i : ℕ) → HasDup p i → 0 < occurrences i (labels p)
-unfolding HasDup labels occurrences
-has-label drop i h = absurd h
-has-label id i h = absurd h
-has-label (field a) i h = absurd h
-has-label (dup j) i h = omega (arith, one-same j i (sym h))
-has-label (sum p q) i (inl h) = omega (arith, has-label p i h, occurrences-append i (labels p) (labels q))
-has-label (sum p q) i (inr h) = omega (arith, has-label q i h, occurrences-append i (labels p) (labels q))
-has-label (seq p q) i (inl h) = omega (arith, has-label p i h, occurrences-append i (labels p) (labels q))
-has-label (seq p q) i (inr h) = omega (arith, has-label q i h, occurrences-append i (labels p) (labels q))
-has-label (star p) i h = has-label p i h
-
-spine-label : (p : Policy) (i : ℕ) (r : Policy) → Spine p i r → 0 < occurrences i (labels p)
-spine-label p i r h = has-label p i (spine-has p i r h)
 
 spine-fields : (sizes : List ℕ) (p : Policy) → InFields sizes p → (i : ℕ) (r : Policy) → Spine p i r → InFields sizes r
 unfolding Spine InFields
@@ -109,12 +93,12 @@ term-spine (seq p q) i r e =
     (orElse-some (followedBy (rightSpine p i) q) (rightSpine q i) r e)
 term-spine (star p) i r e = let k = followed-some (rightSpine p i) (star p) r e in (k .0, term-spine p i (k .0) (k .1), k .2)
 
-no-term : (p : Policy) (i : ℕ) → (0 < occurrences i (labels p) → ⊥) → rightSpine p i ≡ none
+no-term : (p : Policy) (i : ℕ) → (HasDup p i → ⊥) → rightSpine p i ≡ none
 no-term p i n = go (rightSpine p i) refl
   where
     go : (o : Option Policy) → rightSpine p i ≡ o → rightSpine p i ≡ none
     go none e = e
-    go (some r) e = absurd (n (spine-label p i r (term-spine p i r e)))
+    go (some r) e = absurd (n (spine-has p i r (term-spine p i r e)))
 
 -- where no two dups have the same number
 spine-term : {k : ℕ} (p : Policy) → Labelled k p → (i : ℕ) (r : Policy) → Spine p i r → rightSpine p i ≡ some r
@@ -127,19 +111,19 @@ spine-term (dup j) l i r h =
 spine-term (sum p q) l i r (inl h) = ap (λ o. orElse o (rightSpine q i)) (spine-term p (labelled-sum l .left) i r h)
 spine-term (sum p q) l i r (inr h) =
     let s = labelled-sum l in
-    ap (λ o. orElse o (rightSpine q i)) (no-term p i (λ a. s .apart i a (spine-label q i r h))) ∙ spine-term q (s .right) i r h
+    ap (λ o. orElse o (rightSpine q i)) (no-term p i (λ a. s .apart i a (spine-has q i r h))) ∙ spine-term q (s .right) i r h
 spine-term (seq p q) l i r (inl h) =
     ap (λ o. orElse (followedBy o q) (rightSpine q i)) (spine-term p (labelled-seq l .left) i (h .0) (h .1)) ∙ ap {B = Option Policy} some (sym (h .2))
 spine-term (seq p q) l i r (inr h) =
     let s = labelled-seq l in
-    ap (λ o. orElse (followedBy o q) (rightSpine q i)) (no-term p i (λ a. s .apart i a (spine-label q i r h))) ∙ spine-term q (s .right) i r h
+    ap (λ o. orElse (followedBy o q) (rightSpine q i)) (no-term p i (λ a. s .apart i a (spine-has q i r h))) ∙ spine-term q (s .right) i r h
 spine-term (star p) l i r h = ap (λ o. followedBy o (star p)) (spine-term p (labelled-star l) i (h .0) (h .1)) ∙ ap {B = Option Policy} some (sym (h .2))
 
 -- ---- remainders
 
 pub spine-remainder : {k : ℕ} (p : Policy) → Labelled k p → (i : ℕ) (r : Policy) → Spine p i r → remainder p i ≡ r
 unfolding remainder
-spine-remainder p l zero r h = absurd (not-suc-le-zero (l .least 0 (spine-label p 0 r h)))
+spine-remainder p l zero r h = absurd (not-suc-le-zero (l .least 0 (spine-has p 0 r h)))
 spine-remainder p l (suc i) r h = ap (λ o. Option·getD o drop) (spine-term p l (suc i) r h)
 
 -- a remainder of which something holds that drop has not is a right spine
@@ -155,7 +139,7 @@ is-spine F n p i = go (rightSpine p (suc i)) refl
 pub remainder-listed : (F : Policy → Type 0) → (F drop → ⊥) → (p : Policy) (j : ℕ) → F (remainder p j) → 0 < occurrences j (0 ∷ labels p)
 unfolding occurrences
 remainder-listed F n p zero x = omega (arith, one-same 0 0 refl)
-remainder-listed F n p (suc j) x = omega (arith, spine-label p (suc j) (remainder p (suc j)) (is-spine F n p j x))
+remainder-listed F n p (suc j) x = omega (arith, spine-has p (suc j) (remainder p (suc j)) (is-spine F n p j x))
 
 pub remainder-fields : (sizes : List ℕ) (p : Policy) → InFields sizes p → (j : ℕ) → InFields sizes (remainder p j)
 unfolding InFields remainder

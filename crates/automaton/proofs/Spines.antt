@@ -6,8 +6,8 @@ use mathlib.Core.Logic.{_⊎_, inl, inr, ⊎-map, _↔_}
 use mathlib.Core.Path.{_≡_, refl, sym, subst}
 use Rattle.policy.specs.Meaning.{Packets}
 use Rattle.policy.specs.Tree.{Policy, drop, id, field, dup, sum, seq, star}
-use Rattle.policy.specs.Visits.{Labelled}
-use Rattle.automaton.specs.Remainder.{remainder, HasDup}
+use Rattle.policy.specs.Visits.{HasDup, Labelled}
+use Rattle.automaton.specs.Remainder.{remainder}
 use Rattle.automaton.specs.Reaches.{Passes, Reaches}
 use Rattle.automaton.proofs.Words.{Rel, Then, Star, Tr, traces-iff}
 use Rattle.automaton.proofs.RightSpines.{Spine, spine-has, spine-remainder, is-spine}

@@ -2,9 +2,7 @@
 use Prim.Native.Nat.{ℕ, zero, suc}
 use mathlib.Core.Bool.{cond}
 use mathlib.Core.List.{List}
-use mathlib.Core.Logic.{_⊎_}
 use mathlib.Core.Option.{Option, none, some, Option·getD}
-use mathlib.Core.Path.{_≡_}
 use lib.Dec.{eqb}
 use Rattle.policy.specs.Legality.{InFields}
 use Rattle.policy.specs.Tree.{Policy, drop, id, field, dup, sum, seq, star}
@@ -32,15 +30,6 @@ rightSpine (star p) i = followedBy (rightSpine p i) (star p)
 unfoldable pub remainder : Policy → ℕ → Policy
 remainder p zero = p
 remainder p (suc i) = Option·getD (rightSpine p (suc i)) drop
-
-unfoldable pub HasDup : Policy → ℕ → Type 0
-HasDup drop i = ⊥
-HasDup id i = ⊥
-HasDup (field a) i = ⊥
-HasDup (dup j) i = i ≡ j
-HasDup (sum p q) i = HasDup p i ⊎ HasDup q i
-HasDup (seq p q) i = HasDup p i ⊎ HasDup q i
-HasDup (star p) i = HasDup p i
 
 -- what the laws of output and next ask of a tree: tests and changes within the fields, dups with different numbers from 1 to dups
 pub record Evaluable (sizes : List ℕ) (dups : ℕ) (p : Policy) : Type 0 where

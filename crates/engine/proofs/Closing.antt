@@ -16,8 +16,8 @@ use Rattle.policy.specs.declared.Node.the-variants.{Drop, Id, Field, Dup, Sum, 
 use Rattle.policy.specs.Legality.{Legal}
 use Rattle.policy.specs.Meaning.{numbered}
 use Rattle.policy.specs.NodeLists.{NodeLists, nodeCount, nodeAt, children, dupsBelow}
+use Rattle.policy.specs.Visits.{HasDup}
 use Rattle.packet_set.specs.InnerMembers.{Members}
-use Rattle.automaton.specs.Remainder.{HasDup}
 use Rattle.automaton.specs.Reaches.{Passes, Reaches}
 use Rattle.automaton.proofs.Spines.{meets-iff, meets-has, rem-has, rem-meets-of}
 use Rattle.loaded.specs.Nodes.{testsAt, upAt, guardAt}

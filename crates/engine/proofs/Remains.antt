@@ -1,23 +1,22 @@
 -- What follows a dup of a node, from the same of its children.
-use Prim.Native.Nat.{ℕ, zero, suc, _+_, _<_, _≤_}
+use Prim.Native.Nat.{ℕ, suc, _<_}
 use mathlib.Core.List.{List, []}
-use mathlib.Core.Logic.{_⊎_, ⊎-map, ⊎-elim, _↔_}
+use mathlib.Core.Logic.{_⊎_, ⊎-map, _↔_}
 use mathlib.Core.Path.{_≡_, refl, sym, ap, subst}
 use native.Mathlib.Nat.{not-suc-le-zero}
-use native.Mathlib.Omega.{arith}
 use Rattle.policy.specs.declared.Node.{Node}
 use Rattle.policy.specs.declared.Node.the-variants.{Drop, Id, Field, Dup, Sum, Seq, Star}
-use Rattle.policy.specs.Legality.{Legal}
+use Rattle.policy.specs.Legality.{Legal, occurrences}
 use Rattle.policy.specs.Meaning.{Packets, numbered}
-use Rattle.policy.specs.NodeLists.{NodeLists, nodeCount, nodeAt, children, one, isDup, dupsBelow, grow}
+use Rattle.policy.specs.NodeLists.{NodeLists, nodeCount, nodeAt, isDup, dupsBelow, grow}
 use Rattle.policy.specs.Tree.{Policy, star}
-use Rattle.policy.proofs.LabelLaws.{dups-more}
-use Rattle.automaton.specs.Remainder.{HasDup}
+use Rattle.policy.specs.Visits.{labels, HasDup}
+use Rattle.policy.proofs.LabelLaws.{has-one, has-either, label-one}
 use Rattle.automaton.specs.Reaches.{Passes, Reaches}
 use Rattle.automaton.proofs.Words.{Star as Stars, Tr}
 use Rattle.automaton.proofs.Spines.{Meets, meets-iff, Rem, RemMeets}
 use Rattle.loaded.specs.Loaded.{treeOf}
-use Rattle.engine.proofs.Parts.{then-nil, passes-iff, two-kids, one-kid, tree-at}
+use Rattle.engine.proofs.Parts.{then-nil, passes-iff, tree-at}
 
 module _ (sizes : List ℕ) (L : NodeLists) where
   -- dup i stands in the tree of node n
@@ -62,15 +61,9 @@ module _ (sizes : List ℕ) (L : NodeLists) where
   ReachBy n i j β γ (Star x) = RemReach x i j β γ ⊎ ((μ : ℕ) × RemPass x i β μ × Reaches (numbered sizes) (treeOf L n) j μ γ)
 
   -- a label belongs to one dup
-  dups-suc : (n : ℕ) → nodeAt L n ≡ Dup → dupsBelow L (suc n) ≡ dupsBelow L n + 1
-  unfolding dupsBelow isDup one
-  dups-suc n e = rw e
-
   pub same-label : (m n : ℕ) → nodeAt L m ≡ Dup → nodeAt L n ≡ Dup → dupsBelow L (suc m) ≡ dupsBelow L (suc n) → m ≡ n
-  same-label m n a b e =
-      let not-below : m < n → ⊥ = λ l. omega (arith, dups-suc n b, dups-more L (suc m) n l) in
-      let not-above : n < m → ⊥ = λ l. omega (arith, dups-suc m a, dups-more L (suc n) m l) in
-      omega arith
+  unfolding isDup
+  same-label m n a b e = label-one L m n (ap isDup a) (ap isDup b) e
 
 module _ {sizes : List ℕ} {L : NodeLists} (lg : Legal sizes L) (n : ℕ) (l : n < nodeCount L) where
   abbrev P : Packets
@@ -80,16 +73,16 @@ module _ {sizes : List ℕ} {L : NodeLists} (lg : Legal sizes L) (n : ℕ) (l : 
   label = dupsBelow L (suc n)
 
   pub has-by : (i : ℕ) (d : Node) → nodeAt L n ≡ d → HasDup (treeOf L n) i ↔ HasBy sizes L n i d
-  unfolding HasBy HasDup grow
+  unfolding HasBy labels occurrences grow
   has-by i d e = subst (λ p. HasDup p i ↔ HasBy sizes L n i d) (sym (tree-at lg n l d e)) (go d)
     where
       go : (d : Node) → HasDup (grow (treeOf L) label d) i ↔ HasBy sizes L n i d
-      go Drop = (λ h. h, λ h. h)
-      go Id = (λ h. h, λ h. h)
-      go (Field a) = (λ h. h, λ h. h)
-      go Dup = (λ h. h, λ h. h)
-      go (Sum x y) = (λ h. h, λ h. h)
-      go (Seq x y) = (λ h. h, λ h. h)
+      go Drop = (λ h. not-suc-le-zero h, λ h. absurd h)
+      go Id = (λ h. not-suc-le-zero h, λ h. absurd h)
+      go (Field a) = (λ h. not-suc-le-zero h, λ h. absurd h)
+      go Dup = has-one label i
+      go (Sum x y) = has-either (treeOf L x) (treeOf L y) i
+      go (Seq x y) = has-either (treeOf L x) (treeOf L y) i
       go (Star x) = (λ h. h, λ h. h)
 
   pub pass-by : (i β γ : ℕ) (d : Node) → nodeAt L n ≡ d → Rem (numbered sizes) (treeOf L n) i β [] γ ↔ PassBy sizes L n i β γ d
@@ -142,26 +135,3 @@ module _ {sizes : List ℕ} {L : NodeLists} (lg : Legal sizes L) (n : ℕ) (l : 
             λ h. ⊎-map (λ s. s) (λ s. (s .0, s .1, f (s .0) .1 (s .2))) h,
             λ h. ⊎-map (λ s. s) (λ s. (s .0, s .1, f (s .0) .0 (s .2))) h,
           )
-
--- the number of a dup is within those of the lists
-module _ {sizes : List ℕ} {L : NodeLists} (lg : Legal sizes L) where
-  most-on : (n : ℕ) → n < nodeCount L → (i : ℕ) → ((c : ℕ) → c < n → HasAt sizes L c i → i ≤ dupsBelow L (nodeCount L)) → HasAt sizes L n i
-      → i ≤ dupsBelow L (nodeCount L)
-  unfolding HasBy children
-  most-on n l i ih h = go (nodeAt L n) refl (has-by lg n l i (nodeAt L n) refl .0 h)
-    where
-      go : (d : Node) → nodeAt L n ≡ d → HasBy sizes L n i d → i ≤ dupsBelow L (nodeCount L)
-      go Drop e r = absurd r
-      go Id e r = absurd r
-      go (Field a) e r = absurd r
-      go Dup e r = omega (arith, r, dups-more L (suc n) (nodeCount L) l)
-      go (Sum x y) e r = let k = two-kids lg n x y l (ap children e) in ⊎-elim (ih x (k .0)) (ih y (k .1)) r
-      go (Seq x y) e r = let k = two-kids lg n x y l (ap children e) in ⊎-elim (ih x (k .0)) (ih y (k .1)) r
-      go (Star c) e r = ih c (one-kid lg n c l (ap children e)) r
-
-  most : (t n : ℕ) → n < t → n < nodeCount L → (i : ℕ) → HasAt sizes L n i → i ≤ dupsBelow L (nodeCount L)
-  most zero n a l i h = absurd (not-suc-le-zero a)
-  most (suc t) n a l i h = most-on n l i (λ c k. most t c (omega arith) (omega arith) i) h
-
-  pub has-most : (n : ℕ) → n < nodeCount L → (i : ℕ) → HasDup (treeOf L n) i → i ≤ dupsBelow L (nodeCount L)
-  has-most n l i h = most (suc n) n (omega arith) l i h

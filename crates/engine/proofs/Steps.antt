@@ -16,11 +16,10 @@ use Rattle.policy.specs.NodeLists.{NodeLists, nodeCount, dupsBelow, policyOf}
 use Rattle.policy.specs.Tree.{Policy}
 use Rattle.packet_set.specs.Bits.{bit}
 use Rattle.packet_set.specs.InnerMembers.{Members, Within}
-use Rattle.automaton.specs.Remainder.{remainder, HasDup, Evaluable}
+use Rattle.automaton.specs.Remainder.{remainder, Evaluable}
 use Rattle.automaton.specs.Reaches.{Passes, Reaches}
 use Rattle.automaton.specs.State.{Marks, outputMask, nextMask, StateTraces}
 use Rattle.automaton.proofs.Tests.{either, same-test}
-use Rattle.automaton.proofs.RightSpines.{has-label}
 use Rattle.automaton.proofs.Spines.{Rem, RemMeets, meets-iff, rem-has, rem-meets-of, remainder-words, remainder-meets}
 use Rattle.automaton.proofs.Laws.{next-iff, outputMask-iff, nextMask-bit}
 use Rattle.automaton.proofs.Trees.{policy-evaluable}
@@ -29,7 +28,6 @@ use Rattle.loaded.specs.Loaded.{treeOf, DupAt, Loaded}
 use Rattle.engine.specs.Going.{Way, into, by-rule, out-of, Goes, let-out, resting, repeating, Through}
 use Rattle.engine.specs.Stepping.{Steps}
 use Rattle.engine.proofs.Parts.{passes-iff, root-inside, root-tree}
-use Rattle.engine.proofs.Remains.{has-most}
 use Rattle.engine.proofs.Goings.{goes-map}
 use Rattle.engine.proofs.Throughs.{goes-wider}
 use Rattle.engine.proofs.Closing.{completes, resumes, resumes-reach}
@@ -50,9 +48,6 @@ module _ {sizes : List ℕ} {L : NodeLists} {nodes tests : List ℕ} (ld : Loade
 
   evaluable : Evaluable sizes (dupsBelow L (nodeCount L)) policy
   evaluable = policy-evaluable sizes L lg
-
-  few-dups : (i : ℕ) → HasDup policy i → i ≤ dupsBelow L (nodeCount L)
-  few-dups i h = has-most lg (pred (nodeCount L)) (root-inside lg) i (subst (λ p. HasDup p i) (sym (root-tree lg)) h)
 
   -- the traces of a remainder, and what it reaches
   words-iff : (i β γ : ℕ) → Passes (numbered sizes) (remainder policy (suc i)) β γ ↔ Rem (numbered sizes) policy (suc i) β [] γ
@@ -201,7 +196,7 @@ module _ {sizes : List ℕ} {L : NodeLists} {nodes tests : List ℕ} (ld : Loade
           (subst (λ p. Passes (numbered sizes) p β γ) (sym (root-tree lg)) h))
       outputs-all (suc j) t γ h =
           let r = words-iff j β γ .0 h in
-          let few = few-dups (suc j) (rem-has (numbered sizes) policy (suc j) β [] γ r) in
+          let few = evaluable .labelled .most (suc j) (rem-has (numbered sizes) policy (suc j) β [] γ r) in
           leaves-root γ
           (resumes ld lg S D R (st .closed) (suc j) (placeAt nodes (suc j)) β b (ld .placed (suc j) (zero-lt-suc j) few)
           (st .after (suc j) (zero-lt-suc j) (full (suc j) few t) few t) (pred (nodeCount L)) (root-inside lg) (ld .root) γ
@@ -214,7 +209,7 @@ module _ {sizes : List ℕ} {L : NodeLists} {nodes tests : List ℕ} (ld : Loade
           (subst (λ p. Reaches (numbered sizes) p k β γ) (sym (root-tree lg)) h)
       dups-all (suc j) t k γ h =
           let r = dups-iff j k β γ .0 h in
-          let few = few-dups (suc j) (rem-meets-of (numbered sizes) policy (suc j) k β γ r) in
+          let few = evaluable .labelled .most (suc j) (rem-meets-of (numbered sizes) policy (suc j) k β γ r) in
           resumes-reach ld lg S D R (st .closed) (suc j) (placeAt nodes (suc j)) β b (ld .placed (suc j) (zero-lt-suc j) few)
           (st .after (suc j) (zero-lt-suc j) (full (suc j) few t) few t) (pred (nodeCount L)) (root-inside lg) (ld .root) k γ
           (subst (λ p. RemMeets (numbered sizes) p (suc j) k β γ) (sym (root-tree lg)) r)

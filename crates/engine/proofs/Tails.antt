@@ -2,21 +2,19 @@
 -- ends. So it goes through what remains of the policy after the dup.
 use Prim.Native.Nat.{ℕ, zero, suc, pred, _<_}
 use mathlib.Core.Bool.{false}
-use mathlib.Core.List.{List, [], _∷_}
-use mathlib.Core.Logic.{_⊎_, inl, inr, ⊎-elim, by-cases}
+use mathlib.Core.List.{List}
+use mathlib.Core.Logic.{_⊎_, inl, inr, ⊎-elim}
 use mathlib.Core.Path.{_≡_, refl, sym, ap, _∙_, subst}
-use native.Mathlib.Nat.{not-suc-le-zero, eq-zero-or-pos}
-use native.Mathlib.Decide.{ℕ-discrete}
+use native.Mathlib.Nat.{not-suc-le-zero}
 use native.Mathlib.Omega.{arith}
 use Rattle.policy.specs.declared.Node.{Node}
 use Rattle.policy.specs.declared.Node.the-variants.{Drop, Id, Field, Dup, Sum, Seq, Star}
 use Rattle.policy.specs.Legality.{Legal}
 use Rattle.policy.specs.Meaning.{numbered}
-use Rattle.policy.specs.NodeLists.{NodeLists, nodeCount, nodeAt, children, dupsBelow}
-use Rattle.policy.specs.Visits.{timesIn, InTree}
-use Rattle.policy.proofs.EachLaws.{one-other}
-use Rattle.policy.proofs.Trees.{children-below}
-use Rattle.policy.proofs.VisitLaws.{times-leaf, times-one, times-two, exactly-once}
+use Rattle.policy.specs.NodeLists.{NodeLists, nodeCount, nodeAt, children, isDup, dupsBelow}
+use Rattle.policy.specs.Visits.{InTree, HasDup}
+use Rattle.policy.proofs.LabelLaws.{label-stands}
+use Rattle.policy.proofs.VisitLaws.{exactly-once}
 use Rattle.automaton.specs.Reaches.{Passes, Reaches}
 use Rattle.loaded.specs.Nodes.{testsAt, upAt}
 use Rattle.loaded.specs.Loaded.{treeOf, Linked, Enterable, Enters, DupAt, Loaded}
@@ -151,44 +149,14 @@ module _ {sizes : List ℕ} {L : NodeLists} (lg : Legal sizes L) (n : ℕ) (l : 
 module _ {sizes : List ℕ} {L : NodeLists} {nodes tests : List ℕ} (ld : Loaded sizes L nodes tests) (lg : Legal sizes L) (i d : ℕ) (dp : DupAt L i d) where
   -- ---- the dup stands in the tree of the root
 
-  has-on : (n : ℕ) → n < nodeCount L → ((c : ℕ) → c < n → InTree L c d → HasAt sizes L c i) → InTree L n d → HasAt sizes L n i
-  unfolding InTree HasBy children
-  has-on n l ih h = by-cases (ℕ-discrete n d) same (λ o. go (nodeAt L n) refl o)
-    where
-      same : n ≡ d → HasAt sizes L n i
-      same e = has-by lg n l i Dup (ap (nodeAt L) e ∙ dp .isDup) .1 (dp .numbered ∙ ap (λ (k : ℕ). dupsBelow L (suc k)) (sym e))
-
-      none : children (nodeAt L n) ≡ [] → (n ≡ d → ⊥) → HasAt sizes L n i
-      none e o = absurd (omega (arith, times-leaf L (children-below (lg .wellFormed)) n d e, one-other n d o))
-
-      two : (x y : ℕ) → children (nodeAt L n) ≡ x ∷ y ∷ [] → (n ≡ d → ⊥) → HasAt sizes L x i ⊎ HasAt sizes L y i
-      two x y e o =
-          let k = two-kids lg n x y l e in
-          ⊎-elim (λ (z : timesIn L x d ≡ 0). inr (ih y (k .1) (omega (arith, times-two L (children-below (lg .wellFormed)) n x y d l e, one-other n d o))))
-          (λ p. inl (ih x (k .0) p)) (eq-zero-or-pos (timesIn L x d))
-
-      go : (k : Node) → nodeAt L n ≡ k → (n ≡ d → ⊥) → HasAt sizes L n i
-      go Drop e o = none (ap children e) o
-      go Id e o = none (ap children e) o
-      go (Field a) e o = none (ap children e) o
-      go Dup e o = none (ap children e) o
-      go (Sum x y) e o = has-by lg n l i (Sum x y) e .1 (two x y (ap children e) o)
-      go (Seq x y) e o = has-by lg n l i (Seq x y) e .1 (two x y (ap children e) o)
-      go (Star c) e o =
-          has-by lg n l i (Star c) e .1
-          (ih c (one-kid lg n c l (ap children e))
-          (omega (arith, times-one L (children-below (lg .wellFormed)) n c d l (ap children e), one-other n d o)))
-
-  has : (t n : ℕ) → n < t → n < nodeCount L → InTree L n d → HasAt sizes L n i
-  has zero n a l h = absurd (not-suc-le-zero a)
-  has (suc t) n a l h = has-on n l (λ c k. has t c (omega arith) (omega arith)) h
-
   abbrev root : ℕ
   root = pred (nodeCount L)
 
   root-has : HasAt sizes L root i
-  unfolding InTree
-  root-has = has (suc root) root (omega arith) (root-inside lg) (omega (arith, exactly-once lg d (dp .within)))
+  unfolding InTree isDup treeOf
+  root-has =
+      subst (HasDup (treeOf L root)) (sym (dp .numbered))
+      (label-stands (lg .wellFormed) root d (root-inside lg) (dp .within) (ap isDup (dp .isDup)) (omega (arith, exactly-once lg d (dp .within))))
 
   -- ---- from the root down to the dup
 

@@ -4,13 +4,16 @@ use mathlib.Core.Bool.{Bool, true, _&&_, _||_, true≢false}
 use mathlib.Core.List.{List, [], _∷_, _++_}
 use mathlib.Core.Logic.{_⊎_, inl, inr, _↔_}
 use mathlib.Core.Path.{_≡_, refl, sym, ap, _∙_, subst}
+use native.Mathlib.Nat.{not-suc-le-zero}
 use lib.Dec.{T}
 use Rattle.packet.proofs.Tests.{and-true}
 use Rattle.policy.specs.declared.FieldAction.the-variants.{Equals, Differs, Set}
+use Rattle.policy.specs.Legality.{occurrences}
 use Rattle.policy.specs.Meaning.{numbered, ActionTraces, Seq, Traces}
 use Rattle.policy.specs.Tree.{Policy, drop, id, field, dup, sum, seq, star}
+use Rattle.policy.specs.Visits.{labels, HasDup}
+use Rattle.policy.proofs.LabelLaws.{has-either}
 use Rattle.policy.proofs.TraceLaws.{snoc-injective}
-use Rattle.automaton.specs.Remainder.{HasDup}
 use Rattle.automaton.specs.Reaches.{Passes, Reaches}
 use Rattle.automaton.proofs.Tests.{both, either}
 use Rattle.loaded.specs.Tests.{isTest, passes}
@@ -107,11 +110,13 @@ module _ (sizes : List ℕ) where
 
 -- tests have no dup
 pub test-dupless : (p : Policy) → isTest p ≡ true → (i : ℕ) → HasDup p i → ⊥
-unfolding HasDup isTest
-test-dupless drop h i d = d
-test-dupless id h i d = d
-test-dupless (field a) h i d = d
+unfolding labels occurrences isTest
+test-dupless drop h i d = not-suc-le-zero d
+test-dupless id h i d = not-suc-le-zero d
+test-dupless (field a) h i d = not-suc-le-zero d
 test-dupless (dup j) h i d = true≢false (sym h)
-test-dupless (sum p q) h i d = let k = and-true (isTest p) (isTest q) h in neither (test-dupless p (k .0) i) (test-dupless q (k .1) i) d
-test-dupless (seq p q) h i d = let k = and-true (isTest p) (isTest q) h in neither (test-dupless p (k .0) i) (test-dupless q (k .1) i) d
+test-dupless (sum p q) h i d =
+    let k = and-true (isTest p) (isTest q) h in neither (test-dupless p (k .0) i) (test-dupless q (k .1) i) (has-either p q i .0 d)
+test-dupless (seq p q) h i d =
+    let k = and-true (isTest p) (isTest q) h in neither (test-dupless p (k .0) i) (test-dupless q (k .1) i) (has-either p q i .0 d)
 test-dupless (star p) h i d = true≢false (sym h)

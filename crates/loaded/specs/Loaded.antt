@@ -13,8 +13,8 @@ use Rattle.policy.specs.declared.Node.the-variants.{Drop, Id, Field, Dup, Sum, 
 use Rattle.policy.specs.Meaning.{numbered, Traces}
 use Rattle.policy.specs.NodeLists.{NodeLists, nodeCount, nodeAt, dupsBelow, treeAt}
 use Rattle.policy.specs.Tree.{Policy}
+use Rattle.policy.specs.Visits.{HasDup}
 use Rattle.automaton.specs.Reaches.{Reaches}
-use Rattle.automaton.specs.Remainder.{HasDup}
 use Rattle.loaded.specs.Nodes.{setIn, labelIn, slotIn, readAt, testsAt, upAt, guardAt, placeAt}
 
 -- the tree of node n

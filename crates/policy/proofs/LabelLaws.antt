@@ -2,7 +2,7 @@
 use Prim.Native.Nat.{ℕ, zero, suc, pred, _+_, _<_, _≤_}
 use mathlib.Core.Bool.{Bool, true, false, true≢false}
 use mathlib.Core.List.{List, [], _∷_, _++_}
-use mathlib.Core.Logic.{⊎-elim, by-cases}
+use mathlib.Core.Logic.{_⊎_, inl, inr, ⊎-elim, _↔_, by-cases}
 use mathlib.Core.Path.{_≡_, refl, sym, ap, ap₂, _∙_}
 use native.Mathlib.Nat.{not-suc-le-zero, eq-or-lt-of-le, le-of-suc-le-suc, eq-zero-or-pos}
 use native.Mathlib.Decide.{ℕ-discrete}
@@ -10,14 +10,32 @@ use native.Mathlib.Omega.{arith}
 use lib.Dec.{eqb}
 use Rattle.policy.specs.declared.Node.{Node}
 use Rattle.policy.specs.declared.Node.the-variants.{Drop, Id, Field, Dup, Sum, Seq, Star}
-use Rattle.policy.specs.Tree.{Policy, sum, seq, star}
+use Rattle.policy.specs.Tree.{Policy, dup, sum, seq, star}
 use Rattle.policy.specs.NodeLists.{NodeLists, nodeCount, nodeAt, children, one, isDup, dupsBelow, grow, treeAt, policyOf}
 use Rattle.policy.specs.Legality.{WellFormed, Legal, occurrences}
 use Rattle.policy.specs.InnerEach.{Each}
-use Rattle.policy.specs.Visits.{joined, visit, labels, Labelled}
+use Rattle.policy.specs.Visits.{joined, visit, timesIn, InTree, labels, HasDup, Labelled}
 use Rattle.policy.proofs.EachLaws.{one-same, one-other, occurrences-append}
 use Rattle.policy.proofs.Trees.{ChildrenBelow, children-below, each-child}
 use Rattle.policy.proofs.VisitLaws.{joined-one, joined-two, at-most-once, times-fuel}
+
+-- ---- dup i stands in a policy, from its parts
+
+pub has-one : (j i : ℕ) → HasDup (dup j) i ↔ (i ≡ j)
+unfolding labels occurrences
+has-one j i = (λ h. by-cases (ℕ-discrete j i) sym (λ n. absurd (omega (arith, one-other j i n))), λ e. omega (arith, one-same j i (sym e)))
+
+-- in a sum, in a sequence: in one of the two
+pub has-either : (p q : Policy) (i : ℕ) → (0 < occurrences i (labels p ++ labels q)) ↔ (HasDup p i ⊎ HasDup q i)
+has-either p q i = (
+  λ h. ⊎-elim (λ (z : occurrences i (labels p) ≡ 0). inr (omega (arith, both))) inl (eq-zero-or-pos (occurrences i (labels p))),
+  ⊎-elim (λ h. omega (arith, both)) (λ h. omega (arith, both)),
+)
+  where
+    both : occurrences i (labels p ++ labels q) ≡ occurrences i (labels p) + occurrences i (labels q)
+    both = occurrences-append i (labels p) (labels q)
+
+-- ---- the labels of a tree
 
 -- how often a node's own label is i
 own : ℕ → ℕ → Bool → ℕ
@@ -72,7 +90,7 @@ module _ (L : NodeLists) where
   dups-suc n h = rw h
 
   -- a label belongs to one dup
-  label-one : (m d : ℕ) → isDup (nodeAt L m) ≡ true → isDup (nodeAt L d) ≡ true → dupsBelow L (suc m) ≡ dupsBelow L (suc d) → m ≡ d
+  pub label-one : (m d : ℕ) → isDup (nodeAt L m) ≡ true → isDup (nodeAt L d) ≡ true → dupsBelow L (suc m) ≡ dupsBelow L (suc d) → m ≡ d
   label-one m d h k e =
       let not-below : m < d → ⊥ = λ l. omega (arith, dups-suc d k, dups-more (suc m) d l) in
       let not-above : d < m → ⊥ = λ l. omega (arith, dups-suc m h, dups-more (suc d) m l) in
@@ -103,13 +121,13 @@ module _ (L : NodeLists) where
         (λ c k. label-times i d h t c (omega arith) (omega arith))))
 
     -- a label of a tree is the label of a dup
-    label-dup : (i t n : ℕ) → n < t → n < nodeCount L → 0 < occurrences i (labels (treeAt L t n)) → (d : ℕ) × DupAt i d
+    label-dup : (i t n : ℕ) → n < t → n < nodeCount L → HasDup (treeAt L t n) i → (d : ℕ) × DupAt i d
     unfolding treeAt own
     label-dup i zero n a l h = absurd (not-suc-le-zero a)
     label-dup i (suc t) n a l h =
         go (isDup (nodeAt L n)) refl
         (joined-some ((d : ℕ) × DupAt i d) i (λ c. labels (treeAt L t c)) (children (nodeAt L n))
-        (each-child L below (λ c. 0 < occurrences i (labels (treeAt L t c)) → (d : ℕ) × DupAt i d) n l
+        (each-child L below (λ c. HasDup (treeAt L t c) i → (d : ℕ) × DupAt i d) n l
         (λ c k. label-dup i t c (omega arith) (omega arith))))
       where
         label : ℕ
@@ -137,7 +155,7 @@ tree-labelled {L} w t n a l = record {
   most = λ i h. let d = dup-of i h in omega (arith, dups-more L (suc (d .0)) (nodeCount L) (d .1 .below), d .1 .label);
 }
   where
-    dup-of : (i : ℕ) → 0 < occurrences i (labels (treeAt L t n)) → (d : ℕ) × DupAt L i d
+    dup-of : (i : ℕ) → HasDup (treeAt L t n) i → (d : ℕ) × DupAt L i d
     dup-of i h = label-dup L (children-below w) i t n a l h
 
     at-most : (i : ℕ) → (d : ℕ) × DupAt L i d → occurrences i (labels (treeAt L t n)) ≤ 1
@@ -148,6 +166,13 @@ tree-labelled {L} w t n a l = record {
           times-fuel L (children-below w) t n (d .0) a l,
           at-most-once w n (d .0) l,
         )
+
+-- the label of a dup in the tree of a node
+pub label-stands : {sizes : List ℕ} {L : NodeLists} → WellFormed sizes L → (n d : ℕ) → n < nodeCount L → d < nodeCount L → isDup (nodeAt L d) ≡ true
+    → InTree L n d → HasDup (treeAt L (suc n) n) (dupsBelow L (suc d))
+unfolding InTree timesIn
+label-stands {L} w n d l k e h =
+    omega (arith, label-times L (children-below w) (dupsBelow L (suc d)) d (record { below = k; isDup = e; label = refl }) (suc n) n (omega arith) l)
 
 pub policy-labelled : {sizes : List ℕ} {L : NodeLists} → Legal sizes L → Labelled (dupsBelow L (nodeCount L)) (policyOf L)
 unfolding policyOf
@@ -167,7 +192,7 @@ part p r few h = record {
 pub record Parts (k : ℕ) (p q : Policy) : Type 0 where
   pub left : Labelled k p
   pub right : Labelled k q
-  pub apart : (i : ℕ) → 0 < occurrences i (labels p) → 0 < occurrences i (labels q) → ⊥
+  pub apart : (i : ℕ) → HasDup p i → HasDup q i → ⊥
 
 parts : {k : ℕ} (p q r : Policy) → labels r ≡ labels p ++ labels q → Labelled k r → Parts k p q
 parts p q r e h = record {

@@ -173,16 +173,12 @@ module _ (L : NodeLists) (below : ChildrenBelow L) where
   unfolding timesIn visit occurrences
   times-node n j cs e = ap (λ (xs : List ℕ). one (eqb n j) + occurrences j (joined (visit L n) xs)) e
 
-  pub times-leaf : (n j : ℕ) → children (nodeAt L n) ≡ [] → timesIn L n j ≡ one (eqb n j)
-  unfolding occurrences joined
-  times-leaf n j e = omega (arith, times-node n j [] e)
-
-  pub times-one : (n x j : ℕ) → n < nodeCount L → children (nodeAt L n) ≡ x ∷ [] → timesIn L n j ≡ one (eqb n j) + timesIn L x j
+  times-one : (n x j : ℕ) → n < nodeCount L → children (nodeAt L n) ≡ x ∷ [] → timesIn L n j ≡ one (eqb n j) + timesIn L x j
   times-one n x j l e =
       let k = one-below L below n x l e in
       omega (arith, times-node n j (x ∷ []) e, joined-one j (visit L n) x, times-fuel n x j k (omega arith))
 
-  pub times-two : (n x y j : ℕ) → n < nodeCount L → children (nodeAt L n) ≡ x ∷ y ∷ []
+  times-two : (n x y j : ℕ) → n < nodeCount L → children (nodeAt L n) ≡ x ∷ y ∷ []
       → timesIn L n j ≡ one (eqb n j) + (timesIn L x j + timesIn L y j)
   times-two n x y j l e =
       let k = two-below L below n x y l e in

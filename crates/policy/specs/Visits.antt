@@ -33,8 +33,12 @@ labels (sum p q) = labels p ++ labels q
 labels (seq p q) = labels p ++ labels q
 labels (star p) = labels p
 
+-- dup i stands in the policy
+abbrev pub HasDup : Policy → ℕ → Type 0
+HasDup p i = 0 < occurrences i (labels p)
+
 -- no two dups have the same label, and each label is between 1 and k
 pub record Labelled (k : ℕ) (p : Policy) : Type 0 where
   pub distinct : (i : ℕ) → occurrences i (labels p) ≤ 1
-  pub least : (i : ℕ) → 0 < occurrences i (labels p) → 1 ≤ i
-  pub most : (i : ℕ) → 0 < occurrences i (labels p) → i ≤ k
+  pub least : (i : ℕ) → HasDup p i → 1 ≤ i
+  pub most : (i : ℕ) → HasDup p i → i ≤ k
