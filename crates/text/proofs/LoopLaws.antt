@@ -6,12 +6,13 @@ use mathlib.Core.Bool.{Bool, true, false, cond}
 use mathlib.Core.List.{List}
 use mathlib.Core.Path.{_≡_, refl, sym, _∙_, ap}
 use lib.ListN.{length}
+use Rattle.policy.specs.AsLists.{asLists}
 use Rattle.policy.specs.NodeLists.{NodeLists}
 use Rattle.policy.specs.NodesOfTree.{entry}
 use Rattle.grammar.specs.Tokens.{tokensFrom, fieldNames}
 use Rattle.grammar.specs.InnerKinds.{frontKind}
 use Rattle.tokens.specs.Inner.{TokenFrom}
-use Rattle.text.specs.Inner.{Level, item, starred, joined, sequence, added, sum, Entered, lists, putEntry, ReaderReady, LeafDone, Joined, Got, Done}
+use Rattle.text.specs.Inner.{Level, item, starred, joined, sequence, added, sum, Entered, putEntry, ReaderReady, LeafDone, Joined, Got, Done}
 use Rattle.tokens.specs.declared.Token as Found
 use Rattle.text.specs.declared.Step as Stepped
 use Rattle.text.specs.declared.Leaf as Leaves
@@ -24,7 +25,7 @@ pub record Kept (l : Level) (text : List ℕ) (at nodes room : ℕ) (K₀ F₀ S
   pub kinds : length K ≡ length K₀
   pub firsts : length F ≡ length F₀
   pub seconds : length S ≡ length S₀
-  pub chain : (E : NodeLists) → Done l text at nodes room E s₀ (lists K₀ F₀ S₀) → Done l text at nodes room E s (lists K F S)
+  pub chain : (E : NodeLists) → Done l text at nodes room E s₀ (asLists K₀ F₀ S₀) → Done l text at nodes room E s (asLists K F S)
 
 -- the tokens left to read and the end, and nothing once a reader has stopped
 abbrev pub left : List ℕ → Stepped.Step → ℕ
@@ -45,9 +46,9 @@ module _ (text : List ℕ) (room : ℕ) where
   ready-open r f e h =
       record { within = f .within; few = omega (arith, r .few, onward f e h); small = r .small; kinds = r .kinds; firsts = r .firsts; seconds = r .seconds }
 
-  pub ready-next : {l : Level} {at nodes k : ℕ} {K₁ F₁ S₁ K F S : List ℕ} {E L′ : NodeLists} {s : Stepped.Step} {t : Found.Token} → ReaderReady text at nodes room (lists K₁ F₁ S₁)
+  pub ready-next : {l : Level} {at nodes k : ℕ} {K₁ F₁ S₁ K F S : List ℕ} {E L′ : NodeLists} {s : Stepped.Step} {t : Found.Token} → ReaderReady text at nodes room (asLists K₁ F₁ S₁)
       → length K ≡ length K₁ → length F ≡ length F₁ → length S ≡ length S₁ → Got l text at nodes room E s L′ → TokenFrom text (s .at) t → t .kind ≡ k → (k ≡ 1 → ⊥)
-      → ReaderReady text (t .next) (s .nodes) room (lists K F S)
+      → ReaderReady text (t .next) (s .nodes) room (asLists K F S)
   ready-next r a b c g f e h =
       record {
         within = f .within;
@@ -117,7 +118,7 @@ module _ (text : List ℕ) (room : ℕ) where
       go false q = rw (j .failed q .0, q, o) (omega arith)
 
   -- what joining asks
-  pub join-ready : {l : Level} {next n a b c : ℕ} {K F S : List ℕ} {L₁ L₂ : NodeLists} {r : Stepped.Step} → length text < 2 ^ 63 → ReaderReady text next n room (lists K F S)
+  pub join-ready : {l : Level} {next n a b c : ℕ} {K F S : List ℕ} {L₁ L₂ : NodeLists} {r : Stepped.Step} → length text < 2 ^ 63 → ReaderReady text next n room (asLists K F S)
       → a ≡ length K → b ≡ length F → c ≡ length S → 0 < n → Done l text next n room L₁ r L₂
       → (room ≤ a) × (room ≤ b) × (room ≤ c) × (room ≤ 512) × (r .ok ≡ true → (n - 1 < r .nodes) × (r .nodes < 2 ^ 63))
   join-ready big y p q s h d = (

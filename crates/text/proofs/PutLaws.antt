@@ -11,11 +11,12 @@ use lib.ListN.{length, set, drop, length-append, length-map}
 use lib.Seq.{sets, sets-eq}
 use borrow.Author.Tests.{lt-ltb, le-ltb, ltb-true}
 use Rattle.policy.specs.Tree.{Policy, drop as ⊥ₚ, id, field, dup, sum, seq, star}
+use Rattle.policy.specs.AsLists.{asLists}
 use Rattle.policy.specs.NodeLists.{NodeLists}
 use Rattle.policy.specs.NodesOfTree.{Entry, entry, treeSize, entriesFrom, listsOf}
 use Rattle.policy.proofs.Nodes.{entries-length}
 use Rattle.packet.specs.Written.{written}
-use Rattle.text.specs.Inner.{putAt, putEntry, putAll, lists}
+use Rattle.text.specs.Inner.{putAt, putEntry, putAll}
 
 -- a tree has at least one node
 pub size-pos : (p : Policy) → 0 < treeSize p
@@ -95,10 +96,10 @@ puts-written room vs xs h g =
 
 -- with room for all of them the entries stand first, and the rest is kept
 pub put-written : (room : ℕ) (es : List Entry) (K F S : List ℕ) → length es ≤ room → room ≤ length K → room ≤ length F → room ≤ length S
-    → putAll room 0 es (lists K F S) ≡ lists (written (listsOf es .kind) K) (written (listsOf es .first) F) (written (listsOf es .second) S)
+    → putAll room 0 es (asLists K F S) ≡ asLists (written (listsOf es .kind) K) (written (listsOf es .first) F) (written (listsOf es .second) S)
 unfolding listsOf
 put-written room es K F S h k f s =
-    columns room 0 es (lists K F S)
+    columns room 0 es (asLists K F S)
     ∙ λ i. record {
       kind = puts-written room (listsOf es .kind) K (rw (length-map es (λ (e : Entry). e .kind)) h) k i;
       first = puts-written room (listsOf es .first) F (rw (length-map es (λ (e : Entry). e .first)) h) f i;
@@ -106,10 +107,10 @@ put-written room es K F S h k f s =
     }
 
 module _ (room n k a b : ℕ) (K F S : List ℕ) where
-  pub put-yes : n < room → lists (set K n k) (set F n a) (set S n b) ≡ putEntry room n (entry k a b) (lists K F S)
+  pub put-yes : n < room → asLists (set K n k) (set F n a) (set S n b) ≡ putEntry room n (entry k a b) (asLists K F S)
   unfolding putEntry putAt entry
   put-yes h = rw (lt-ltb n room h)
 
-  pub put-no : room ≤ n → lists K F S ≡ putEntry room n (entry k a b) (lists K F S)
+  pub put-no : room ≤ n → asLists K F S ≡ putEntry room n (entry k a b) (asLists K F S)
   unfolding putEntry putAt entry
   put-no h = rw (le-ltb n room h)

@@ -10,6 +10,7 @@ use lib.Dec.{eqb}
 use lib.ListN.{length}
 use borrow.Author.Tests.{eqb-true, eqb-false}
 use Rattle.policy.specs.Tree.{Policy}
+use Rattle.policy.specs.AsLists.{asLists}
 use Rattle.policy.specs.NodeLists.{NodeLists}
 use Rattle.policy.specs.NodesOfTree.{treeSize, entriesFrom, nodesOf, listsOf}
 use Rattle.policy.proofs.Nodes.{entries-length}
@@ -23,7 +24,7 @@ use Rattle.packet.specs.Written.{written}
 use Rattle.grammar.proofs.ReadLaws.{top-ends, top-stops}
 use Rattle.grammar.proofs.AnswerLaws.{parts, nodes-few, answer-is}
 use Rattle.tokens.specs.Inner.{TokenFrom}
-use Rattle.text.specs.Inner.{Ended, Counted, Entered, Past, sum, lists, ReaderReady, Got, Done}
+use Rattle.text.specs.Inner.{Ended, Counted, Entered, Past, sum, ReaderReady, Got, Done}
 use Rattle.tokens.specs.declared.Token as Found
 use Rattle.text.specs.declared.Step as Stepped
 use Rattle.text.proofs.StepLaws.{kind-not}
@@ -84,25 +85,25 @@ module _ (text : List ℕ) where
 
 module _ (text : List ℕ) (room n : ℕ) (e : Nodes n ≡ answerTo fieldNames text room) where
   -- a reader that is given room for all nodes of the text writes them
-  pub nodes-written : {s : Stepped.Step} (K F S : List ℕ) {L′ : NodeLists} → n ≤ length K → n ≤ length F → n ≤ length S → Done sum text 0 0 n (lists K F S) s L′
-      → L′ ≡ lists (written (nodesOf (textTree fieldNames text) .kind) K) (written (nodesOf (textTree fieldNames text) .first) F) (written (nodesOf (textTree fieldNames text) .second) S)
+  pub nodes-written : {s : Stepped.Step} (K F S : List ℕ) {L′ : NodeLists} → n ≤ length K → n ≤ length F → n ≤ length S → Done sum text 0 0 n (asLists K F S) s L′
+      → L′ ≡ asLists (written (nodesOf (textTree fieldNames text) .kind) K) (written (nodesOf (textTree fieldNames text) .first) F) (written (nodesOf (textTree fieldNames text) .second) S)
   unfolding stopPlace textTree treeRead nodesOf outcome tokens start Entered
   nodes-written {s} K F S {L′} k f z d = go (s .ok) refl
     where
       Goal : Type 0
-      Goal = L′ ≡ lists (written (nodesOf (textTree fieldNames text) .kind) K) (written (nodesOf (textTree fieldNames text) .first) F) (written (nodesOf (textTree fieldNames text) .second) S)
+      Goal = L′ ≡ asLists (written (nodesOf (textTree fieldNames text) .kind) K) (written (nodesOf (textTree fieldNames text) .first) F) (written (nodesOf (textTree fieldNames text) .second) S)
 
       stuck : (place : ℕ) → outcome fieldNames text ≡ stop place → ⊥
       stuck place q = let y : some place ≡ none = sym (ap stopPlace q) ∙ parts text room n e .0 in let w : _≡_ {A = ℕ} 0 1 = cc in omega arith
 
-      read : (g : Got sum text 0 0 n (lists K F S) s L′) → outcome fieldNames text ≡ tree (g .policy) → Goal
+      read : (g : Got sum text 0 0 n (asLists K F S) s L′) → outcome fieldNames text ≡ tree (g .policy) → Goal
       read g q =
           let t : g .policy ≡ textTree fieldNames text = sym (ap treeRead q) in
           g .lists-are
           ∙ put-written n (entriesFrom 0 (g .policy)) K F S (omega (arith, entries-length 0 (g .policy), ap treeSize t, parts text room n e .2)) k f z
-          ∙ ap (λ (p : Policy). lists (written (listsOf (entriesFrom 0 p) .kind) K) (written (listsOf (entriesFrom 0 p) .first) F) (written (listsOf (entriesFrom 0 p) .second) S)) t
+          ∙ ap (λ (p : Policy). asLists (written (listsOf (entriesFrom 0 p) .kind) K) (written (listsOf (entriesFrom 0 p) .first) F) (written (listsOf (entriesFrom 0 p) .second) S)) t
 
-      last : (g : Got sum text 0 0 n (lists K F S) s L′) (b : Bool) → eqb (frontKind (tokensFrom fieldNames text (s .at))) 1 ≡ b → Goal
+      last : (g : Got sum text 0 0 n (asLists K F S) s L′) (b : Bool) → eqb (frontKind (tokensFrom fieldNames text (s .at))) 1 ≡ b → Goal
       last g true q = read g (ends-tree text g (eqb-true _ _ q))
       last g false q = absurd (stuck _ (ends-stop text g (eqb-false _ _ q)))
 
@@ -113,16 +114,16 @@ module _ (text : List ℕ) (room n : ℕ) (e : Nodes n ≡ answerTo fieldNames t
 -- ---- the public call, whose room is the shortest lent list
 
 module _ (text K F S : List ℕ) (room m : ℕ) (r : Answer) (inner : m ≡ min (length F) (length S)) (outer : room ≡ min (length K) m) (says : r ≡ answerTo fieldNames text room) where
-  pub read-ready : (n : ℕ) → r ≡ Nodes n → ReaderReady text 0 0 n (lists K F S)
+  pub read-ready : (n : ℕ) → r ≡ Nodes n → ReaderReady text 0 0 n (asLists K F S)
   read-ready n e =
       let h : n ≤ min 512 room = nodes-few text room n (sym e ∙ says) in
       record { within = omega arith; few = omega arith; small = omega arith; kinds = omega arith; firsts = omega arith; seconds = omega arith }
 
-  pub read-done : (n : ℕ) {s : Stepped.Step} (K′ F′ S′ : List ℕ) → r ≡ Nodes n → Done sum text 0 0 n (lists K F S) s (lists K′ F′ S′) → TextRead text K F S (Nodes n) K′ F′ S′
+  pub read-done : (n : ℕ) {s : Stepped.Step} (K′ F′ S′ : List ℕ) → r ≡ Nodes n → Done sum text 0 0 n (asLists K F S) s (asLists K′ F′ S′) → TextRead text K F S (Nodes n) K′ F′ S′
   unfolding leftBy
   read-done n K′ F′ S′ e d =
       let h : n ≤ min 512 room = nodes-few text room n (sym e ∙ says) in
-      let w = nodes-written text room n (sym e ∙ says) K F S {L′ = lists K′ F′ S′} (omega arith) (omega arith) (omega arith) d in
+      let w = nodes-written text room n (sym e ∙ says) K F S {L′ = asLists K′ F′ S′} (omega arith) (omega arith) (omega arith) d in
       record {
         answer = sym e ∙ answer-is text K F S room m r inner outer says;
         kinds = ap (λ (L : NodeLists). L .kind) w;

@@ -50,9 +50,6 @@ unfoldable pub putAll : ℕ → ℕ → List Entry → NodeLists → NodeLists
 putAll room n [] L = L
 putAll room n (e ∷ es) L = putAll room (suc n) es (putEntry room n e L)
 
-abbrev pub lists : List ℕ → List ℕ → List ℕ → NodeLists
-lists kind first second = record { kind = kind; first = first; second = second }
-
 -- what a reader asks: nodes so far are no more than bytes so far, and no more are written than there is room for
 pub record ReaderReady (text : List ℕ) (at nodes room : ℕ) (L : NodeLists) : Type 0 where
   pub within : at ≤ length text

@@ -8,12 +8,13 @@ ghost use Prim.Native.Nat.{_+_, _^_, _≤_, _<_, min};
 ghost use lib.ListN.{length};
 ghost use mathlib.Core.List.{[], _∷_};
 ghost use Rattle.packet.specs.Refusals.{refusal, refusedAt, firstOf};
+ghost use Rattle.policy.specs.AsLists.{asLists, policyAtEntry, policyAtExit};
 ghost use Rattle.policy.specs.NodesOfTree.{entry, treeSize};
 ghost use Rattle.grammar.specs.Tokens.{tokens, tokensFrom, fieldNames};
 ghost use Rattle.grammar.specs.Answer.{badPlace, deepPlace, stopPlace, tooMany, answered, outcome, textTree, answerTo, TextRead};
 ghost use Rattle.grammar.specs.InnerKinds.{frontKind, openAfterKind};
 ghost use Rattle.text.specs.Inner;
-ghost use Rattle.text.specs.Inner.{LeafDone, Closed, Joined, lists, putEntry, ReaderReady, Done, Ended, Counted};
+ghost use Rattle.text.specs.Inner.{LeafDone, Closed, Joined, putEntry, ReaderReady, Done, Ended, Counted};
 
 // Where a reader stands: whether it has read what it reads, the byte up to which, or at which it stopped, and the nodes so far.
 struct Step {
@@ -101,8 +102,7 @@ fn put(
     second: &mut [u16],
 )
     requires { ⌜ (room ≤ length (now kind)) × (room ≤ length (now first)) × (room ≤ length (now second)) ⌝ }
-    ensures { λ _. ⌜ lists (now (kind .exit)) (now (first .exit)) (now (second .exit))
-        ≡ putEntry room n (entry k a b) (lists (now (kind .entry)) (now (first .entry)) (now (second .entry))) ⌝ }
+    ensures { λ _. ⌜ policyAtExit kind first second ≡ putEntry room n (entry k a b) (policyAtEntry kind first second) ⌝ }
 {
     if n < room {
         kind[n] = k;
@@ -133,8 +133,7 @@ fn put_parent(
     second: &mut [u16],
 )
     requires { ⌜ (room ≤ length (now kind)) × (room ≤ length (now first)) × (room ≤ length (now second)) × (room ≤ 512) × (a ≤ n) × (b ≤ n) ⌝ }
-    ensures { λ _. ⌜ lists (now (kind .exit)) (now (first .exit)) (now (second .exit))
-        ≡ putEntry room n (entry k a b) (lists (now (kind .entry)) (now (first .entry)) (now (second .entry))) ⌝ }
+    ensures { λ _. ⌜ policyAtExit kind first second ≡ putEntry room n (entry k a b) (policyAtEntry kind first second) ⌝ }
 {
     put(n, room, k, number_of(a), number_of(b), kind, first, second);
 }
@@ -151,8 +150,7 @@ fn join(
 ) -> Step
     requires { ⌜ (room ≤ length (now kind)) × (room ≤ length (now first)) × (room ≤ length (now second)) × (room ≤ 512)
         × (r .ok ≡ true → (left < r .nodes) × (r .nodes < 2 ^ 63)) ⌝ }
-    ensures { λ s. ⌜ Joined k left room r (lists (now (kind .entry)) (now (first .entry)) (now (second .entry))) s
-        (lists (now (kind .exit)) (now (first .exit)) (now (second .exit))) ⌝ }
+    ensures { λ s. ⌜ Joined k left room r (policyAtEntry kind first second) s (policyAtExit kind first second) ⌝ }
 {
     if r.ok {
         let n = r.nodes;
@@ -199,9 +197,8 @@ fn item(
     first: &mut [u16],
     second: &mut [u16],
 ) -> Step
-    requires { ⌜ ReaderReady (now text) at nodes room (lists (now kind) (now first) (now second)) ⌝ }
-    ensures { λ r. ⌜ Done Inner.item (now (text .entry)) at nodes room (lists (now (kind .entry)) (now (first .entry)) (now (second .entry))) r
-        (lists (now (kind .exit)) (now (first .exit)) (now (second .exit))) ⌝ }
+    requires { ⌜ ReaderReady (now text) at nodes room (asLists (now kind) (now first) (now second)) ⌝ }
+    ensures { λ r. ⌜ Done Inner.item (now (text .entry)) at nodes room (policyAtEntry kind first second) r (policyAtExit kind first second) ⌝ }
 {
     let t = tokens::token_from(text, at);
     if t.kind == 9 {
@@ -234,9 +231,8 @@ fn starred(
     first: &mut [u16],
     second: &mut [u16],
 ) -> Step
-    requires { ⌜ ReaderReady (now text) at nodes room (lists (now kind) (now first) (now second)) ⌝ }
-    ensures { λ r. ⌜ Done Inner.starred (now (text .entry)) at nodes room (lists (now (kind .entry)) (now (first .entry)) (now (second .entry))) r
-        (lists (now (kind .exit)) (now (first .exit)) (now (second .exit))) ⌝ }
+    requires { ⌜ ReaderReady (now text) at nodes room (asLists (now kind) (now first) (now second)) ⌝ }
+    ensures { λ r. ⌜ Done Inner.starred (now (text .entry)) at nodes room (policyAtEntry kind first second) r (policyAtExit kind first second) ⌝ }
 {
     let mut s = item(text, at, nodes, room, kind, first, second);
     while s.ok {
@@ -265,9 +261,8 @@ fn sequence(
     first: &mut [u16],
     second: &mut [u16],
 ) -> Step
-    requires { ⌜ ReaderReady (now text) at nodes room (lists (now kind) (now first) (now second)) ⌝ }
-    ensures { λ r. ⌜ Done Inner.sequence (now (text .entry)) at nodes room (lists (now (kind .entry)) (now (first .entry)) (now (second .entry))) r
-        (lists (now (kind .exit)) (now (first .exit)) (now (second .exit))) ⌝ }
+    requires { ⌜ ReaderReady (now text) at nodes room (asLists (now kind) (now first) (now second)) ⌝ }
+    ensures { λ r. ⌜ Done Inner.sequence (now (text .entry)) at nodes room (policyAtEntry kind first second) r (policyAtExit kind first second) ⌝ }
 {
     let mut s = starred(text, at, nodes, room, kind, first, second);
     while s.ok {
@@ -292,9 +287,8 @@ fn sum(
     first: &mut [u16],
     second: &mut [u16],
 ) -> Step
-    requires { ⌜ ReaderReady (now text) at nodes room (lists (now kind) (now first) (now second)) ⌝ }
-    ensures { λ r. ⌜ Done Inner.sum (now (text .entry)) at nodes room (lists (now (kind .entry)) (now (first .entry)) (now (second .entry))) r
-        (lists (now (kind .exit)) (now (first .exit)) (now (second .exit))) ⌝ }
+    requires { ⌜ ReaderReady (now text) at nodes room (asLists (now kind) (now first) (now second)) ⌝ }
+    ensures { λ r. ⌜ Done Inner.sum (now (text .entry)) at nodes room (policyAtEntry kind first second) r (policyAtExit kind first second) ⌝ }
 {
     let mut s = sequence(text, at, nodes, room, kind, first, second);
     while s.ok {
