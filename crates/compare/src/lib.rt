@@ -1,7 +1,7 @@
 // One row of two policies evaluated and compared. All functions here are inner.
 ghost use mathlib.Core.Path.{_≡_};
 ghost use Prim.Native.Nat.{_≤_};
-ghost use Rattle.policy.specs.AsLists.{asLists};
+ghost use Rattle.policy.specs.AsLists.{asLists, policyAtEntry};
 ghost use Rattle.compare.specs.Comparison.{comparedSets, LoadReady, BothLoaded, BothMarking, BothBlank, CompareReady, ComparedStates};
 use index::POLICIES;
 use index::Row;
@@ -49,7 +49,7 @@ pub fn load(
     tests: &mut [Tests; POLICIES],
 )
     requires { ⌜ LoadReady (now sizes) (asLists (now «left_kind») (now «left_first») (now «left_second»)) (asLists (now «right_kind») (now «right_first») (now «right_second»)) count (now nodes) (now tests) ⌝ }
-    ensures { λ _. ⌜ BothLoaded (now (sizes .entry)) (asLists (now («left_kind» .entry)) (now («left_first» .entry)) (now («left_second» .entry))) (asLists (now («right_kind» .entry)) (now («right_first» .entry)) (now («right_second» .entry))) (now (nodes .exit)) (now (tests .exit)) ⌝ }
+    ensures { λ _. ⌜ BothLoaded (now (sizes .entry)) (policyAtEntry «left_kind» «left_first» «left_second») (policyAtEntry «right_kind» «right_first» «right_second») (now (nodes .exit)) (now (tests .exit)) ⌝ }
 {
     loaded::load(
         sizes,

@@ -5,7 +5,7 @@ use mathlib.Core.Path.{_≡_}
 use lib.ListN.{length, getD, replicate}
 use Rattle.packet.specs.Sizes.{product, LegalSizes}
 use Rattle.policy.specs.Legality.{Legal}
-use Rattle.policy.specs.NodeLists.{NodeLists}
+use Rattle.policy.specs.NodeLists.{NodeLists, nodeCount, dupsBelow}
 use Rattle.pair.specs.Sides.{policies}
 use Rattle.pair.specs.Pair.{pairSystem}
 use Rattle.pair.specs.Rules.{RulesAnswer, accepted, ruleB, ruleC, ruleD, andThen, brokenAt, breaksB, checkRow, checkRows}
@@ -29,6 +29,10 @@ rowTold i (Next γ) = ruleD i γ
 pub record Vacant (packets lefts rights : List ℕ) (count : ℕ) (trees : List ℕ) : Type 0 where
   pub none : Indexed packets lefts rights count 0 trees
   pub all : Indexable packets count (length packets) trees
+
+-- how many dups the two policies have
+abbrev pub DupsAre : NodeLists → NodeLists → ℕ → ℕ → Type 0
+DupsAre L R left right = (left ≡ dupsBelow L (nodeCount L)) × (right ≡ dupsBelow R (nodeCount R))
 
 module _ (sizes : List ℕ) (L R : NodeLists) (packets lefts rights : List ℕ) where
   -- causes 1 to 9 don't hold, and N is `count`

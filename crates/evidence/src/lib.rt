@@ -1,12 +1,10 @@
 // The evidence checker (document 01, "Row rules for evidence"): do rows that anybody made show that two policies are equal?
-ghost use mathlib.Core.Path.{_≡_};
 ghost use Prim.Native.Nat.{_<_};
 ghost use lib.ListN.{length};
-ghost use Rattle.policy.specs.AsLists.{asLists};
-ghost use Rattle.policy.specs.NodeLists.{dupsBelow, nodeCount};
+ghost use Rattle.policy.specs.AsLists.{asLists, policyAtEntry};
 ghost use Rattle.compare.specs.Comparison.{BothBlank};
 ghost use Rattle.evidence.specs.Calls.{CheckedRows};
-ghost use Rattle.evidence.specs.InnerSteps.{LentTable, Cleared, Vacant, TableReady, RowChecked, RowsChecked, StartsChecked, TableChecked};
+ghost use Rattle.evidence.specs.InnerSteps.{DupsAre, LentTable, Cleared, Vacant, TableReady, RowChecked, RowsChecked, StartsChecked, TableChecked};
 use compare::Compared;
 use index::Mask;
 use index::POLICIES;
@@ -129,7 +127,7 @@ fn starts_checked(
 ) -> Evidence
     requires { ⌜ Cleared (now sizes) (asLists (now «left_kind») (now «left_first») (now «left_second»)) (asLists (now «right_kind») (now «right_first») (now «right_second»)) (now packets) (now lefts) (now rights) count (now work) ⌝ }
     requires { ⌜ Vacant (now packets) (now lefts) (now rights) count (now trees) ⌝ }
-    ensures { λ r. ⌜ StartsChecked (now (sizes .entry)) (asLists (now («left_kind» .entry)) (now («left_first» .entry)) (now («left_second» .entry))) (asLists (now («right_kind» .entry)) (now («right_first» .entry)) (now («right_second» .entry))) (now (packets .entry)) (now (lefts .entry)) (now (rights .entry)) (now (work .entry)) r (now (work .exit)) ⌝ }
+    ensures { λ r. ⌜ StartsChecked (now (sizes .entry)) (policyAtEntry «left_kind» «left_first» «left_second») (policyAtEntry «right_kind» «right_first» «right_second») (now (packets .entry)) (now (lefts .entry)) (now (rights .entry)) (now (work .entry)) r (now (work .exit)) ⌝ }
 {
     index::index_rows(packets, lefts, rights, packets.len(), count, trees);
     match row_rules::first_start_missing(packets, lefts, rights, count, trees) {
@@ -181,7 +179,7 @@ fn index_chosen(
     work: &mut [u32],
 ) -> Evidence
     requires { ⌜ Cleared (now sizes) (asLists (now «left_kind») (now «left_first») (now «left_second»)) (asLists (now «right_kind») (now «right_first») (now «right_second»)) (now packets) (now lefts) (now rights) count (now work) ⌝ }
-    ensures { λ r. ⌜ StartsChecked (now (sizes .entry)) (asLists (now («left_kind» .entry)) (now («left_first» .entry)) (now («left_second» .entry))) (asLists (now («right_kind» .entry)) (now («right_first» .entry)) (now («right_second» .entry))) (now (packets .entry)) (now (lefts .entry)) (now (rights .entry)) (now (work .entry)) r (now (work .exit)) ⌝ }
+    ensures { λ r. ⌜ StartsChecked (now (sizes .entry)) (policyAtEntry «left_kind» «left_first» «left_second») (policyAtEntry «right_kind» «right_first» «right_second») (now (packets .entry)) (now (lefts .entry)) (now (rights .entry)) (now (work .entry)) r (now (work .exit)) ⌝ }
 {
     if packets.len() <= 4096 {
         let mut trees = [0u16; 12288];
@@ -237,8 +235,8 @@ fn table_checked(
     work: &mut [u32],
 ) -> Evidence
     requires { ⌜ LentTable (now sizes) (asLists (now «left_kind») (now «left_first») (now «left_second»)) (asLists (now «right_kind») (now «right_first») (now «right_second»)) (now packets) (now lefts) (now rights) count (now work) ⌝ }
-    requires { ⌜ («left_dups» ≡ dupsBelow (asLists (now «left_kind») (now «left_first») (now «left_second»)) (nodeCount (asLists (now «left_kind») (now «left_first») (now «left_second»)))) × («right_dups» ≡ dupsBelow (asLists (now «right_kind») (now «right_first») (now «right_second»)) (nodeCount (asLists (now «right_kind») (now «right_first») (now «right_second»)))) ⌝ }
-    ensures { λ r. ⌜ TableChecked (now (sizes .entry)) (asLists (now («left_kind» .entry)) (now («left_first» .entry)) (now («left_second» .entry))) (asLists (now («right_kind» .entry)) (now («right_first» .entry)) (now («right_second» .entry))) (now (packets .entry)) (now (lefts .entry)) (now (rights .entry)) (now (work .entry)) r (now (work .exit)) ⌝ }
+    requires { ⌜ DupsAre (asLists (now «left_kind») (now «left_first») (now «left_second»)) (asLists (now «right_kind») (now «right_first») (now «right_second»)) «left_dups» «right_dups» ⌝ }
+    ensures { λ r. ⌜ TableChecked (now (sizes .entry)) (policyAtEntry «left_kind» «left_first» «left_second») (policyAtEntry «right_kind» «right_first» «right_second») (now (packets .entry)) (now (lefts .entry)) (now (rights .entry)) (now (work .entry)) r (now (work .exit)) ⌝ }
 {
     lent_lists::clear(work);
     match row_rules::first_stray(
@@ -281,7 +279,7 @@ pub fn check(
     rights: &[Mask],
     work: &mut [u32],
 ) -> Evidence
-    ensures { λ r. ⌜ CheckedRows (now (sizes .entry)) (asLists (now («left_kind» .entry)) (now («left_first» .entry)) (now («left_second» .entry))) (asLists (now («right_kind» .entry)) (now («right_first» .entry)) (now («right_second» .entry))) (now (packets .entry)) (now (lefts .entry)) (now (rights .entry)) (now (work .entry)) r (now (work .exit)) ⌝ }
+    ensures { λ r. ⌜ CheckedRows (now (sizes .entry)) (policyAtEntry «left_kind» «left_first» «left_second») (policyAtEntry «right_kind» «right_first» «right_second») (now (packets .entry)) (now (lefts .entry)) (now (rights .entry)) (now (work .entry)) r (now (work .exit)) ⌝ }
 {
     let lists = lent_lists::evidence_lists(packets.len(), lefts.len(), rights.len(), work.len());
     let found = legality::front(

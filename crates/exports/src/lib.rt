@@ -2,7 +2,7 @@
 ghost use mathlib.Core.Path.{_≡_};
 ghost use lib.ListN.{length};
 ghost use Rattle.packet.specs.Packets.{numberOf};
-ghost use Rattle.policy.specs.AsLists.{asLists};
+ghost use Rattle.policy.specs.AsLists.{policyAtEntry};
 ghost use Rattle.legality.specs.Answers.{policyLegality, pairLegality};
 ghost use Rattle.turning.specs.Turning.{valuesTests, valuesAnswer, valuesLeft, numberTests, numberAnswer};
 ghost use Rattle.search.specs.Call.{lentAtEntry, lentAtExit};
@@ -40,7 +40,7 @@ pub extern "C" fn netkat_policy(
     second: &[u16],
     answer: &mut [u64; 8],
 )
-    ensures { λ _. ⌜ now (answer .exit) ≡ policyNumbers (policyLegality (now (sizes .entry)) (asLists (now (kind .entry)) (now (first .entry)) (now (second .entry)))) ⌝ }
+    ensures { λ _. ⌜ now (answer .exit) ≡ policyNumbers (policyLegality (now (sizes .entry)) (policyAtEntry kind first second)) ⌝ }
 {
     *answer = answer_numbers::of_policy(legality::policy_legality(sizes, kind, first, second));
 }
@@ -57,7 +57,7 @@ pub extern "C" fn netkat_policies(
     right_second: &[u16],
     answer: &mut [u64; 8],
 )
-    ensures { λ _. ⌜ now (answer .exit) ≡ pairNumbers (pairLegality (now (sizes .entry)) (asLists (now («left_kind» .entry)) (now («left_first» .entry)) (now («left_second» .entry))) (asLists (now («right_kind» .entry)) (now («right_first» .entry)) (now («right_second» .entry)))) ⌝ }
+    ensures { λ _. ⌜ now (answer .exit) ≡ pairNumbers (pairLegality (now (sizes .entry)) (policyAtEntry «left_kind» «left_first» «left_second») (policyAtEntry «right_kind» «right_first» «right_second»)) ⌝ }
 {
     *answer = answer_numbers::of_pair(legality::pair_legality(
         sizes,
@@ -102,7 +102,7 @@ pub extern "C" fn netkat_search(
     work: &mut [u32],
     answer: &mut [u64; 8],
 )
-    ensures { λ _. ⌜ SearchedOut (now (sizes .entry)) (asLists (now («left_kind» .entry)) (now («left_first» .entry)) (now («left_second» .entry))) (asLists (now («right_kind» .entry)) (now («right_first» .entry)) (now («right_second» .entry))) (lentAtEntry packet left right parent trace work) (now (answer .exit)) (lentAtExit packet left right parent trace work) ⌝ }
+    ensures { λ _. ⌜ SearchedOut (now (sizes .entry)) (policyAtEntry «left_kind» «left_first» «left_second») (policyAtEntry «right_kind» «right_first» «right_second») (lentAtEntry packet left right parent trace work) (now (answer .exit)) (lentAtExit packet left right parent trace work) ⌝ }
 {
     *answer = answer_numbers::of_verdict(search::search(
         sizes,
@@ -166,7 +166,7 @@ pub extern "C" fn netkat_evidence(
     work: &mut [u32],
     answer: &mut [u64; 8],
 )
-    ensures { λ _. ⌜ EvidenceOut (now (sizes .entry)) (asLists (now («left_kind» .entry)) (now («left_first» .entry)) (now («left_second» .entry))) (asLists (now («right_kind» .entry)) (now («right_first» .entry)) (now («right_second» .entry))) (now (packet .entry)) (now (left .entry)) (now (right .entry)) (now (work .entry)) (now (answer .exit)) (now (work .exit)) ⌝ }
+    ensures { λ _. ⌜ EvidenceOut (now (sizes .entry)) (policyAtEntry «left_kind» «left_first» «left_second») (policyAtEntry «right_kind» «right_first» «right_second») (now (packet .entry)) (now (left .entry)) (now (right .entry)) (now (work .entry)) (now (answer .exit)) (now (work .exit)) ⌝ }
 {
     *answer = answer_numbers::of_evidence(evidence::check(
         sizes,
@@ -198,7 +198,7 @@ pub extern "C" fn netkat_trace(
     work: &mut [u32],
     answer: &mut [u64; 8],
 )
-    ensures { λ _. ⌜ TraceOut (now (sizes .entry)) (asLists (now («left_kind» .entry)) (now («left_first» .entry)) (now («left_second» .entry))) (asLists (now («right_kind» .entry)) (now («right_first» .entry)) (now («right_second» .entry))) entering (now (trace .entry)) (now (work .entry)) (now (answer .exit)) (now (work .exit)) ⌝ }
+    ensures { λ _. ⌜ TraceOut (now (sizes .entry)) (policyAtEntry «left_kind» «left_first» «left_second») (policyAtEntry «right_kind» «right_first» «right_second») entering (now (trace .entry)) (now (work .entry)) (now (answer .exit)) (now (work .exit)) ⌝ }
 {
     *answer = answer_numbers::of_trace(traces::check(
         sizes,

@@ -1,7 +1,7 @@
 // Which node lists are legal: the causes of document 01 in their order, and the public calls that say so.
 ghost use mathlib.Core.Path.{_≡_};
 ghost use lib.ListN.{length};
-ghost use Rattle.policy.specs.AsLists.{asLists};
+ghost use Rattle.policy.specs.AsLists.{asLists, policyAtEntry};
 ghost use Rattle.policy.specs.NodeLists.{dupsBelow};
 ghost use Rattle.policy.specs.Order.{causePlace};
 ghost use Rattle.node_causes.specs.Lengths.{SameLengths};
@@ -40,7 +40,7 @@ pub struct PairTested {
 // Causes 5 to 7 of one policy, which look at one node at a time.
 fn nodes_tested(sizes: &[u16], side: u8, kind: &[u8], first: &[u16], second: &[u16]) -> Tested
     requires { ⌜ SameLengths (asLists (now kind) (now first) (now second)) ⌝ }
-    ensures { λ r. ⌜ r ≡ nodesStage (now (sizes .entry)) side (asLists (now (kind .entry)) (now (first .entry)) (now (second .entry))) ⌝ }
+    ensures { λ r. ⌜ r ≡ nodesStage (now (sizes .entry)) side (policyAtEntry kind first second) ⌝ }
 {
     let kinds = packet::refused_at(5, side, node_causes::bad_kind(kind));
     let entries = packet::refused_at(
@@ -55,7 +55,7 @@ fn nodes_tested(sizes: &[u16], side: u8, kind: &[u8], first: &[u16], second: &[u
 // Causes 8 and 9 of one policy, which count; with the number of dups.
 fn tree_tested(side: u8, kind: &[u8], first: &[u16], second: &[u16]) -> PolicyTested
     requires { ⌜ CountableChildren (asLists (now kind) (now first) (now second)) ⌝ }
-    ensures { λ r. ⌜ TestedAs (treeStage side (asLists (now (kind .entry)) (now (first .entry)) (now (second .entry)))) (dupsBelow (asLists (now (kind .entry)) (now (first .entry)) (now (second .entry))) (length (now (kind .entry)))) r ⌝ }
+    ensures { λ r. ⌜ TestedAs (treeStage side (policyAtEntry kind first second)) (dupsBelow (policyAtEntry kind first second) (length (now (kind .entry)))) r ⌝ }
 {
     let once = packet::refused_at(8, side, tree_causes::not_once(kind, first, second));
     let counted = tree_causes::dups(kind);
@@ -67,7 +67,7 @@ fn tree_tested(side: u8, kind: &[u8], first: &[u16], second: &[u16]) -> PolicyTe
 
 // Stage "policies" of one policy.
 fn policy_stage(sizes: &[u16], side: u8, kind: &[u8], first: &[u16], second: &[u16]) -> PolicyTested
-    ensures { λ r. ⌜ PolicyTestedAs (now (sizes .entry)) side (asLists (now (kind .entry)) (now (first .entry)) (now (second .entry))) r ⌝ }
+    ensures { λ r. ⌜ PolicyTestedAs (now (sizes .entry)) side (policyAtEntry kind first second) r ⌝ }
 {
     match packet::refused_at(4, side, node_causes::bad_lengths(kind, first, second)) {
         Tested::Refused(r) => PolicyTested {
@@ -86,7 +86,7 @@ fn policy_stage(sizes: &[u16], side: u8, kind: &[u8], first: &[u16], second: &[u
 
 // Whether the lists are a legal policy over fields of these sizes: causes 1 to 9, side 0.
 pub fn policy_legality(sizes: &[u16], kind: &[u8], first: &[u16], second: &[u16]) -> PolicyAnswer
-    ensures { λ r. ⌜ r ≡ policyLegality (now (sizes .entry)) (asLists (now (kind .entry)) (now (first .entry)) (now (second .entry))) ⌝ }
+    ensures { λ r. ⌜ r ≡ policyLegality (now (sizes .entry)) (policyAtEntry kind first second) ⌝ }
 {
     let fields = packet::fields_stage(sizes);
     let counted = packet::packet_count(sizes);
@@ -152,7 +152,7 @@ pub fn front(
     right_second: &[u16],
     lists: Tested,
 ) -> PairTested
-    ensures { λ r. ⌜ FrontOf (now (sizes .entry)) (asLists (now («left_kind» .entry)) (now («left_first» .entry)) (now («left_second» .entry))) (asLists (now («right_kind» .entry)) (now («right_first» .entry)) (now («right_second» .entry))) lists r ⌝ }
+    ensures { λ r. ⌜ FrontOf (now (sizes .entry)) (policyAtEntry «left_kind» «left_first» «left_second») (policyAtEntry «right_kind» «right_first» «right_second») lists r ⌝ }
 {
     let fields = packet::fields_stage(sizes);
     let count = packet::packet_count(sizes);
@@ -188,7 +188,7 @@ pub fn pair_legality(
     right_first: &[u16],
     right_second: &[u16],
 ) -> PairAnswer
-    ensures { λ r. ⌜ r ≡ pairLegality (now (sizes .entry)) (asLists (now («left_kind» .entry)) (now («left_first» .entry)) (now («left_second» .entry))) (asLists (now («right_kind» .entry)) (now («right_first» .entry)) (now («right_second» .entry))) ⌝ }
+    ensures { λ r. ⌜ r ≡ pairLegality (now (sizes .entry)) (policyAtEntry «left_kind» «left_first» «left_second») (policyAtEntry «right_kind» «right_first» «right_second») ⌝ }
 {
     let found = front(
         sizes,

@@ -1,5 +1,5 @@
 // Which nodes are tests alone.
-ghost use Rattle.policy.specs.AsLists.{asLists};
+ghost use Rattle.policy.specs.AsLists.{asLists, policyAtEntry};
 ghost use mathlib.Core.List.{[]};
 ghost use mathlib.Core.Path.{_≡_};
 ghost use Rattle.policy.specs.declared.Node.the-variants.{Field};
@@ -46,7 +46,7 @@ fn flag_of(node: Node, alone: &[u16; 512]) -> u16
 // Inner. The nodes that are tests alone.
 pub fn tests_alone(kind: &[u8], first: &[u16], second: &[u16]) -> [u16; 512]
     requires { ⌜ Formed (asLists (now kind) (now first) (now second)) ⌝ }
-    ensures { λ r. ⌜ Alone (asLists (now (kind .entry)) (now (first .entry)) (now (second .entry))) r ⌝ }
+    ensures { λ r. ⌜ Alone (policyAtEntry kind first second) r ⌝ }
 {
     let mut alone = [0u16; 512];
     let mut n = 0;

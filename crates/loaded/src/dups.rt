@@ -1,7 +1,7 @@
 // The numbers of the dups and the places of the remainders.
 ghost use Prim.Native.Nat.{_+_, _<_};
 ghost use mathlib.Core.Path.{_≡_};
-ghost use Rattle.policy.specs.AsLists.{asLists};
+ghost use Rattle.policy.specs.AsLists.{asLists, policyAtEntry};
 ghost use Rattle.policy.specs.NodeLists.{isDup, one};
 ghost use Rattle.loaded.specs.Loading.{Formed, Labels, dupPlaced, Places};
 use policy::Node;
@@ -25,7 +25,7 @@ fn label_after(node: Node, d: u16) -> u16
 // Inner. How many dups there are up to and with each node.
 pub fn labels_of(kind: &[u8], first: &[u16], second: &[u16]) -> [u16; 512]
     requires { ⌜ Formed (asLists (now kind) (now first) (now second)) ⌝ }
-    ensures { λ r. ⌜ Labels (asLists (now (kind .entry)) (now (first .entry)) (now (second .entry))) r ⌝ }
+    ensures { λ r. ⌜ Labels (policyAtEntry kind first second) r ⌝ }
 {
     let mut labels = [0u16; 512];
     let mut d: u16 = 0;
@@ -59,7 +59,7 @@ fn put(node: Node, label: u16, n: usize, places: &mut [u16; 32])
 // Inner. The places of the remainders.
 pub fn places_of(kind: &[u8], first: &[u16], second: &[u16], labels: &[u16; 512]) -> [u16; 32]
     requires { ⌜ Formed (asLists (now kind) (now first) (now second)) × Labels (asLists (now kind) (now first) (now second)) (now labels) ⌝ }
-    ensures { λ r. ⌜ Places (asLists (now (kind .entry)) (now (first .entry)) (now (second .entry))) r ⌝ }
+    ensures { λ r. ⌜ Places (policyAtEntry kind first second) r ⌝ }
 {
     let mut places = [512u16; 32];
     places[0] = (kind.len() - 1) as u16;

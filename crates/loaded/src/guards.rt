@@ -1,6 +1,6 @@
 // The guard of a node: a packet set that holds every packet which the node lets through or leads to a dup.
 ghost use mathlib.Core.Path.{_≡_};
-ghost use Rattle.policy.specs.AsLists.{asLists};
+ghost use Rattle.policy.specs.AsLists.{asLists, policyAtEntry};
 ghost use Rattle.loaded.specs.Loading.{Formed, ChildrenPlaced, guardOf, Guards};
 use policy::Node;
 
@@ -32,7 +32,7 @@ pub fn guards_of(
     sets: &[u16; 512],
 ) -> [u16; 512]
     requires { ⌜ Formed (asLists (now kind) (now first) (now second)) ⌝ }
-    ensures { λ r. ⌜ Guards (asLists (now (kind .entry)) (now (first .entry)) (now (second .entry))) (now (alone .entry)) (now (sets .entry)) r ⌝ }
+    ensures { λ r. ⌜ Guards (policyAtEntry kind first second) (now (alone .entry)) (now (sets .entry)) r ⌝ }
 {
     let mut guards = [0u16; 512];
     let mut n = 0;

@@ -3,7 +3,7 @@
 ghost use mathlib.Core.Path.{_≡_};
 ghost use lib.ListN.{length};
 ghost use Rattle.packet.specs.Sizes.{product, LegalSizes};
-ghost use Rattle.policy.specs.AsLists.{asLists};
+ghost use Rattle.policy.specs.AsLists.{asLists, policyAtEntry};
 ghost use Rattle.policy.specs.Legality.{Legal};
 ghost use Rattle.loaded.specs.Loaded.{Loaded};
 ghost use Rattle.loaded.specs.Nodes.{nodeIn, setIn, testsIn, labelIn, upIn, slotIn};
@@ -92,7 +92,7 @@ pub fn load(
     tests: &mut Tests,
 )
     requires { ⌜ LegalSizes (now sizes) × Legal (now sizes) (asLists (now kind) (now first) (now second)) × (count ≡ product (now sizes)) × (length (now nodes) ≡ 544) × (length (now tests) ≡ 8224) ⌝ }
-    ensures { λ _. ⌜ Loaded (now (sizes .entry)) (asLists (now (kind .entry)) (now (first .entry)) (now (second .entry))) (now (nodes .exit)) (now (tests .exit)) ⌝ }
+    ensures { λ _. ⌜ Loaded (now (sizes .entry)) (policyAtEntry kind first second) (now (nodes .exit)) (now (tests .exit)) ⌝ }
 {
     let alone = alone::tests_alone(kind, first, second);
     let ups = ways::ways_up(kind, first, second, &alone);

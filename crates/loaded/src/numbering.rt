@@ -2,7 +2,7 @@
 ghost use Prim.Native.Nat.{_<_};
 ghost use mathlib.Core.Path.{_≡_};
 ghost use lib.ListN.{length, getD};
-ghost use Rattle.policy.specs.AsLists.{asLists};
+ghost use Rattle.policy.specs.AsLists.{asLists, policyAtEntry};
 ghost use Rattle.loaded.specs.Loading.{ChildrenPlaced, Alone, Loading, TestNode, pick, testUnder, Gave, TestSets};
 use crate::Tests;
 use crate::sets;
@@ -59,7 +59,7 @@ fn give(
     tests: &mut Tests,
 ) -> usize
     requires { ⌜ Loading (now sizes) (asLists (now kind) (now first) (now second)) count (now all) × (length (now tests) ≡ 8224) × (c < 512 → TestNode (asLists (now kind) (now first) (now second)) c × (k < 256)) ⌝ }
-    ensures { λ r. ⌜ Gave (now (sizes .entry)) (asLists (now (kind .entry)) (now (first .entry)) (now (second .entry))) c k (now (sets .entry)) (now (tests .entry)) r (now (sets .exit)) (now (tests .exit)) ⌝ }
+    ensures { λ r. ⌜ Gave (now (sizes .entry)) (policyAtEntry kind first second) c k (now (sets .entry)) (now (tests .entry)) r (now (sets .exit)) (now (tests .exit)) ⌝ }
 {
     if 512 <= c {
         return k;
@@ -83,7 +83,7 @@ pub fn number(
     tests: &mut Tests,
 ) -> [u16; 512]
     requires { ⌜ Loading (now sizes) (asLists (now kind) (now first) (now second)) count (now all) × Alone (asLists (now kind) (now first) (now second)) (now alone) × (length (now tests) ≡ 8224) ⌝ }
-    ensures { λ r. ⌜ TestSets (now (sizes .entry)) (asLists (now (kind .entry)) (now (first .entry)) (now (second .entry))) r (now (tests .exit)) ⌝ }
+    ensures { λ r. ⌜ TestSets (now (sizes .entry)) (policyAtEntry kind first second) r (now (tests .exit)) ⌝ }
 {
     let mut sets = [0u16; 512];
     let mut k: usize = 0;

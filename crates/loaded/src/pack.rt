@@ -2,7 +2,7 @@
 ghost use Prim.Native.Nat.{_<_};
 ghost use mathlib.Core.Path.{_≡_};
 ghost use lib.ListN.{length};
-ghost use Rattle.policy.specs.AsLists.{asLists};
+ghost use Rattle.policy.specs.AsLists.{asLists, policyAtEntry};
 ghost use Rattle.loaded.specs.Loading.{packed, Fitting, PackedAll, PlacedAll};
 use crate::Nodes;
 use crate::slots;
@@ -44,7 +44,7 @@ pub fn pack_nodes(
     nodes: &mut Nodes,
 )
     requires { ⌜ Fitting (asLists (now kind) (now first) (now second)) (now guards) (now alone) (now labels) (now ups) (now parts) × (length (now nodes) ≡ 544) ⌝ }
-    ensures { λ _. ⌜ PackedAll (asLists (now (kind .entry)) (now (first .entry)) (now (second .entry))) (now (guards .entry)) (now (alone .entry)) (now (labels .entry)) (now (ups .entry)) (now (nodes .entry)) (now (nodes .exit)) ⌝ }
+    ensures { λ _. ⌜ PackedAll (policyAtEntry kind first second) (now (guards .entry)) (now (alone .entry)) (now (labels .entry)) (now (ups .entry)) (now (nodes .entry)) (now (nodes .exit)) ⌝ }
 {
     let mut n = 0;
     while n < kind.len() {

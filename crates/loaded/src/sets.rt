@@ -4,7 +4,7 @@ ghost use mathlib.Core.Bool.{false};
 ghost use mathlib.Core.Path.{_≡_};
 ghost use lib.ListN.{length};
 ghost use Rattle.packet.specs.Sizes.{product, LegalSizes};
-ghost use Rattle.policy.specs.AsLists.{asLists};
+ghost use Rattle.policy.specs.AsLists.{asLists, policyAtEntry};
 ghost use Rattle.policy.specs.Legality.{badField};
 ghost use Rattle.policy.specs.Tree.{field};
 ghost use Rattle.packet_set.specs.InnerMembers.{member};
@@ -94,7 +94,7 @@ pub fn test_set(
     n: usize,
 ) -> PacketWords
     requires { ⌜ Loading (now sizes) (asLists (now kind) (now first) (now second)) count (now all) × TestNode (asLists (now kind) (now first) (now second)) n ⌝ }
-    ensures { λ r. ⌜ HasMembers r (passing (now (sizes .entry)) (treeOf (asLists (now (kind .entry)) (now (first .entry)) (now (second .entry))) n)) ⌝ }
+    ensures { λ r. ⌜ HasMembers r (passing (now (sizes .entry)) (treeOf (policyAtEntry kind first second) n)) ⌝ }
 {
     match policy::lent::node_at(kind, first, second, n) {
         Node::Drop => packet_set::empty(),

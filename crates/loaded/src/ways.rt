@@ -1,7 +1,7 @@
 // Where what comes out of a node goes on.
 ghost use Prim.Native.Nat.{_<_};
 ghost use mathlib.Core.Path.{_≡_};
-ghost use Rattle.policy.specs.AsLists.{asLists};
+ghost use Rattle.policy.specs.AsLists.{asLists, policyAtEntry};
 ghost use Rattle.loaded.specs.Loading.{Formed, ChildrenPlaced, Alone, waysTold, Ways};
 use policy::Node;
 
@@ -37,7 +37,7 @@ fn tell(node: Node, n: usize, flag: u16, ups: &mut [u16; 512])
 // Inner. The ways up, told from the root down.
 pub fn ways_up(kind: &[u8], first: &[u16], second: &[u16], alone: &[u16; 512]) -> [u16; 512]
     requires { ⌜ Formed (asLists (now kind) (now first) (now second)) × Alone (asLists (now kind) (now first) (now second)) (now alone) ⌝ }
-    ensures { λ r. ⌜ Ways (asLists (now (kind .entry)) (now (first .entry)) (now (second .entry))) r ⌝ }
+    ensures { λ r. ⌜ Ways (policyAtEntry kind first second) r ⌝ }
 {
     let mut ups = [512u16; 512];
     let mut n = kind.len();

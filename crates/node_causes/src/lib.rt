@@ -6,7 +6,7 @@ ghost use lib.Dec.{leb};
 ghost use lib.ListN.{length};
 ghost use Rattle.packet.specs.Lowest.{lowest, optionOf};
 ghost use Rattle.packet.specs.Refusals.{atZero};
-ghost use Rattle.policy.specs.AsLists.{asLists};
+ghost use Rattle.policy.specs.AsLists.{asLists, policyAtEntry};
 ghost use Rattle.policy.specs.NodeLists.{children};
 ghost use Rattle.policy.specs.Legality.{badLengths, badKind, badField, used, wrongEntries, badEntries, someNotBelow, badChild};
 ghost use Rattle.node_causes.specs.Lengths.{SameLengths};
@@ -16,7 +16,7 @@ use policy::lent::node_at;
 
 // Inner: cause 4, which names no place.
 pub fn bad_lengths(kind: &[u8], first: &[u16], second: &[u16]) -> Place
-    ensures { λ r. ⌜ optionOf r ≡ atZero (badLengths (asLists (now (kind .entry)) (now (first .entry)) (now (second .entry)))) ⌝ }
+    ensures { λ r. ⌜ optionOf r ≡ atZero (badLengths (policyAtEntry kind first second)) ⌝ }
 {
     let n = kind.len();
     if first.len() != n {
@@ -94,7 +94,7 @@ fn wrong_entries(sizes: &[u16], kind: u8, a: u16, b: u16) -> bool
 // Inner: cause 6, the lowest node with a wrong field, value or unused entry.
 pub fn bad_entries(sizes: &[u16], kind: &[u8], first: &[u16], second: &[u16]) -> Place
     requires { ⌜ SameLengths (asLists (now kind) (now first) (now second)) ⌝ }
-    ensures { λ r. ⌜ optionOf r ≡ lowest (badEntries (now (sizes .entry)) (asLists (now (kind .entry)) (now (first .entry)) (now (second .entry)))) (length (now (kind .entry))) ⌝ }
+    ensures { λ r. ⌜ optionOf r ≡ lowest (badEntries (now (sizes .entry)) (policyAtEntry kind first second)) (length (now (kind .entry))) ⌝ }
 {
     let mut i = 0;
     while i < kind.len() {
@@ -140,7 +140,7 @@ fn child_not_below(node: Node, i: usize) -> bool
 // Inner: cause 7, the lowest node with a child that is not below it.
 pub fn bad_child(kind: &[u8], first: &[u16], second: &[u16]) -> Place
     requires { ⌜ SameLengths (asLists (now kind) (now first) (now second)) ⌝ }
-    ensures { λ r. ⌜ optionOf r ≡ lowest (badChild (asLists (now (kind .entry)) (now (first .entry)) (now (second .entry)))) (length (now (kind .entry))) ⌝ }
+    ensures { λ r. ⌜ optionOf r ≡ lowest (badChild (policyAtEntry kind first second)) (length (now (kind .entry))) ⌝ }
 {
     let mut i = 0;
     while i < kind.len() {

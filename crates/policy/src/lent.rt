@@ -2,7 +2,7 @@
 ghost use mathlib.Core.Path.{_≡_};
 ghost use Prim.Native.Nat.{_<_};
 ghost use lib.ListN.{length};
-ghost use Rattle.policy.specs.AsLists.{asLists};
+ghost use Rattle.policy.specs.AsLists.{policyAtEntry};
 ghost use Rattle.policy.specs.NodeLists.{nodeAt};
 use crate::FieldAction;
 use crate::Node;
@@ -10,7 +10,7 @@ use crate::Node;
 // Inner. Node i.
 pub fn node_at(kind: &[u8], first: &[u16], second: &[u16], i: usize) -> Node
     requires { ⌜ (i < length (now kind)) × (i < length (now first)) × (i < length (now second)) ⌝ }
-    ensures { λ r. ⌜ r ≡ nodeAt (asLists (now (kind .entry)) (now (first .entry)) (now (second .entry))) i ⌝ }
+    ensures { λ r. ⌜ r ≡ nodeAt (policyAtEntry kind first second) i ⌝ }
 {
     let a = first[i];
     let b = second[i];

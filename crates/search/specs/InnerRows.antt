@@ -1,6 +1,6 @@
 -- The row order from its start to its end, on an index that grows with it.
 use Prim.Native.Nat.{ℕ, _<_, _≤_}
-use mathlib.Core.List.{List}
+use mathlib.Core.List.{List, []}
 use mathlib.Core.Path.{_≡_}
 use lib.ListN.{length, getD}
 use Rattle.packet.specs.Sizes.{product}
@@ -11,7 +11,7 @@ use Rattle.pair.specs.Pair.{pairSystem}
 use Rattle.pair.specs.Search.{searchAnswer}
 use Rattle.index.specs.Columns.{EvenColumns}
 use Rattle.index.specs.Index.{bucketCount}
-use Rattle.index.specs.Appending.{Lists, lists}
+use Rattle.index.specs.Appending.{Lists, lists, LentList}
 use Rattle.listed_rows.specs.declared.Progress.{Progress}
 use Rattle.listed_rows.specs.Standing.{Standing, pairMasks}
 use Rattle.compare.specs.Comparison.{BothLoaded}
@@ -19,6 +19,13 @@ use Rattle.verdict.specs.declared.Stop.{Stop}
 use Rattle.verdict.specs.InnerEnding.{endedAnswer, Readable}
 use Rattle.search.specs.declared.Level.{Level}
 use Rattle.search.specs.declared.Level.the-variants.{Ended, Outgrown}
+
+-- the lent columns at entry and at exit, with no index
+abbrev pub columnsAtEntry : LentList → LentList → LentList → LentList → Lists
+columnsAtEntry P L R Q = lists (P .entry .now) (L .entry .now) (R .entry .now) (Q .entry .now) []
+
+abbrev pub columnsAtExit : LentList → LentList → LentList → LentList → Lists
+columnsAtExit P L R Q = lists (P .exit .now) (L .exit .now) (R .exit .now) (Q .exit .now) []
 
 -- the columns with this index
 abbrev pub withIndex : Lists → List ℕ → Lists

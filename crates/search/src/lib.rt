@@ -3,9 +3,9 @@ ghost use Prim.Native.Nat.{ℕ, _+_, _/_, _<_, _≤_};
 ghost use mathlib.Core.Bool.{true, false};
 ghost use mathlib.Core.List.{[]};
 ghost use mathlib.Core.Path.{_≡_};
-ghost use Rattle.policy.specs.AsLists.{asLists};
+ghost use Rattle.policy.specs.AsLists.{asLists, policyAtEntry};
 ghost use Rattle.index.specs.Appending.{lists, listsAtEntry, listsAtExit};
-ghost use Rattle.search.specs.InnerRows.{RoundsReady, RoundsDone, RestReady, RestDone, RunReady, RunDone};
+ghost use Rattle.search.specs.InnerRows.{columnsAtEntry, columnsAtExit, RoundsReady, RoundsDone, RestReady, RestDone, RunReady, RunDone};
 ghost use Rattle.search.specs.Call.{lent, lentAtEntry, lentAtExit, Accepted, SearchDone, Searched};
 use index::Appended;
 use index::Mask;
@@ -104,7 +104,7 @@ fn run_on(
     work: &mut [u32],
 ) -> Stop
     requires { ⌜ RestReady (now sizes) (now nodes) (now tests) (lists (now packets) (now lefts) (now rights) (now parents) []) reached (now work) ⌝ }
-    ensures { λ r. ⌜ RestDone (now (sizes .entry)) (now (nodes .entry)) (now (tests .entry)) (lists (now (packets .entry)) (now (lefts .entry)) (now (rights .entry)) (now (parents .entry)) []) (lists (now (packets .exit)) (now (lefts .exit)) (now (rights .exit)) (now (parents .exit)) []) reached (now (work .entry)) r (now (work .exit)) ⌝ }
+    ensures { λ r. ⌜ RestDone (now (sizes .entry)) (now (nodes .entry)) (now (tests .entry)) (columnsAtEntry packets lefts rights parents) (columnsAtExit packets lefts rights parents) reached (now (work .entry)) r (now (work .exit)) ⌝ }
 {
     let mut trees = [0u16; 196608];
     index::index_rows(
@@ -150,7 +150,7 @@ fn run(
     work: &mut [u32],
 ) -> Stop
     requires { ⌜ RunReady (now sizes) (now nodes) (now tests) (lists (now packets) (now lefts) (now rights) (now parents) []) count (now work) ⌝ }
-    ensures { λ r. ⌜ RunDone (now (sizes .entry)) (now (nodes .entry)) (now (tests .entry)) (lists (now (packets .entry)) (now (lefts .entry)) (now (rights .entry)) (now (parents .entry)) []) (lists (now (packets .exit)) (now (lefts .exit)) (now (rights .exit)) (now (parents .exit)) []) count (now (work .entry)) r (now (work .exit)) ⌝ }
+    ensures { λ r. ⌜ RunDone (now (sizes .entry)) (now (nodes .entry)) (now (tests .entry)) (columnsAtEntry packets lefts rights parents) (columnsAtExit packets lefts rights parents) count (now (work .entry)) r (now (work .exit)) ⌝ }
 {
     let mut trees = [0u16; 12288];
     let Appended::Rows(listed) = listed_rows::start(
@@ -217,7 +217,7 @@ fn search_accepted(
     work: &mut [u32],
 ) -> Verdict
     requires { ⌜ Accepted (now sizes) (asLists (now «left_kind») (now «left_first») (now «left_second»)) (asLists (now «right_kind») (now «right_first») (now «right_second»)) count (lent (now packets) (now lefts) (now rights) (now parents) (now trace) (now work)) ⌝ }
-    ensures { λ r. ⌜ SearchDone (now (sizes .entry)) (asLists (now («left_kind» .entry)) (now («left_first» .entry)) (now («left_second» .entry))) (asLists (now («right_kind» .entry)) (now («right_first» .entry)) (now («right_second» .entry))) (lentAtEntry packets lefts rights parents trace work) r (lentAtExit packets lefts rights parents trace work) ⌝ }
+    ensures { λ r. ⌜ SearchDone (now (sizes .entry)) (policyAtEntry «left_kind» «left_first» «left_second») (policyAtEntry «right_kind» «right_first» «right_second») (lentAtEntry packets lefts rights parents trace work) r (lentAtExit packets lefts rights parents trace work) ⌝ }
 {
     lent_lists::clear(work);
     let mut nodes = [[0u64; 544]; POLICIES];
@@ -265,7 +265,7 @@ pub fn search(
     trace: &mut [u16],
     work: &mut [u32],
 ) -> Verdict
-    ensures { λ r. ⌜ Searched (now (sizes .entry)) (asLists (now («left_kind» .entry)) (now («left_first» .entry)) (now («left_second» .entry))) (asLists (now («right_kind» .entry)) (now («right_first» .entry)) (now («right_second» .entry))) (lentAtEntry packets lefts rights parents trace work) r (lentAtExit packets lefts rights parents trace work) ⌝ }
+    ensures { λ r. ⌜ Searched (now (sizes .entry)) (policyAtEntry «left_kind» «left_first» «left_second») (policyAtEntry «right_kind» «right_first» «right_second») (lentAtEntry packets lefts rights parents trace work) r (lentAtExit packets lefts rights parents trace work) ⌝ }
 {
     let lists = lent_lists::search_lists(
         packets.len(),

@@ -1,7 +1,7 @@
 // The search on two texts (document 01, "Causes, in the order tested": a call on two texts).
 ghost use mathlib.Core.List.{[], _∷_};
 ghost use Rattle.packet.specs.Refusals.{firstOf};
-ghost use Rattle.policy.specs.AsLists.{asLists};
+ghost use Rattle.policy.specs.AsLists.{policyAtEntry};
 ghost use Rattle.search.specs.Call.{lentAtEntry, lentAtExit};
 ghost use Rattle.search_texts.specs.Call.{textNodes, textStage, Ran, TextsSearched};
 use grammar::Answer;
@@ -24,7 +24,7 @@ fn search_right(
     trace: &mut [u16],
     work: &mut [u32],
 ) -> Verdict
-    ensures { λ r. ⌜ Ran (textStage (now (right .entry))) (now (sizes .entry)) (asLists (now («left_kind» .entry)) (now («left_first» .entry)) (now («left_second» .entry))) (textNodes (now (right .entry))) (lentAtEntry packets lefts rights parents trace work) r (lentAtExit packets lefts rights parents trace work) ⌝ }
+    ensures { λ r. ⌜ Ran (textStage (now (right .entry))) (now (sizes .entry)) (policyAtEntry «left_kind» «left_first» «left_second») (textNodes (now (right .entry))) (lentAtEntry packets lefts rights parents trace work) r (lentAtExit packets lefts rights parents trace work) ⌝ }
 {
     let mut kind = [0u8; 512];
     let mut first = [0u16; 512];

@@ -3,7 +3,7 @@ ghost use mathlib.Core.Path.{_≡_};
 ghost use Prim.Native.Nat.{suc};
 ghost use lib.ListN.{length};
 ghost use Rattle.packet.specs.Lowest.{lowest, optionOf};
-ghost use Rattle.policy.specs.AsLists.{asLists};
+ghost use Rattle.policy.specs.AsLists.{asLists, policyAtEntry};
 ghost use Rattle.pair.specs.TraceCheck.{answerOf};
 ghost use Rattle.traces.specs.Checking.{badPacket, checkedAs, CheckedTrace, FollowReady, Followed, LoadedReady, LoadedFollowed};
 use loaded::Nodes;
@@ -99,7 +99,7 @@ fn has_trace(
     work: &mut [u32],
 ) -> bool
     requires { ⌜ FollowReady (now sizes) (asLists (now kind) (now first) (now second)) count entering (now trace) (now work) ⌝ }
-    ensures { λ r. ⌜ Followed (now (sizes .entry)) (asLists (now (kind .entry)) (now (first .entry)) (now (second .entry))) entering (now (trace .entry)) (now (work .entry)) r (now (work .exit)) ⌝ }
+    ensures { λ r. ⌜ Followed (now (sizes .entry)) (policyAtEntry kind first second) entering (now (trace .entry)) (now (work .entry)) r (now (work .exit)) ⌝ }
 {
     let mut nodes = [0u64; 544];
     let mut tests = [0u32; 8224];
@@ -137,7 +137,7 @@ pub fn check(
     trace: &[u16],
     work: &mut [u32],
 ) -> TraceChecked
-    ensures { λ r. ⌜ CheckedTrace (now (sizes .entry)) (asLists (now («left_kind» .entry)) (now («left_first» .entry)) (now («left_second» .entry))) (asLists (now («right_kind» .entry)) (now («right_first» .entry)) (now («right_second» .entry))) entering (now (trace .entry)) (now (work .entry)) r (now (work .exit)) ⌝ }
+    ensures { λ r. ⌜ CheckedTrace (now (sizes .entry)) (policyAtEntry «left_kind» «left_first» «left_second») (policyAtEntry «right_kind» «right_first» «right_second») entering (now (trace .entry)) (now (work .entry)) r (now (work .exit)) ⌝ }
 {
     let lists = lent_lists::work_list(work.len());
     let found = legality::front(

@@ -3,7 +3,7 @@ ghost use mathlib.Core.Path.{_≡_};
 ghost use Prim.Native.Nat.{_<_, pred};
 ghost use lib.ListN.{length, getD};
 ghost use Rattle.packet.specs.Lowest.{lowest, optionOf};
-ghost use Rattle.policy.specs.AsLists.{asLists};
+ghost use Rattle.policy.specs.AsLists.{asLists, policyAtEntry};
 ghost use Rattle.policy.specs.NodeLists.{children};
 ghost use Rattle.policy.specs.Legality.{notOnce};
 ghost use Rattle.tree_causes.specs.Counting.{CountableChildren, ChildCounts, Countable, withChild, withChildren, DupWeight, DupCountOf};
@@ -42,7 +42,7 @@ fn with_children(counts: [u16; 512], node: Node) -> [u16; 512]
 // How often each node is a child.
 fn times_child(kind: &[u8], first: &[u16], second: &[u16]) -> [u16; 512]
     requires { ⌜ CountableChildren (asLists (now kind) (now first) (now second)) ⌝ }
-    ensures { λ r. ⌜ ChildCounts (asLists (now (kind .entry)) (now (first .entry)) (now (second .entry))) r (length (now (kind .entry))) ⌝ }
+    ensures { λ r. ⌜ ChildCounts (policyAtEntry kind first second) r (length (now (kind .entry))) ⌝ }
 {
     let mut counts = [0u16; 512];
     let mut i = 0;
@@ -57,7 +57,7 @@ fn times_child(kind: &[u8], first: &[u16], second: &[u16]) -> [u16; 512]
 // Inner: cause 8, the lowest node but the last that is not a child exactly once.
 pub fn not_once(kind: &[u8], first: &[u16], second: &[u16]) -> Place
     requires { ⌜ CountableChildren (asLists (now kind) (now first) (now second)) ⌝ }
-    ensures { λ r. ⌜ optionOf r ≡ lowest (notOnce (asLists (now (kind .entry)) (now (first .entry)) (now (second .entry)))) (pred (length (now (kind .entry)))) ⌝ }
+    ensures { λ r. ⌜ optionOf r ≡ lowest (notOnce (policyAtEntry kind first second)) (pred (length (now (kind .entry)))) ⌝ }
 {
     let counts = times_child(kind, first, second);
     let mut i = 0;
