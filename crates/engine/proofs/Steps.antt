@@ -20,7 +20,6 @@ use Rattle.automaton.specs.Remainder.{remainder, HasDup, Evaluable}
 use Rattle.automaton.specs.Reaches.{Passes, Reaches}
 use Rattle.automaton.specs.State.{Marks, outputMask, nextMask, StateTraces}
 use Rattle.automaton.proofs.Tests.{either, same-test}
-use Rattle.automaton.proofs.RightSpines.{has-label}
 use Rattle.automaton.proofs.Spines.{Rem, RemMeets, meets-iff, rem-has, rem-meets-of, remainder-words, remainder-meets}
 use Rattle.automaton.proofs.Laws.{next-iff, outputMask-iff, nextMask-bit}
 use Rattle.automaton.proofs.Trees.{policy-evaluable}
