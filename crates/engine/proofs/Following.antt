@@ -1,39 +1,27 @@
 -- One remainder after another, over the lists.
-use Prim.Native.Nat.{ℕ, zero, suc, pred, _+_, _/_, _%_, _≤_, _<_}
-use mathlib.Core.Bool.{Bool, true, false, _&&_, _||_}
-use mathlib.Core.List.{List, [], _∷_}
-use mathlib.Core.Logic.{_⊎_, inl, inr}
+use Prim.Native.Nat.{ℕ, pred, _≤_, _<_}
+use mathlib.Core.Bool.{false, _||_}
+use mathlib.Core.List.{List}
 use mathlib.Core.Path.{_≡_, refl, sym, ap, _∙_, subst}
-use native.Mathlib.Decide.{decLt}
-use native.Mathlib.Nat.{eq-or-lt-of-le, le-of-suc-le-suc}
 use native.Mathlib.Omega.{arith}
-use lib.Dec.{T, eqb, eqb→eq, eqb-refl, ltb}
-use lib.ListN.{length, getD, replicate}
-use lib.Seq.{ext-getD}
+use lib.Dec.{T, eqb, eqb→eq, eqb-refl}
+use lib.ListN.{length, getD}
 use Rattle.packet.specs.Sizes.{product}
 use Rattle.policy.specs.declared.Node.{Node}
 use Rattle.policy.specs.declared.Node.the-variants.{Seq, Star}
-use Rattle.policy.specs.Legality.{maxDups}
-use Rattle.policy.specs.NodeLists.{NodeLists, nodeCount, nodeAt, dupsBelow, policyOf, children}
-use Rattle.packet_set.specs.Bits.{bit}
-use Rattle.packet_set.specs.InnerMembers.{Members, member, emptySet, withPacket}
-use Rattle.packet_set.specs.declared.Lowest.{Lowest}
-use Rattle.packet_set.proofs.Digits.{bit-of-zero}
-use Rattle.packet_set.proofs.Walk.{LowestIn, found-at, found-none}
+use Rattle.policy.specs.NodeLists.{NodeLists, nodeCount, nodeAt, children}
+use Rattle.packet_set.specs.InnerMembers.{member, emptySet, withPacket}
 use Rattle.packet_set.proofs.Words.{member-empty, member-with}
-use Rattle.automaton.specs.State.{Marks, outputMask, nextMask}
-use Rattle.automaton.proofs.Tests.{T-true, true-T}
-use Rattle.spans.specs.Spans.{slot, hasMark, touched, Spanned, Holds, Unseen}
-use Rattle.loaded.specs.Nodes.{nodeIn, upIn, readAt, testsAt, upAt, placeAt}
-use Rattle.loaded.specs.Loaded.{Enterable, Enters, DupAt, Loaded}
+use Rattle.spans.specs.Spans.{slot, hasMark, Spanned, Holds}
+use Rattle.loaded.specs.Nodes.{nodeIn, upIn, readAt, upAt, placeAt}
+use Rattle.loaded.specs.Loaded.{Enterable, Enters, DupAt}
 use Rattle.engine.specs.Going.{Recorded, Through, ThroughLists, VisitReady}
 use Rattle.engine.specs.Visiting.{onward, Sent}
-use Rattle.engine.specs.Stepping.{Steps, Stands, RemainderReady, RemainderStepped, StepReady, Stepped}
+use Rattle.engine.specs.Stepping.{Stands, RemainderStepped}
 use Rattle.engine.proofs.Parts.{root-inside, two-kids}
 use Rattle.engine.proofs.Climbing.{Climbing, Joint, seq-joint, star-joint, Above, climbing-start, climbing-next, climbing-seq, climbing-star}
-use Rattle.engine.proofs.Steps.{placed-at, steps-start, steps-idle, steps-whole, steps-after, steps-lost, steps-output, steps-marks}
+use Rattle.engine.proofs.Steps.{placed-at, steps-idle, steps-whole, steps-after, steps-lost}
 use Rattle.engine.proofs.Records.{empty-span, records-none, records-then}
-use Rattle.engine.proofs.Leaving.{long-still}
 
 -- ---- one packet
 

@@ -1,11 +1,11 @@
 -- Each way out of a visit, over the lists.
 use Prim.Native.Nat.{ℕ, suc, _≤_, _<_}
 use mathlib.Core.Bool.{Bool, true, false, _&&_, _||_, not, or-false}
-use mathlib.Core.List.{List, [], _∷_}
-use mathlib.Core.Logic.{_⊎_, inl, inr, ⊎-elim}
-use mathlib.Core.Path.{_≡_, refl, sym, ap, ap₂, _∙_, subst}
+use mathlib.Core.List.{List}
+use mathlib.Core.Logic.{inl, inr}
+use mathlib.Core.Path.{_≡_, refl, sym, ap, _∙_, subst}
 use native.Mathlib.Omega.{arith}
-use lib.Dec.{T, eqb, ltb, ltb→lt}
+use lib.Dec.{T, eqb}
 use lib.ListN.{length, getD}
 use Rattle.packet.specs.Sizes.{product}
 use Rattle.policy.specs.declared.FieldAction.{FieldAction}
@@ -17,15 +17,15 @@ use Rattle.policy.specs.InnerEach.{Each}
 use Rattle.policy.specs.NodeLists.{NodeLists, nodeCount, nodeAt, dupsBelow, children, grow}
 use Rattle.policy.proofs.LabelLaws.{dups-more}
 use Rattle.policy.proofs.Trees.{children-below, tree-fields}
-use Rattle.packet_set.specs.InnerMembers.{Members, Within, member, emptySet}
+use Rattle.packet_set.specs.InnerMembers.{member, emptySet}
 use Rattle.packet_set.proofs.Words.{member-empty}
-use Rattle.automaton.proofs.Tests.{both, either, eqb-true, T-true}
+use Rattle.automaton.proofs.Tests.{both, either, eqb-true}
 use Rattle.spans.proofs.Sets.{no-packet}
 use Rattle.spans.specs.Spans.{slot, hasMark, Spanned, Holds, Noted, GotMark}
 use Rattle.changes.specs.Changes.{Changing}
 use Rattle.loaded.specs.Nodes.{setIn, testsIn, labelIn, slotIn, nodeIn, readAt, testsAt, guardAt}
-use Rattle.loaded.specs.Loaded.{treeOf, Enterable, Enters, Moves, Moving, Loaded}
-use Rattle.engine.specs.Going.{Recorded, Through, ThroughLists, VisitReady}
+use Rattle.loaded.specs.Loaded.{treeOf, Enterable, Enters, Moves, Moving}
+use Rattle.engine.specs.Going.{Recorded, ThroughLists, VisitReady}
 use Rattle.engine.specs.Visiting.{Admitted, EnteredLists, Acted, Sent}
 use Rattle.engine.proofs.Parts.{tree-at}
 use Rattle.engine.proofs.Entries.{Entered, entered-plain, entered-slot}

@@ -1,19 +1,19 @@
 -- What a visit asks of its children, and what it leaves in the lists.
 use Prim.Native.Nat.{ℕ, zero, suc, _+_, _/_, _%_, _≤_, _<_}
-use mathlib.Core.Bool.{Bool, true, false, _&&_, _||_, not, cond}
-use mathlib.Core.List.{List, [], _∷_}
+use mathlib.Core.Bool.{Bool, true, false, _&&_, cond}
+use mathlib.Core.List.{List}
 use mathlib.Core.Logic.{_⊎_, inl, inr, ⊎-elim}
 use mathlib.Core.Path.{_≡_, refl, sym, ap, _∙_, subst}
 use native.Mathlib.Decide.{decLt}
 use native.Mathlib.Nat.{not-suc-le-zero, eq-or-lt-of-le, le-of-suc-le-suc}
 use native.Mathlib.Omega.{arith}
-use lib.Dec.{T, eqb, eqb→eq, ltb, ltb→lt}
-use lib.ListN.{length, getD, replicate}
+use lib.Dec.{T, eqb, ltb, ltb→lt}
+use lib.ListN.{length}
 use Rattle.packet.specs.Sizes.{product}
 use Rattle.packet_set.specs.InnerMembers.{Members, Within, member}
 use Rattle.packet_set.specs.Bits.{bit}
 use Rattle.packet_set.proofs.Digits.{bit-of-zero}
-use Rattle.automaton.proofs.Tests.{both, either, eqb-true}
+use Rattle.automaton.proofs.Tests.{both, either}
 use Rattle.spans.specs.Spans.{slot, hasMark, touched, Spanned, Noted, GotMark}
 use Rattle.engine.specs.Going.{Recorded}
 

@@ -10,7 +10,6 @@ use lib.Dec.{T, eqb}
 use borrow.Author.Tests.{eqb-true}
 use lib.ListN.{length, getD}
 use lib.Seq.{ext-getD}
-use Rattle.packet.specs.Sizes.{product}
 use Rattle.policy.specs.Legality.{maxDups}
 use Rattle.policy.specs.NodeLists.{NodeLists, nodeCount, dupsBelow}
 use Rattle.packet_set.specs.Bits.{bit}

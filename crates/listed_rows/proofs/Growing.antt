@@ -16,7 +16,7 @@ use Rattle.system.specs.RowOrder.{Entry, starts, listed, append, appendNext}
 use Rattle.system.proofs.Basics.{Prefix}
 use Rattle.system.proofs.Answers.{starts-longer, appendNext-longer}
 use Rattle.system.proofs.Listing.{append-kept}
-use Rattle.pair.specs.Sides.{left, right, Pair, at, onBoth, NumberedPolicy}
+use Rattle.pair.specs.Sides.{Pair, at, onBoth, NumberedPolicy}
 use Rattle.pair.specs.Pair.{bothZero, pairSystem}
 use Rattle.index.specs.declared.Row.{Row}
 use Rattle.index.specs.declared.Appended.{Appended}

@@ -10,7 +10,7 @@ use lib.Seq.{take-all, length-take-le}
 use borrow.Author.Tests.{ltb-true, ltb-false}
 use Rattle.packet.specs.Sizes.{product}
 use Rattle.system.specs.System.{System, Lawful}
-use Rattle.system.specs.RowOrder.{Entry, entryAt, appendNext, current, turn, finished, telling, handling, handle, run, path, entering, answerWith, held}
+use Rattle.system.specs.RowOrder.{Entry, entryAt, appendNext, current, turn, finished, telling, handling, handle, run, path, entering, held}
 use Rattle.system.proofs.Basics.{prefix-length}
 use Rattle.system.proofs.Climb.{Earlier}
 use Rattle.system.proofs.Runs.{finished≢handling, telling≢handling, turn-end, run-begin, run-handle}

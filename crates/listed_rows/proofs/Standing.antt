@@ -15,7 +15,7 @@ use Rattle.index.specs.declared.Appended.{Appended}
 use Rattle.index.specs.declared.Appended.the-variants.{Rows, Full}
 use Rattle.index.specs.Index.{Indexed}
 use Rattle.index.specs.Appending.{Lists, Appending}
-use Rattle.index.specs.Entries.{Masks, rowOf, entries}
+use Rattle.index.specs.Entries.{Masks, rowOf}
 use Rattle.index.proofs.Entries.{Grew, Stuck, appended-rows, appended-full, length-entries}
 use Rattle.listed_rows.specs.Standing.{answerFor, rowsIn, Standing, Continues}
 

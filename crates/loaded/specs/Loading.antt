@@ -13,7 +13,6 @@ use Rattle.policy.specs.declared.Node.{Node}
 use Rattle.policy.specs.declared.Node.the-variants.{Drop, Id, Field, Dup, Sum, Seq, Star}
 use Rattle.policy.specs.InnerEach.{Each}
 use Rattle.policy.specs.Legality.{Legal, badField, fieldOf, valueOf}
-use Rattle.policy.specs.Meaning.{numbered}
 use Rattle.policy.specs.NodeLists.{NodeLists, nodeCount, nodeAt, children, dupsBelow, one}
 use Rattle.packet_set.specs.InnerMembers.{Members, member}
 use Rattle.spans.specs.Spans.{slot}

@@ -1,7 +1,6 @@
 // The program (document 01, "The program"): reads standard input to its end and writes the answer.
 use libc::STDIN_FILENO;
 use libc::STDOUT_FILENO;
-ghost use mathlib.Core.Path.{_≡_};
 ghost use Prim.Native.Nat.{_-_, _≤_};
 ghost use lib.ListN.{length, take};
 ghost use Rattle.printing.specs.InnerWrote.{Wrote};

@@ -7,7 +7,6 @@ use native.Mathlib.Omega.{arith}
 use lib.Dec.{ltb}
 use borrow.Author.Tests.{lt-ltb, le-ltb}
 use lib.ListN.{length}
-use Rattle.packet.specs.Sizes.{product}
 use Rattle.policy.specs.NodeLists.{NodeLists}
 use Rattle.marks.specs.Marks.{Marking}
 use Rattle.system.specs.System.{System}

@@ -14,7 +14,6 @@ use Rattle.index.proofs.Growth.{indexed-none}
 use Rattle.listed_rows.specs.declared.Progress.{Progress}
 use Rattle.listed_rows.specs.Standing.{Started}
 use Rattle.listed_rows.proofs.Growing.{SameLengths}
-use Rattle.compare.specs.Comparison.{BothLoaded}
 use Rattle.row_handling.specs.declared.Handled.{Handled}
 use Rattle.row_handling.specs.declared.Handled.the-variants.{Open, Stopped}
 use Rattle.row_handling.specs.Step.{HandleReady, StepDone}
@@ -23,7 +22,7 @@ use Rattle.verdict.specs.declared.Ended.the-variants.{Full}
 use Rattle.verdict.specs.declared.Stop.{Stop}
 use Rattle.search.specs.declared.Level.{Level}
 use Rattle.search.specs.declared.Level.the-variants.{Ended, Outgrown}
-use Rattle.search.specs.InnerRows.{withIndex, RowsRun, Underway, Leads, Prepared, RoundsReady, RoundsDone, RestReady, RestDone, RunReady, RunDone}
+use Rattle.search.specs.InnerRows.{withIndex, RowsRun, Underway, Prepared, RoundsReady, RoundsDone, RestReady, RestDone, RunReady, RunDone}
 use Rattle.search.proofs.Underway.{Kept, kept-more, Led, started-full, started-rows, starts-full, starts-underway, underway-few, underway-within, underway-small, indexable, reindexed, round-next, round-stops}
 
 prepared-still : {sizes : List ℕ} {nodes tests : List (List ℕ)} {count count′ : ℕ} {work work′ : List ℕ} → Prepared sizes nodes tests count work → count′ ≡ count → work′ ≡ work → Prepared sizes nodes tests count′ work′

@@ -37,7 +37,7 @@ use Rattle.verdict.specs.declared.Ended.{Ended}
 use Rattle.verdict.specs.declared.Ended.the-variants.{Done, Full}
 use Rattle.row_handling.specs.declared.Handled.{Handled}
 use Rattle.row_handling.specs.declared.Handled.the-variants.{Open, Stopped}
-use Rattle.row_handling.specs.Step.{openOrDone, runAt, afterRow, stepAnswer, stepRows, RowHandled, HandleReady}
+use Rattle.row_handling.specs.Step.{runAt, afterRow, stepAnswer, stepRows, RowHandled, openOrDone}
 use Rattle.verdict.specs.InnerEnding.{tellingAt, CanRead, tellingAnswer, answerAtEnd, endedAnswer, ReadableAt, Readable}
 use Rattle.search.specs.InnerRows.{withIndex, RowsRun, Underway}
 

@@ -12,7 +12,6 @@ use Rattle.policy.specs.Tree.{Policy}
 use Rattle.packet_set.specs.Bits.{bit}
 use Rattle.packet_set.specs.InnerMembers.{member, wordsFor, emptySet}
 use Rattle.packet_set.proofs.Digits.{bit-of-zero}
-use Rattle.packet_set.proofs.Words.{words-hold, words-within}
 use Rattle.automaton.specs.Remainder.{Evaluable}
 use Rattle.automaton.specs.State.{runs, hasTrace}
 use Rattle.automaton.proofs.Laws.{dead-nextMask, dead-outputMask}

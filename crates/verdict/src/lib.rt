@@ -1,6 +1,5 @@
 // What the search answers where the row order has ended, and the telling trace (document 01, "States and rows"). All functions
 // here are inner; `Verdict` is the public answer.
-ghost use mathlib.Core.Path.{_≡_};
 ghost use mathlib.Core.Bool.{cond};
 ghost use lib.ListN.{length};
 ghost use Rattle.pair.specs.Sides.{left, right};

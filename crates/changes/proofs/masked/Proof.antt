@@ -1,5 +1,4 @@
 -- `masked` meets its contract. Assumes nothing.
-use native.Mathlib.Omega.{arith}
 use borrow.Author.Needs.{needs}
 use Rattle.changes.proofs.Folds.{masked-none, masked-some}
 use Rattle.changes.proofs.masked.Statement.{statement}

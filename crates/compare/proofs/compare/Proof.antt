@@ -1,6 +1,6 @@
 -- `compare` meets its contract. Assumes nothing.
 use borrow.Author.Needs.{needs}
-use mathlib.Core.Path.{refl, _∙_}
+use mathlib.Core.Path.{refl}
 use Rattle.packet_set.specs.InnerMembers.{emptySet}
 use Rattle.compare.proofs.Comparing.{left-ready, right-ready, outputs-short, compared-states}
 use Rattle.compare.proofs.compare.Statement.{statement}

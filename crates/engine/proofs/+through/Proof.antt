@@ -9,7 +9,7 @@ use Rattle.policy.specs.declared.Node.the-variants.{Star}
 use Rattle.spans.specs.Spans.{slot}
 use Rattle.engine.specs.Going.{VisitReady}
 use Rattle.engine.proofs.Records.{missing, arrays, records-note, records-then}
-use Rattle.engine.proofs.Leaving.{EntryLists, TurningLists, node-small, set-small, node-is, entry, entry-below, leave-blocked, leave-tests, leave-known, leave-never, never-drop, never-id, acts-changing, leave-change, label-small, leave-dup, sum-below, sum-read, sum-first, sum-second, sent-spanned, leave-sum, leave-sum-first, leave-sum-second, seq-below, seq-first, seq-second, leave-seq-none, leave-seq, star-below, turn-start, turn-ready, turn-end, turn-more, turn-less, long-still, not-true, not-false}
+use Rattle.engine.proofs.Leaving.{EntryLists, TurningLists, node-small, set-small, node-is, entry, leave-blocked, leave-tests, leave-known, leave-never, never-drop, never-id, acts-changing, leave-change, label-small, leave-dup, sum-below, sum-read, sum-first, sum-second, sent-spanned, leave-sum, leave-sum-first, leave-sum-second, seq-below, seq-first, seq-second, leave-seq-none, leave-seq, star-below, turn-start, turn-ready, turn-end, turn-more, turn-less, long-still, not-true, not-false}
 use Prim.Native.Nat.{ℕ, _<_}
 use borrow.Fn.Kinds.{In}
 use borrow.Fn.PlainCycle.{Measures, is, falls, and}

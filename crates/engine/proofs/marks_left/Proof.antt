@@ -1,5 +1,4 @@
 -- `marks_left` meets its contract. Assumes nothing.
-use native.Mathlib.Omega.{arith}
 use Rattle.engine.proofs.Stepping.{none-left, some-left}
 use borrow.Author.Needs.{needs}
 use Rattle.engine.proofs.marks_left.Statement.{statement}

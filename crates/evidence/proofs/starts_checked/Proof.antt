@@ -1,6 +1,5 @@
 -- `starts_checked` meets its contract. Assumes nothing.
 use borrow.Author.Needs.{needs}
-use mathlib.Core.Path.{_∙_}
 use Rattle.evidence.proofs.Stepping.{load-ready, loaded-ready, starts-broken, starts-kept}
 use Rattle.evidence.proofs.starts_checked.Statement.{statement}
 use Rattle.evidence.proofs.starts_checked.Tie as tie

@@ -1,6 +1,5 @@
 -- `has_room` meets its contract. Assumes nothing.
 use borrow.Author.Needs.{needs}
-use native.Mathlib.Omega.{arith}
 use borrow.Author.Tests.{leb-true}
 use Rattle.search.proofs.Levels.{room-left, room-told}
 use Rattle.search.proofs.has_room.Statement.{statement}

@@ -1,6 +1,5 @@
 -- `run_on` meets its contract. Assumes nothing.
 use borrow.Author.Needs.{needs}
-use mathlib.Core.Path.{_∙_}
 use Rattle.search.proofs.Levels.{rest-index, rest-ready, rest-ends, rest-never}
 use Rattle.search.proofs.run_on.Statement.{statement}
 use Rattle.search.proofs.run_on.Tie as tie

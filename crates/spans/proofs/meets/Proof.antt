@@ -1,7 +1,6 @@
 -- `meets` meets its contract: each turn of the loop passes one more word. Assumes nothing.
 use Prim.Native.Nat.{_-_}
 use mathlib.Core.Bool.{true≢false}
-use native.Mathlib.Omega.{arith}
 use borrow.Author.Needs.{needs}
 use Rattle.spans.proofs.Sets.{Apart, apart-start, apart-turn, apart-end}
 use Rattle.spans.proofs.meets.Statement.{statement}

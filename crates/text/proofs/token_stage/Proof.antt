@@ -7,7 +7,6 @@ use lib.ListN.{length}
 use Rattle.grammar.specs.Tokens.{tokens, tokensFrom, fieldNames}
 use Rattle.grammar.specs.Answer.{badPlace}
 use Rattle.text.proofs.StepLaws.{kind-at, kind-not}
-use Rattle.text.proofs.LoopLaws.{onward}
 use Rattle.grammar.proofs.AnswerLaws.{bad-end, bad-here, bad-on, stage-passes, stage-refuses}
 use Rattle.text.proofs.token_stage.Statement.{statement}
 use Rattle.text.proofs.token_stage.Tie as tie
