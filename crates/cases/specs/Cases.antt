@@ -195,10 +195,7 @@ P2-rows = columns (0 ∷ 1 ∷ 0 ∷ 1 ∷ []) (1 ∷ 1 ∷ 2 ∷ 0 ∷ []) (1 �
 abbrev P5 : ℕ → Verdict → Columns → List Case
 P5 rows verdict held = compares (1 ∷ []) "dup*" "id+dup;dup*" rows 2 verdict held []
 
--- the starting rows of 1, 2 and 3 packets
-abbrev starts1 : Columns
-starts1 = columns (0 ∷ []) (1 ∷ []) (1 ∷ []) (0 ∷ [])
-
+-- the starting rows of 2 and 3 packets
 abbrev starts2 : Columns
 starts2 = columns (0 ∷ 1 ∷ []) (1 ∷ 1 ∷ []) (1 ∷ 1 ∷ []) (0 ∷ 1 ∷ [])
 

@@ -1,6 +1,6 @@
--- What an answer says of its row: for a run of the row order, and for rule (c).
+-- What an answer says of its row, and of a run of the row order.
 -- Assumes nothing.
-use Prim.Native.Nat.{ℕ, _^_, _<_}
+use Prim.Native.Nat.{ℕ, _<_}
 use mathlib.Core.Bool.{false}
 use mathlib.Core.List.{List}
 use mathlib.Core.Logic.{_↔_}
@@ -9,20 +9,13 @@ use mathlib.Core.Path.{_≡_, refl, sym, ap, _∙_, subst}
 use native.Mathlib.Omega.{arith}
 use lib.ListN.{length}
 use Rattle.packet.specs.Sizes.{product}
-use Rattle.packet.proofs.Tests.{xor-same, xor-false}
 use Rattle.packet.proofs.Lowest.{Found, lowest-is, lowest-none, none-lowest}
-use Rattle.policy.specs.Legality.{Legal}
-use Rattle.policy.specs.NodeLists.{NodeLists, nodeCount, dupsBelow, policyOf}
-use Rattle.packet_set.specs.Bits.{bit}
-use Rattle.packet_set.proofs.Digits.{bits-same}
-use Rattle.automaton.specs.State.{outputMask}
-use Rattle.automaton.proofs.Laws.{outputMask-fits}
-use Rattle.automaton.proofs.Trees.{policy-evaluable}
+use Rattle.policy.specs.NodeLists.{NodeLists}
 use Rattle.system.specs.System.{System, Row, tells}
 use Rattle.system.specs.RowOrder.{lowestTelling, Run, current, turn, telling, handling}
 use Rattle.system.proofs.Runs.{turn-telling, turn-row}
-use Rattle.pair.specs.Sides.{Side, left, right, at, policies}
-use Rattle.pair.specs.Pair.{outputAt, inOneOutput, pairSystem}
+use Rattle.pair.specs.Sides.{Side, left, right, policies}
+use Rattle.pair.specs.Pair.{pairSystem}
 use Rattle.pair.specs.Search.{sideOf}
 use Rattle.compare.specs.declared.Compared.the-variants.{Same}
 use Rattle.compare.specs.Comparison.{differsAt, comparedOf, answerAt}
@@ -66,18 +59,6 @@ module _ (sizes : List ℕ) (L R : NodeLists) where
     pub same-iff : (answerAt sizes L R row ≡ Same) ↔ ((γ : ℕ) → γ < product sizes → tells S row γ ≡ false)
     unfolding answerAt lowestTelling comparedOf
     same-iff = (λ e. lowest-none (tells S row) (product sizes) (same-lowest e), λ f. ap (comparedOf (sideOf sizes (policies L R) row)) (none-lowest (tells S row) (product sizes) f))
-
-    -- rule (c)
-    pub same-outputs : Legal sizes L → Legal sizes R
-        → (answerAt sizes L R row ≡ Same) ↔ (outputMask sizes (policyOf L) (row .state .left) (row .packet) ≡ outputMask sizes (policyOf R) (row .state .right) (row .packet))
-    unfolding inOneOutput outputAt at
-    same-outputs l r = (
-      λ e. bits-same (product sizes) _ _ (fits L l (row .state .left)) (fits R r (row .state .right)) (λ γ h. xor-false _ _ (same-iff .0 e γ h)),
-      λ e. same-iff .1 (λ γ h. xor-same _ _ (ap (λ x. bit x γ) e)),
-    )
-      where
-        fits : (M : NodeLists) → Legal sizes M → (m : ℕ) → outputMask sizes (policyOf M) m (row .packet) < 2 ^ product sizes
-        fits M k m = outputMask-fits sizes (dupsBelow M (nodeCount M)) (policyOf M) (policy-evaluable sizes M k) m (row .packet)
 
   -- a run's row, compared
   module _ (x : Run (pairSystem sizes (policies L R))) (left-over : x .handled < length (x .rows)) where

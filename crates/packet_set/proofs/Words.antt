@@ -34,15 +34,6 @@ module _ (f : ℕ → ℕ → ℕ) where
   wordwise-below (suc k) (x ∷ a) [] (suc i) l h = wordwise-below k a [] i (le-of-suc-le-suc l) (le-of-suc-le-suc h)
   wordwise-below (suc k) (x ∷ a) (y ∷ b) (suc i) l h = wordwise-below k a b i (le-of-suc-le-suc l) (le-of-suc-le-suc h)
 
-  pub wordwise-above : (k : ℕ) (a b : List ℕ) (i : ℕ) → k ≤ i → getD (wordwise f k a b) i 0 ≡ getD a i 0
-  unfolding wordwise
-  wordwise-above zero a b i l = refl
-  wordwise-above (suc k) [] b i l = refl
-  wordwise-above (suc k) (x ∷ a) [] zero l = absurd (not-suc-le-zero l)
-  wordwise-above (suc k) (x ∷ a) (y ∷ b) zero l = absurd (not-suc-le-zero l)
-  wordwise-above (suc k) (x ∷ a) [] (suc i) l = wordwise-above k a [] i (le-of-suc-le-suc l)
-  wordwise-above (suc k) (x ∷ a) (y ∷ b) (suc i) l = wordwise-above k a b i (le-of-suc-le-suc l)
-
   -- a turn of the loop
   wordwise-more : (i : ℕ) (a b : List ℕ) → set (wordwise f i a b) i (f (getD (wordwise f i a b) i 0) (getD b i 0)) ≡ wordwise f (suc i) a b
   unfolding wordwise

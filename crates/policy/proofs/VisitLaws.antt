@@ -186,27 +186,6 @@ module _ (L : NodeLists) (below : ChildrenBelow L) where
       let right = times-fuel n y j (k .1) (omega arith) in
       omega (arith, times-node n j (x ∷ y ∷ []) e, joined-two j (visit L n) x y)
 
-  -- what stands in the tree of a child stands in the tree of the node
-  pub in-tree-one : (n x j : ℕ) → n < nodeCount L → children (nodeAt L n) ≡ x ∷ [] → InTree L x j → InTree L n j
-  unfolding InTree
-  in-tree-one n x j l e h = omega (arith, times-one n x j l e)
-
-  pub in-tree-left : (n x y j : ℕ) → n < nodeCount L → children (nodeAt L n) ≡ x ∷ y ∷ [] → InTree L x j → InTree L n j
-  unfolding InTree
-  in-tree-left n x y j l e h = omega (arith, times-two n x y j l e)
-
-  pub in-tree-right : (n x y j : ℕ) → n < nodeCount L → children (nodeAt L n) ≡ x ∷ y ∷ [] → InTree L y j → InTree L n j
-  unfolding InTree
-  in-tree-right n x y j l e h = omega (arith, times-two n x y j l e)
-
-  pub in-tree-self : (n : ℕ) → n < nodeCount L → InTree L n n
-  unfolding InTree
-  in-tree-self n l = omega (arith, times-fuel (suc n) n n (omega arith) l, times-self (suc n) n (omega arith) l)
-
-  pub in-tree-le : (n j : ℕ) → n < nodeCount L → InTree L n j → j ≤ n
-  unfolding InTree timesIn
-  in-tree-le n j l h = by-cases (decLt n j) (λ o. absurd (omega (arith, visit-above (suc n) n j l o))) (λ o. omega arith)
-
 -- in the tree of any node of well-formed lists each node stands at most once
 pub at-most-once : {sizes : List ℕ} {L : NodeLists} → WellFormed sizes L → (n j : ℕ) → n < nodeCount L → timesIn L n j ≤ 1
 unfolding timesIn
