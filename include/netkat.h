@@ -15,14 +15,18 @@
  *
  * Policies. A policy is three lists of equal length, 1 to 512: kind, first, second, children before parents, the last node
  * the policy. Kinds: 0 drop, 1 id, 2 test f = v, 3 test f != v, 4 change f <- v (first is f, second is v), 5 dup, 6 sum,
- * 7 sequence (first and second are nodes), 8 star (first is a node); unused entries are 0. netkat_read makes the lists
- * from a text.
+ * 7 sequence (first and second are nodes), 8 star, 9 negation (first is a node); unused entries are 0. A negation passes the
+ * packets that its child drops; below it stand kinds 0 to 3, 6, 7 and 9 only. netkat_read makes the lists from a text.
+ *
+ * Texts. An item is drop, id, dup, f0=1, f0!=1, f0<-1 (fields f0 to f7), anything in parentheses, or ! and an item: a negation.
+ * Behind an item * is a star, ; joins a sequence, + a sum; ! binds before *, * before ;, ; before +. Blanks and tabs are
+ * allowed between tokens, and != and <- are one token each.
  *
  * Answers. All eight numbers of `answer` are written; those not named below are 0. answer[0] is
  *   0 done, equal or accepted   1 left   2 right   3 both   4 neither   5 rejected   9 refused
  * and a refusal is 9, number, side (0 none, 1 left, 2 right), place:
  *    1 fields not 1 to 8                     2 a size is 0: field               3 product over 1,024: field
- *    4 policy lists unequal, empty, over 512 5 kind over 8: node                6 field, value, unused entry: node
+ *    4 policy lists unequal, empty, over 512 5 kind over 9: node                6 field, value, unused entry: node
  *    7 child not below parent: parent node   8 not a child exactly once: node   9 more than 31 dups: the 32nd
  *   10 row lists unequal or over 65,535, or work list under NETKAT_WORK
  *   11 rows full: rows lent                 12 trace list short: length needed
@@ -30,14 +34,15 @@
  *      of a value list with another length than there are fields, their number
  *   14 no token, or bad word: byte          15 over 64 open parentheses: byte  16 no legal text goes on so: byte
  *   17 too many nodes: nodes needed
- * On lists causes are tested in the order of their numbers, each over the whole input before the next, each of 4 to 9 on the left
- * policy and then on the right. On two texts 1 to 3 come first, then all of 14 to 17 on the left text, then all of them on the right
- * text, then 4 to 12 on what the texts say. A refusal leaves every list but `answer` as it was, but for what 11 and 12 leave in the row lists and that
+ *   19 a negation with a change, a dup or a star anywhere below it: the negation's node
+ * On lists causes are tested in the order of their numbers, but 19 between 8 and 9, each over the whole input before the next, each of
+ * 4 to 9 and 19 on the left policy and then on the right. On two texts 1 to 3 come first, then all of 14 to 17 on the left text, then all
+ * of them on the right text, then 4 to 12 and 19 on what the texts say. A refusal leaves every list but `answer` as it was, but for what 11 and 12 leave in the row lists and that
  * the work list is all 0 whenever 10 has passed.
  *
  * Stack. A call needs up to NETKAT_STACK bytes of stack, 4 MiB. Measured on policies as deep as they may be, in KiB:
  *   netkat_values 1, netkat_number 1, netkat_policy 3, netkat_policies 3, netkat_read 66,
- *   netkat_search 836, netkat_search_texts 839, netkat_evidence 836, netkat_trace 386
+ *   netkat_search 883, netkat_search_texts 888, netkat_evidence 891, netkat_trace 443
  * A thread with too little meets its guard page, and the process ends.
  *
  * Time. Small calls take microseconds, searches and checks of evidence mostly milliseconds. On the costliest policies a row may take
@@ -53,7 +58,7 @@
 extern "C" {
 #endif
 
-#define NETKAT_VERSION "0.2.0"
+#define NETKAT_VERSION "0.3.0"
 #define NETKAT_NUMBERS 8   /* numbers of an answer */
 #define NETKAT_NODES 512   /* most nodes of a policy */
 #define NETKAT_ROWS 65535  /* most rows of a table */
@@ -82,7 +87,7 @@ void netkat_number(const uint16_t *sizes, size_t sizes_length,
                    const uint16_t *values, size_t values_length,
                    uint64_t *answer);
 
-/* Are the lists a policy over fields of these sizes? Answers 0, number of dups; or refuses by 1 to 9, side 0. */
+/* Are the lists a policy over fields of these sizes? Answers 0, number of dups; or refuses by 1 to 9, 19, side 0. */
 void netkat_policy(const uint16_t *sizes, size_t sizes_length,
                    const uint8_t *kind, size_t kind_length,
                    const uint16_t *first, size_t first_length,
@@ -90,7 +95,7 @@ void netkat_policy(const uint16_t *sizes, size_t sizes_length,
                    uint64_t *answer);
 
 /* Are the lists two policies over fields of these sizes? Answers 0, number of dups of the left, of the right; or refuses by 1 to 9,
- * each of 4 to 9 with its side. */
+ * 19, each of 4 to 9 and 19 with its side. */
 void netkat_policies(const uint16_t *sizes, size_t sizes_length,
                      const uint8_t *left_kind, size_t left_kind_length,
                      const uint16_t *left_first, size_t left_first_length,
@@ -100,8 +105,9 @@ void netkat_policies(const uint16_t *sizes, size_t sizes_length,
                      const uint16_t *right_second, size_t right_second_length,
                      uint64_t *answer);
 
-/* Reads a policy's text, as "f0=0;(dup+f1<-2)*". Answers 0, number of nodes, which stand first in the three lists; or refuses
- * by 14 to 17, side 0. 17 names the nodes needed; over NETKAT_NODES no lists suffice. */
+/* Reads a policy's text, as "f0=0;(dup+f1<-2)*;!(f0=0;f1=2)". Answers 0, number of nodes, which stand first in the three lists; or
+ * refuses by 14 to 17, side 0. 17 names the nodes needed; over NETKAT_NODES no lists suffice. What is negated is not tested
+ * here. */
 void netkat_read(const uint8_t *text, size_t text_length,
                  uint8_t *kind, size_t kind_length,
                  uint16_t *first, size_t first_length,
@@ -113,7 +119,7 @@ void netkat_read(const uint8_t *text, size_t text_length,
  *   1 or 2, length, entering       the left or the right policy alone has a trace of this length from the entering
  *                                  packet, and no shorter trace tells the two apart; the trace stands first in the list
  *                                  `trace`; the entering packet is not part of it
- * or refuses by 1 to 12. Once 10 has passed, the row lists (packet, left, right, parent) hold the rows listed so far, of 11 the
+ * or refuses by 1 to 12, 19. Once 10 has passed, the row lists (packet, left, right, parent) hold the rows listed so far, of 11 the
  * first rows that fit, and the work list is all 0. `parent` holds the number of the row that listed the row, counted from
  * 0; of a starting row its own number. */
 void netkat_search(const uint16_t *sizes, size_t sizes_length,
@@ -132,7 +138,7 @@ void netkat_search(const uint16_t *sizes, size_t sizes_length,
                    uint64_t *answer);
 
 /* The same for two texts, which are read before anything is searched: refuses by 1 to 3, by 14 to 17 on the left text, then on
- * the right, both with side 0, then by 4 to 12. */
+ * the right, both with side 0, then by 4 to 12, 19. */
 void netkat_search_texts(const uint16_t *sizes, size_t sizes_length,
                          const uint8_t *left_text, size_t left_text_length,
                          const uint8_t *right_text, size_t right_text_length,
@@ -150,7 +156,7 @@ void netkat_search_texts(const uint16_t *sizes, size_t sizes_length,
  *   5, 2, packet                   (b): the starting row (packet, 1, 1) is missing
  *   5, 3, row                      (c): the outputs of the row differ
  *   5, 4, row, packet              (d): the row's next row at the packet is missing
- * or refuses by 1 to 10. Once 10 has passed, the work list is all 0. */
+ * or refuses by 1 to 10, 19. Once 10 has passed, the work list is all 0. */
 void netkat_evidence(const uint16_t *sizes, size_t sizes_length,
                      const uint8_t *left_kind, size_t left_kind_length,
                      const uint16_t *left_first, size_t left_first_length,
@@ -165,7 +171,7 @@ void netkat_evidence(const uint16_t *sizes, size_t sizes_length,
                      uint64_t *answer);
 
 /* Which of two policies has a trace from the entering packet? Answers 1 left, 2 right, 3 both, 4 neither; or refuses by 1 to 10,
- * 13. A trace of length 0 is neither's. Once 10 has passed, the work list is all 0. */
+ * 13, 19. A trace of length 0 is neither's. Once 10 has passed, the work list is all 0. */
 void netkat_trace(const uint16_t *sizes, size_t sizes_length,
                   const uint8_t *left_kind, size_t left_kind_length,
                   const uint16_t *left_first, size_t left_first_length,

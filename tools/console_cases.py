@@ -1,5 +1,6 @@
 #!/usr/bin/env python3
-"""Writes the input and the expected output of the program console_cases, worked out from document 01, "The program".
+"""Writes the input and the expected output of the program console_cases, worked out from document 01, "The program", and
+document 02, A.1.
 
     tools/console_cases.py            write crates/console_cases/stdin and stdout
     tools/console_cases.py --check    compare them with what is stored
@@ -8,9 +9,9 @@ import random
 import sys
 
 from calls import numbers_of
-from engine_cases import DROP, DUP, EQ, ID, NE, SEQ, SET, STAR, SUM, random_policy
+from engine_cases import DROP, DUP, EQ, ID, NE, NOT, SEQ, SET, STAR, SUM, random_policy
 from policy_cases import answer as legality
-from policy_cases import lists, size_refusal
+from policy_cases import lists, negated, size_refusal
 from search_cases import run
 from stored import store
 from text_cases import WORD, Refused, damaged, joined, parts_of, read, word_token
@@ -110,6 +111,20 @@ LONG = [
 ]
 
 
+NEGATIONS = [
+    ["2,2\n!(f0=0;f1=0)\nf0!=0+f1!=0"], ["2\ndup;!f0=0\n!f0=0;dup\n"], ["2\r\n!f0=0*\r\nid\r\n"], ["3\n(f0<-1;!f0=0)*\nid+f0<-1"],
+    ["3\n!f0=0\nf0=1"], ["3\nf0=1\n!f0=0"], ["2\ndup;!f0=0\ndup;f0=0"], ["4\n(!f0=3;dup;(f0=0;f0<-1+f0=1;f0<-2))*\n(f0!=3;dup)*"],
+    # 19 before 9 and behind 6; the texts first
+    ["2\n!(f0=0*)\nid"], ["2\nid\n!!dup"], ["2\n!(f0=0+dup)\n!dup"], ["2\n!f0<-1\nid"], ["2\ndup", (31, ";dup"), "\n!dup"],
+    ["2\n!dup\ndup", (31, "+dup")], ["2\n!dup\nf0=2"], ["2\nf0=2\n!dup"], ["2\n!dup\n!"], ["2\n!dup\n?"], ["0\n!dup\nid"],
+    ["2\nf0 ! = 0\nid"], ["2\nid\n!!=0"], ["2\n!\nid"], ["2\nid\nid!"], ["2\n!\r\r\nid"], ["!\nid\nid"], ["2!\nid\nid"],
+    # runs
+    ["2\n", (500, "!"), "f0=0\nf0=0"], ["2\n", (511, "!"), "f0=0\n!f0=0"], ["2\n", (500, "!"), "f0=0\n!f0=0"], ["2\nid\n", (513, "!"), "id"],
+    ["2\n", (512, "!"), "id\nid"], ["2\n", (511, "!"), "dup\nid"], ["2\n", (32761, "!"), "id\nid"], ["2\nid\n", (32763, "!")],
+    ["2\nid\n", (32764, "!")],
+]
+
+
 def text_of(nodes, at=-1):
     """A text of the policy."""
     kind, first, second = nodes[at]
@@ -119,6 +134,8 @@ def text_of(nodes, at=-1):
         return "f%d%s%d" % (first, {EQ: "=", NE: "!=", SET: "<-"}[kind], second)
     if kind == STAR:
         return "(%s)*" % text_of(nodes, first)
+    if kind == NOT:
+        return "!" + text_of(nodes, first)
     return "(%s%s%s)" % (text_of(nodes, first), {SUM: "+", SEQ: ";"}[kind], text_of(nodes, second))
 
 
@@ -140,6 +157,16 @@ def cases():
         left, right = (damaged(source, text) if count % 3 == 0 else text.encode() for text in (left, right))
         end = source.choice((b"\n", b"\r\n"))
         yield parts_of(",".join(map(str, sizes)).encode() + end + left + end + right + source.choice((b"", end)))
+    for parts in NEGATIONS:
+        yield parts_of(*parts)
+    source = random.Random(27)
+    for count in range(80):
+        sizes = source.choice(([1], [2], [3], [2, 2], [2, 3], [8], [2, 2, 2]))
+        nodes = [random_policy(source, sizes, source.choice((3, 6, 12))) for _ in range(2)]
+        left, right = (text_of(negated(source, policy, anything=count % 10 == 0)) for policy in nodes)
+        right = source.choice((left, text_of(negated(source, nodes[0])), "id;" + left, left + "+" + right, right))
+        left, right = (damaged(source, text) if count % 4 == 0 else text.encode() for text in (left, right))
+        yield parts_of("\n".join((",".join(map(str, sizes)), left.decode("latin-1"), right.decode("latin-1"))).encode("latin-1"))
 
 
 def main():
@@ -149,7 +176,7 @@ def main():
         answers.append(expected(joined(parts)))
     said = [answer.split(",")[:2] for answer in answers]
     assert {word for word, _ in said} == {"equal", "left", "right", "refused"}
-    assert {int(number) for word, number in said if word == "refused"} == {1, 2, 3, 6, 9, 11, 14, 15, 16, 17, 18}
+    assert {int(number) for word, number in said if word == "refused"} == {1, 2, 3, 6, 9, 11, 14, 15, 16, 17, 18, 19}
     store("console_cases", given, answers, sys.argv[1:] == ["--check"])
 
 

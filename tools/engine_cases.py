@@ -1,16 +1,18 @@
 #!/usr/bin/env python3
 """Writes the input and the expected output of the program engine_cases, worked out from document 01, "States and
-rows", by way of document 004's right spines.
+rows", and document 02, A.1, by way of document 004's right spines.
 
     tools/engine_cases.py            write crates/engine_cases/stdin and stdout
     tools/engine_cases.py --check    compare them with what is stored
 """
+import itertools
 import random
 import sys
 
+from policy_cases import negated, negations
 from stored import store
 
-DROP, ID, EQ, NE, SET, DUP, SUM, SEQ, STAR = range(9)
+DROP, ID, EQ, NE, SET, DUP, SUM, SEQ, STAR, NOT = range(10)
 sys.setrecursionlimit(10000)
 
 
@@ -31,7 +33,7 @@ def terms(nodes):
     for kind, a, b in nodes:
         if kind in (SUM, SEQ):
             made.append(Term(kind, made[a], made[b]))
-        elif kind == STAR:
+        elif kind in (STAR, NOT):
             made.append(Term(kind, made[a]))
         elif kind == DUP:
             dups += 1
@@ -97,6 +99,8 @@ class World:
                 if more == found:
                     return found
                 found = more
+        if term.kind == NOT:
+            return frozenset(p for p in packets if not self.passes(term.a, frozenset([p])))
         return self.action(term, packets)
 
     def reaches(self, term, packets):
@@ -238,13 +242,50 @@ def cases():
                 yield sizes, nodes, rng.choice((1, (2 << dups) - 1, rng.randrange(2 << dups))), rng.randrange(world.count)
 
 
+def negation_cases():
+    """Under stars and behind changes, beside dups, in remainders, and as deep as can be."""
+    yield [32, 32], negations(500, (EQ, 1, 31)), 1, 63
+    yield [33], negations(41, (EQ, 0, 32)), 1, 32
+    yield [33], negations(41, (EQ, 0, 32)), 1, 31
+    # the negation of a sum of all values but one, and of all
+    for size, tested in ((3, 2), (8, 8), (33, 7)):
+        nodes = [(EQ, 0, size - 1)]
+        for value in range(1, tested):
+            nodes += [(EQ, 0, size - 1 - value), (SUM, len(nodes) - 1, len(nodes))]
+        nodes.append((NOT, len(nodes) - 1, 0))
+        for packet in (0, size - 1):
+            yield [size], nodes, 1, packet
+    # (f0<-1;!f0=0)*, and with dups before and behind
+    star = [(SET, 0, 1), (EQ, 0, 0), (NOT, 1, 0), (SEQ, 0, 2), (STAR, 3, 0)]
+    recorded = [(DUP, 0, 0), (EQ, 0, 0), (NOT, 1, 0), (SEQ, 0, 2), (STAR, 3, 0), (DUP, 0, 0), (SEQ, 4, 5)]
+    for packet in range(3):
+        yield [3], star, 1, packet
+        for state in (1, 2, 7):
+            yield [3], recorded, state, packet
+    # many packets reach a negation at once, and each is asked by itself
+    many = [(SET, 0, 0)]
+    for value in (7, 31, 32, 33, 39):
+        many += [(SET, 0, value), (SUM, len(many) - 1, len(many))]
+    at = len(many)
+    tested = [(NE, 0, 7), (NE, 0, 33), (SEQ, at, at + 1), (NOT, at + 2, 0), (SEQ, at - 1, at + 3)]
+    yield [40], many + tested, 1, 3
+    yield [40], many + tested + [(DUP, 0, 0), (SEQ, at + 4, at + 5)], 1, 3
+    rng = random.Random(22)
+    for sizes in ([1], [2], [31], [32], [33], [2, 3], [3, 1, 4], [2, 2, 2, 2], [32, 32]):
+        world = World(sizes)
+        for length in (6, 12):
+            nodes = negated(rng, random_policy(rng, sizes, length))
+            dups = sum(kind == DUP for kind, _, _ in nodes)
+            yield sizes, nodes, rng.choice((1, (2 << dups) - 1, rng.randrange(2 << dups))), rng.randrange(world.count)
+
+
 def spread(xs):
     return "%d%s" % (len(xs), "".join(" %d" % x for x in xs))
 
 
 def main():
     given, expected = [], []
-    for sizes, nodes, state, packet in cases():
+    for sizes, nodes, state, packet in itertools.chain(cases(), negation_cases()):
         columns = list(zip(*nodes))
         given.append(" ".join([spread(sizes)] + [spread(c) for c in columns] + [str(state), str(packet)]))
         expected.append(step(sizes, nodes, state, packet))

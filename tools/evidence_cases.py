@@ -1,12 +1,12 @@
 """Tables checked, with what the evidence checker answers worked out from document 01, "Row rules for evidence" and "Causes,
-in the order tested"; output and next by way of document 004's right spines."""
+in the order tested", and document 02, A.1; output and next by way of document 004's right spines."""
 import itertools
 import random
 
 from calls import EVIDENCE, call, cleared, lists_of, numbers_of
-from engine_cases import DROP, DUP, EQ, ID, NE, SEQ, SET, STAR, SUM, World, random_policy, stepped, terms
+from engine_cases import DROP, DUP, EQ, ID, NE, NOT, SEQ, SET, STAR, SUM, World, random_policy, stepped, terms
 from policy_cases import answer as legality
-from policy_cases import lists
+from policy_cases import lists, negated, negations
 
 WORK = 16384
 RULES = ["a", "b", "c", "d"]
@@ -93,10 +93,13 @@ P5 = ([1], [(DUP, 0, 0), (STAR, 0, 0)], [(ID, 0, 0), (DUP, 0, 0), (DUP, 0, 0), (
 P5_ROWS = [(0, 1, 1), (0, 2, 2), (0, 2, 4)]
 P10 = ([1], [(DUP, 0, 0), (DROP, 0, 0), (SEQ, 0, 1)], [(DROP, 0, 0)])
 P10_ROWS = [(0, 1, 1), (0, 2, 0)]
+# dup;!f0=0 and !f0=0;dup
+NEGATED = ([2], [(DUP, 0, 0), (EQ, 0, 0), (NOT, 1, 0), (SEQ, 0, 2)], [(EQ, 0, 0), (NOT, 0, 0), (DUP, 0, 0), (SEQ, 1, 2)])
+NEGATED_ROWS = [(0, 1, 1), (1, 1, 1), (0, 2, 0), (1, 2, 2)]
 
 
 def shifted(nodes, by):
-    return [(k, a + by if k in (SUM, SEQ, STAR) else a, b + by if k in (SUM, SEQ) else b) for k, a, b in nodes]
+    return [(k, a + by if k in (SUM, SEQ, STAR, NOT) else a, b + by if k in (SUM, SEQ) else b) for k, a, b in nodes]
 
 
 def sum_of(a, b):
@@ -109,6 +112,10 @@ def seq_of(a, b):
 
 def starred(a):
     return a + [(STAR, len(a) - 1, 0)]
+
+
+def negation(a):
+    return a + [(NOT, len(a) - 1, 0)]
 
 
 def dups(count):
@@ -129,6 +136,31 @@ def equal_pairs(rng):
             yield sizes, sum_of(a, b), sum_of(b, a)
             yield sizes, starred(a), starred(starred(a))
             yield sizes, starred(a), sum_of([(ID, 0, 0)], seq_of(a, starred(a)))
+
+
+def equal_negations(rng):
+    """Pairs that are equal by the laws of tests, each beside policies that are not."""
+    for sizes in ([2], [3], [2, 3], [33]):
+        for length in (2, 4, 8):
+            a, b = ([node for node in negated(rng, tests(rng, sizes, length))] for _ in range(2))
+            rest = seq_of([(DUP, 0, 0)], random_policy(rng, sizes, 5))
+            for left, right in (
+                (negation(negation(a)), a),
+                (negation(sum_of(a, b)), seq_of(negation(a), negation(b))),
+                (negation(seq_of(a, b)), sum_of(negation(b), negation(a))),
+                (sum_of(a, negation(a)), [(ID, 0, 0)]),
+                (seq_of(negation(a), a), [(DROP, 0, 0)]),
+            ):
+                yield sizes, starred(seq_of(left, rest)), starred(seq_of(right, rest))
+
+
+def tests(rng, sizes, count):
+    """A random policy of tests alone."""
+    if count < 2:
+        field = rng.randrange(len(sizes))
+        return [rng.choice(((DROP, 0, 0), (ID, 0, 0), *[(kind, field, rng.randrange(sizes[field])) for kind in (EQ, NE)]))]
+    share = rng.randrange(1, count)
+    return rng.choice((sum_of, seq_of))(tests(rng, sizes, share), tests(rng, sizes, count - share))
 
 
 # ---- tables
@@ -214,17 +246,49 @@ def tables():
         few = [table for table in broken(rng, pair, rows, 120) if len(table) < 20]
         for table in rng.sample(few, min(3, len(few))):
             yield sizes, left, right, table
+    yield from negation_tables()
+
+
+def negation_tables():
+    sizes, left, right = NEGATED
+    yield sizes, left, right, NEGATED_ROWS
+    for at in range(4):
+        yield sizes, left, right, NEGATED_ROWS[:at] + NEGATED_ROWS[at + 1:]
+    # one side passes what the other drops
+    for row in ((1, 2, 0), (0, 0, 2), (0, 2, 2)):
+        yield sizes, left, right, NEGATED_ROWS + [row]
+        yield sizes, left, right, [row] + NEGATED_ROWS
+    yield sizes, left, negation(negation(left[1:2])) + shifted(left[:1], 3) + [(SEQ, 3, 2)], NEGATED_ROWS
+    yield sizes, [(EQ, 0, 0), (NOT, 0, 0)], [(EQ, 0, 1)], NEGATED_ROWS[:2]
+    yield [3], [(EQ, 0, 0), (NOT, 0, 0)], [(EQ, 0, 1)], [(0, 1, 1), (1, 1, 1), (2, 1, 1)]
+    many = [(alpha, 1, 1) for alpha in range(65)]
+    for count in (500, 501):
+        yield [65], negations(count, (EQ, 0, 64)), [(NE, 0, 64)] if count % 2 else [(EQ, 0, 64)], many
+        yield [65], negations(count, (EQ, 0, 64)), [(EQ, 0, 64)] if count % 2 else [(NE, 0, 64)], many
+    rng = random.Random(28)
+    pair = Pair(*NEGATED)
+    for table in broken(rng, pair, NEGATED_ROWS, 400):
+        yield sizes, left, right, table
+    for sizes, left, right in equal_negations(rng):
+        pair = Pair(sizes, left, right)
+        rows = pair.row_order(60)
+        if rows is None or len(rows) < 2 * pair.world.count or any(d > 31 for _, d in pair.sides):
+            continue
+        yield sizes, left, right, rows
+        few = [table for table in broken(rng, pair, rows, 60) if len(table) < 20]
+        for table in rng.sample(few, min(2, len(few))):
+            yield sizes, left, right, table
 
 
 def damaged():
-    """Causes 1 to 9, on either side and together with others, as sizes and two policies as lists."""
+    """The causes before 10, on either side and together with others, as sizes and two policies as lists."""
     sizes, left, right = P2
     good, also = lists(left), lists(right)
     for bad in ([], [2] * 9, [2, 0], [0, 2], [5, 205], [1024, 2], [32, 33]):
         yield bad, good, also
     wrong = [
         ([5], [0], []), ([], [], []), ([5, 1], [0], [0]),
-        ([9], [0], [0]), ([1, 200, 7], [0, 0, 0], [0, 0, 1]),
+        ([10], [0], [0]), ([1, 200, 7], [0, 0, 0], [0, 0, 1]),
         ([2], [1], [0]), ([4], [0], [2]), ([1], [0], [1]), ([5], [1], [0]),
         ([8], [0], [0]), ([1, 1, 7], [0, 0, 0], [0, 0, 2]),
         ([1, 1], [0, 0], [0, 0]), ([1, 6], [0, 0], [0, 0]),
@@ -237,6 +301,19 @@ def damaged():
     yield sizes, wrong[0], wrong[-1]
     yield sizes, wrong[3], wrong[4]
     yield [2, 0], wrong[0], wrong[-1]
+    # 19, which goes before 9 and behind 8
+    no_tests = [
+        lists([(DUP, 0, 0), (NOT, 0, 0), (NOT, 1, 0)]), lists([(EQ, 0, 0), (STAR, 0, 0), (NOT, 1, 0)]),
+        lists([(EQ, 0, 0), (DUP, 0, 0), (SUM, 0, 1), (NOT, 2, 0)]), lists([(SET, 0, 1), (NOT, 0, 0)]),
+    ]
+    for policy in no_tests:
+        yield sizes, policy, also
+        yield sizes, good, policy
+        yield sizes, wrong[-1], policy
+        yield sizes, policy, wrong[-1]
+        yield sizes, policy, wrong[-2]
+    yield sizes, no_tests[2], no_tests[1]
+    yield [2, 0], no_tests[0], also
 
 
 def cases():
@@ -291,3 +368,4 @@ def calls():
         assert (rule, *place) in places, (rule, place)
     assert Pair(*P2).row_order(9) == P2_ROWS and Pair(*P5).row_order(9) == P5_ROWS and Pair(*P10).row_order(9) == P10_ROWS
     assert Pair(*P2).check(P2_ROWS) == "accepted" and Pair(*P2).check(P2_ROWS[:3]) == "d 1 1"
+    assert Pair(*NEGATED).row_order(9) == NEGATED_ROWS and Pair(*NEGATED).check(NEGATED_ROWS) == "accepted"

@@ -1,10 +1,10 @@
 """Tests of one policy and of two, with what they answer worked out from document 01, "Policies" and "Causes, in the order
-tested". Two policies are tested by themselves, and by a search with no room at all: where they pass, it refuses by 10."""
+tested", and document 02, A.1. Two policies are tested by themselves, and by a search with no room at all: where they pass, it refuses by 10."""
 import random
 
 from calls import POLICIES, POLICY, SEARCH, call, lists_of, total
 
-DROP, ID, EQ, NE, SET, DUP, SUM, SEQ, STAR = range(9)
+DROP, ID, EQ, NE, SET, DUP, SUM, SEQ, STAR, NOT = range(10)
 
 
 def size_refusal(sizes):
@@ -23,7 +23,7 @@ def size_refusal(sizes):
 
 
 def children(kind, first, second):
-    return {SUM: [first, second], SEQ: [first, second], STAR: [first]}.get(kind, [])
+    return {SUM: [first, second], SEQ: [first, second], STAR: [first], NOT: [first]}.get(kind, [])
 
 
 def lengths(sizes, kind, first, second):
@@ -32,7 +32,7 @@ def lengths(sizes, kind, first, second):
 
 
 def kinds(sizes, kind, first, second):
-    return next((i for i, k in enumerate(kind) if k > 8), None)
+    return next((i for i, k in enumerate(kind) if k > 9), None)
 
 
 def entries(sizes, kind, first, second):
@@ -43,7 +43,7 @@ def entries(sizes, kind, first, second):
         elif k in (DROP, ID, DUP):
             if a or b:
                 return i
-        elif k == STAR and b:
+        elif k in (STAR, NOT) and b:
             return i
     return None
 
@@ -63,6 +63,19 @@ def once(sizes, kind, first, second):
     return next((i for i, n in enumerate(parents[:-1]) if n != 1), None)
 
 
+def negated_tests(sizes, kind, first, second):
+    """Of each negation, all that stands below it."""
+    for i, k in enumerate(kind):
+        found, open_now = set(), [i] if k == NOT else []
+        while open_now:
+            at = open_now.pop()
+            found.add(kind[at])
+            open_now += children(kind[at], first[at], second[at])
+        if found & {SET, DUP, STAR}:
+            return i
+    return None
+
+
 def few_dups(sizes, kind, first, second):
     places = [i for i, k in enumerate(kind) if k == DUP]
     return places[31] if len(places) > 31 else None
@@ -72,7 +85,8 @@ def answer(sizes, policies):
     refused = size_refusal(sizes)
     if refused:
         return "refused %d %d %d" % refused
-    for number, cause in ((4, lengths), (5, kinds), (6, entries), (7, below), (8, once), (9, few_dups)):
+    causes = ((4, lengths), (5, kinds), (6, entries), (7, below), (8, once), (19, negated_tests), (9, few_dups))
+    for number, cause in causes:
         for side, policy in enumerate(policies, 1):
             place = cause(sizes, *policy)
             if place is not None:
@@ -96,6 +110,11 @@ def chain(leaves, join=SEQ):
 def stars(count):
     """A leaf under stars, so many nodes in all."""
     return [(ID, 0, 0)] + [(STAR, i, 0) for i in range(count - 1)]
+
+
+def negations(count, leaf=(EQ, 0, 1)):
+    """A leaf under so many negations."""
+    return [leaf] + [(NOT, i, 0) for i in range(count)]
 
 
 def leaf(rng, sizes):
@@ -125,8 +144,22 @@ def legal(rng, sizes, leaves):
     return nodes
 
 
+def negated(rng, nodes, odds=0.3, anything=False):
+    """The policy with negations over some of its nodes, which are tests alone or anything."""
+    made, number, tests = [], [], []
+    for kind, a, b in nodes:
+        below = children(kind, a, b)
+        moved = [number[child] for child in below] + [a, b][len(below):]
+        made.append((kind, *moved))
+        tests.append(kind not in (SET, DUP, STAR) and all(tests[child] for child in below))
+        while (tests[-1] or anything) and rng.random() < odds:
+            made.append((NOT, len(made) - 1, 0))
+        number.append(len(made) - 1)
+    return made
+
+
 def damaged(rng, policy):
-    """One or two entries changed, or a list cut or grown."""
+    """One or two entries changed, or a list cut or grown. No kind becomes a negation: there are cases of these by themselves."""
     policy = tuple(list(column) for column in policy)
     for _ in range(rng.choice((1, 1, 2))):
         column = policy[rng.randrange(3)]
@@ -137,7 +170,8 @@ def damaged(rng, policy):
                 column.pop()
         elif column:
             top = 10 if column is policy[0] else rng.choice((3, len(column) + 2, 65536))
-            column[rng.randrange(len(column))] = rng.randrange(top)
+            entry = rng.randrange(top)
+            column[rng.randrange(len(column))] = 10 if column is policy[0] and entry == NOT else entry
     return policy
 
 
@@ -162,7 +196,7 @@ def edges():
     for kind in (DROP, ID, DUP):
         for a, b in ((0, 0), (1, 0), (0, 1)):
             yield sizes, [lists([(kind, a, b)])]
-    for kind in range(5, 12):
+    for kind in (5, 6, 7, 8, 10, 11, 12):
         yield sizes, [lists([(kind, 0, 0)])]
     yield sizes, [lists([(255, 0, 0)])]
     yield sizes, [([], [], [])]
@@ -176,10 +210,11 @@ def edges():
     # of two bad nodes the lower, of two causes the earlier, of two sides the left
     bad = {
         4: ([1], [0], []),
-        5: lists([(ID, 0, 0), (9, 0, 0), (10, 0, 0)]),
+        5: lists([(ID, 0, 0), (10, 0, 0), (11, 0, 0)]),
         6: lists([(EQ, 0, 1), (EQ, 0, 2), (EQ, 2, 0)]),
         7: lists([(ID, 0, 0), (STAR, 1, 0), (STAR, 2, 0)]),
         8: lists([(ID, 0, 0), (ID, 0, 0), (ID, 0, 0), (STAR, 2, 0)]),
+        19: lists([(DUP, 0, 0), (NOT, 0, 0), (NOT, 1, 0)]),
         9: lists(chain([(DUP, 0, 0)] * 32)),
     }
     for left in bad:
@@ -188,14 +223,73 @@ def edges():
         yield sizes, [good, bad[left]]
         for right in bad:
             yield sizes, [bad[left], bad[right]]
-    yield sizes, [lists([(9, 1, 1), (STAR, 5, 1), (EQ, 9, 9)])]
-    yield sizes, [lists([(STAR, 5, 1), (EQ, 9, 9), (9, 1, 1)])]
+    yield sizes, [lists([(10, 1, 1), (STAR, 5, 1), (EQ, 9, 9)])]
+    yield sizes, [lists([(STAR, 5, 1), (EQ, 9, 9), (10, 1, 1)])]
     yield sizes, [lists([(STAR, 5, 0), (EQ, 9, 9)])]
     # causes 1 to 3 come first
     for odd in ([], [1] * 9, [0], [2, 0], [1025], [32, 33], [5, 205], [1024], [1] * 8):
         yield odd, [good]
         yield odd, [bad[4]]
         yield odd, [good, bad[5]]
+
+
+def negation_edges():
+    """Kind 9: legal, each cause that speaks of it, and 19 by side and place."""
+    sizes = [2, 3]
+    good, dup, test = lists([(ID, 0, 0)]), (DUP, 0, 0), (EQ, 0, 1)
+    for leaf in ((DROP, 0, 0), (ID, 0, 0), test, (NE, 1, 2), (SET, 0, 1), dup, (EQ, 0, 2)):
+        yield sizes, [lists([leaf, (NOT, 0, 0)])]
+    for node in ((NOT, 0, 0), (NOT, 1, 0), (NOT, 0, 1), (NOT, 65535, 0)):
+        yield sizes, [lists([node])]
+        yield sizes, [lists([(ID, 0, 0), node])]
+    # a child twice, and no child at all
+    yield sizes, [lists([(ID, 0, 0), (NOT, 0, 0), (NOT, 0, 0), (SUM, 1, 2)])]
+    yield sizes, [lists([(ID, 0, 0), (ID, 0, 0), (NOT, 0, 0)])]
+    yield sizes, [lists([(ID, 0, 0), (NOT, 0, 0), (ID, 0, 0)])]
+    # sums, sequences and negations below
+    for join in (SUM, SEQ):
+        for leaf in (test, dup, (SET, 1, 0)):
+            yield sizes, [lists([test, leaf, (join, 0, 1), (NOT, 2, 0)])]
+            yield sizes, [lists([leaf, test, (join, 0, 1), (NOT, 2, 0)])]
+            yield sizes, [lists([leaf, (NOT, 0, 0), test, (join, 1, 2), (NOT, 3, 0)])]
+            yield sizes, [lists([test, (NOT, 0, 0), leaf, (join, 1, 2), (NOT, 3, 0)])]
+            yield sizes, [lists([test, test, leaf, (join, 1, 2), (SUM, 0, 3), test, (SEQ, 4, 5), (NOT, 6, 0)])]
+    yield sizes, [lists([test, (STAR, 0, 0), (NOT, 1, 0)])]
+    yield sizes, [lists([test, (NOT, 0, 0), (STAR, 1, 0)])]
+    yield sizes, [lists([test, (NOT, 0, 0), (STAR, 1, 0), (NOT, 2, 0)])]
+    yield sizes, [lists([dup, (NOT, 0, 0), (NOT, 1, 0)])]
+    yield sizes, [lists([test, dup, (SUM, 0, 1), (NOT, 2, 0)])]
+    # dups beside a negation, and of two negations the lower number
+    yield sizes, [lists([test, (NOT, 0, 0), dup, (SEQ, 1, 2)])]
+    yield sizes, [lists([dup, test, (NOT, 1, 0), (SEQ, 0, 2), (STAR, 3, 0)])]
+    yield sizes, [lists([dup, test, (NOT, 1, 0), (NOT, 0, 0), (SUM, 2, 3)])]
+    yield sizes, [lists([dup, (SET, 0, 0), (NOT, 1, 0), (NOT, 0, 0), (SUM, 3, 2)])]
+    # as deep as can be
+    for count in (1, 2, 499, 500, 511, 512):
+        yield sizes, [lists(negations(count))]
+        yield sizes, [lists(negations(count, dup))]
+    yield sizes, [lists(negations(500)), lists(negations(500, (SET, 0, 0)))]
+    # 19 goes before 9 and behind 8, on either side
+    many = lists(chain([dup] * 32))
+    wrong = {place: lists([test] * (place - 1) + [dup, (NOT, place - 1, 0)] + [(SUM, i, place + i) for i in range(place - 1)])
+             for place in (1, 2, 4)}
+    apart = lists([(ID, 0, 0), (ID, 0, 0)])
+    for one in wrong.values():
+        yield sizes, [one]
+        yield sizes, [one, good]
+        yield sizes, [good, one]
+        yield sizes, [many, one]
+        yield sizes, [one, many]
+        yield sizes, [one, apart]
+        yield sizes, [apart, one]
+        for two in wrong.values():
+            yield sizes, [one, two]
+    both = lists(chain([dup] * 32) + [(NOT, 62, 0)])
+    yield sizes, [both]
+    yield sizes, [many, both]
+    yield sizes, [both, many]
+    for odd in ([], [1] * 9, [0], [2, 0], [1025]):
+        yield odd, [wrong[1]]
 
 
 def cases():
@@ -212,6 +306,16 @@ def cases():
     for _ in range(8):
         sizes = [4, 4]
         yield sizes, [lists(legal(rng, sizes, 40))]
+    yield from negation_edges()
+    rng = random.Random(19)
+    for _ in range(60):
+        sizes = [rng.randint(1, 4) for _ in range(rng.randint(1, 3))]
+        one, two = (legal(rng, sizes, rng.randint(1, 7)) for _ in range(2))
+        yield sizes, [lists(negated(rng, one))]
+        yield sizes, [lists(negated(rng, one, 0.2, anything=True))]
+        yield sizes, [lists(negated(rng, one)), lists(negated(rng, two, 0.2, anything=True))]
+        yield sizes, [lists(negated(rng, one, 0.2, anything=True)), lists(negated(rng, two, 0.2, anything=True))]
+        yield sizes, [damaged(rng, lists(negated(rng, one, 0.2, anything=True))), damaged(rng, lists(negated(rng, two)))]
 
 
 def calls():

@@ -1,12 +1,14 @@
 """Searches, with what they answer and leave in the lists worked out from document 01, "States and rows" and "Causes, in the
-order tested"; output and next by way of document 004's right spines."""
+order tested", and document 02, A.1; output and next by way of document 004's right spines."""
+import itertools
 import random
 
 from calls import SEARCH, call, cleared, lists_of, total
-from engine_cases import DROP, DUP, EQ, ID, SET, STAR, World, random_policy, stepped, terms
-from evidence_cases import P2, P5, P10, damaged, dups, equal_pairs, seq_of, starred, sum_of
+from engine_cases import DROP, DUP, EQ, ID, NE, SET, STAR, World, random_policy, stepped, terms
+from evidence_cases import NEGATED, NEGATED_ROWS, P2, P5, P10, damaged, dups, equal_negations, equal_pairs
+from evidence_cases import negation, seq_of, starred, sum_of
 from policy_cases import answer as legality
-from policy_cases import lists
+from policy_cases import lists, negated, negations
 
 WORK = 16384
 
@@ -91,6 +93,38 @@ PAIRS = {
 }
 
 
+def other(field, value):
+    return [(NE, field, value)]
+
+
+def starts(count):
+    return [(alpha, 1, 1) for alpha in range(count)]
+
+
+# sizes, policies, answer, rows
+NEGATIONS = [
+    ([2, 2], negation(seq_of(test(0, 0), test(1, 0))), sum_of(other(0, 0), other(1, 0)), "equal 4", starts(4)),
+    (*NEGATED, "equal 4", NEGATED_ROWS),
+    ([2], starred(negation(test(0, 0))), ONE, "equal 2", starts(2)),
+    ([3], starred(seq_of(change(0, 1), negation(test(0, 0)))), sum_of(ONE, change(0, 1)), "equal 3", starts(3)),
+    # two packets come to a negation that one of them passes
+    ([3], seq_of(sum_of(change(0, 0), change(0, 1)), negation(test(0, 0))), change(0, 1), "equal 3", starts(3)),
+    ([2], negation(starred(test(0, 0))), ONE, "refused 19 1 2", []),
+    ([2], ONE, negation(negation(RECORD)), "refused 19 2 1", []),
+    ([2], negation(sum_of(test(0, 0), RECORD)), ONE, "refused 19 1 3", []),
+    ([2], dups(32), negation(RECORD), "refused 19 2 1", []),
+    ([2], negation(change(0, 1)), dups(32), "refused 19 1 1", []),
+    ([33], negations(500, (EQ, 0, 3)), test(0, 3), "equal 33", starts(33)),
+    ([33], negations(511, (EQ, 0, 3)), other(0, 3), "equal 33", starts(33)),
+    ([33], negations(500, (EQ, 0, 3)), negation(test(0, 3)), "right 1 0", starts(33)),
+    ([3], negation(test(0, 0)), test(0, 1), "left 1 2", starts(3)),
+    ([2], negation(test(0, 0)), test(0, 0), "right 1 0", starts(2)),
+    ([2], negation(NONE), ONE, "equal 2", starts(2)),
+    ([2], negation(ONE), NONE, "equal 2", starts(2)),
+    ([65], negation(negation(test(0, 64))), negation(other(0, 64)), "equal 65", starts(65)),
+]
+
+
 def counter(digits, base):
     """From packet 0, one up and recorded, again and again, until all digits are the highest."""
     total = None
@@ -165,10 +199,40 @@ def cases():
         yield sizes, (lists(left), lists(right)), [rng.choice((7, 40, 400))] * 4 + [rng.choice((1, 8, 40)), WORK]
 
 
+def negation_cases():
+    for sizes, left, right, said, rows in NEGATIONS:
+        pair = (lists(left), lists(right))
+        if said.startswith("refused"):
+            assert legality(sizes, pair) == said
+        else:
+            found = run(sizes, pair, 99, 9)
+            assert (found[0], [row[:3] for row in found[1]]) == (said, rows)
+        for policies in (pair, pair[::-1]):
+            yield sizes, policies, [len(rows) + 2] * 4 + [9, WORK]
+        yield sizes, pair, [len(rows) + 2] * 4 + [0, WORK]
+    yield [32, 32], (lists(negations(500, (EQ, 1, 31))), lists(test(1, 31))), [1024] * 4 + [0, WORK]
+    # the lists are full, or 10 refuses them; 19 goes before it
+    sizes, left, right = NEGATED
+    for rows in range(5):
+        yield sizes, (lists(left), lists(right)), [rows] * 4 + [4, WORK]
+    for policies in ((lists(left), lists(right)), (lists(negation(RECORD)), lists(right))):
+        yield sizes, policies, [4, 4, 4, 5, 4, WORK]
+        yield sizes, policies, [4] * 5 + [WORK - 1]
+    rng = random.Random(36)
+    for sizes, left, right in equal_negations(rng):
+        yield sizes, (lists(left), lists(right)), [300] * 4 + [300, WORK]
+    for count in range(60):
+        sizes = rng.choice(([1], [2], [3], [2, 2], [5], [33]))
+        left, right = (negated(rng, random_policy(rng, sizes, rng.choice((3, 6, 12, 20)))) for _ in range(2))
+        if count % 2:
+            right = sum_of(left, negated(rng, random_policy(rng, sizes, 4)))
+        yield sizes, (lists(left), lists(right)), [rng.choice((7, 40, 400))] * 4 + [rng.choice((1, 8, 40)), WORK]
+
+
 def calls():
     found = set()
-    for sizes, policies, lengths in cases():
+    for sizes, policies, lengths in itertools.chain(cases(), negation_cases()):
         said, sums = answer(sizes, policies, lengths)
         found.add(" ".join(said.split()[:2]) if said.startswith("refused") else said.split()[0])
         yield call(SEARCH, lists_of(sizes, *policies) + lengths, said, *sums)
-    assert found == {"equal", "left", "right"} | {"refused %d" % number for number in range(1, 13)}
+    assert found == {"equal", "left", "right"} | {"refused %d" % number for number in (*range(1, 13), 19)}

@@ -1,8 +1,8 @@
 /* How much stack each call takes, in KiB, rounded up: on a thread whose stack was painted before, on inputs made to go deep and
  * to touch every large local. Prints a line for each call; fails if one takes more than NETKAT_STACK, less a page.
  *
- * The inputs: policies as deep as 512 nodes allow (nested stars, sequences that nest to either side, sums, and mixtures, over a dup or
- * a change), on 1,024 packets; tables and traces of these; the deepest parentheses. What lies below the frame that makes
+ * The inputs: policies as deep as 512 nodes allow (nested stars and negations, sequences that nest to either side, sums, and mixtures,
+ * over a dup, a change or a test), on 1,024 packets; tables and traces of these; the deepest parentheses. What lies below the frame that makes
  * the call is counted, so that of the smallest calls the thread's own end shows. Each call runs once unpainted, so that what
  * the loader does at a first call is not counted. */
 #define _GNU_SOURCE
@@ -48,13 +48,19 @@ static size_t leaf(struct policy *p, size_t i) {
     return node(p, i % 3 == 1 ? 4 : 3, i % FIELDS, (i / FIELDS) % 2);
 }
 
+/* a leaf that may be negated */
+static size_t test(struct policy *p, size_t i) {
+    return node(p, i % 2 ? 2 : 3, i % FIELDS, (i / FIELDS) % 2);
+}
+
 /* shapes: 0 nested stars over a dup, 1 over id, 2 sequences that nest to the left, 3 to the right, 4 sums, 5 a star of a sequence of the
- * same, 6 a star of a sum of the same, 7 a sequence of a leaf and a star of the same */
-#define SHAPES 8
+ * same, 6 a star of a sum of the same, 7 a sequence of a leaf and a star of the same, 8 nested negations, 9 a negation of a sequence of
+ * the same, 10 a negation of a sum of the same */
+#define SHAPES 11
 static void build(struct policy *p, int shape) {
     memset(p, 0, sizeof *p);
-    size_t top = shape == 1 ? node(p, 1, 0, 0) : node(p, 5, 0, 0);
-    for (size_t i = 1; p->nodes + (shape < 2 ? 1 : 3) <= NETKAT_NODES; i++) {
+    size_t top = shape > 7 ? node(p, 2, 0, 0) : shape == 1 ? node(p, 1, 0, 0) : node(p, 5, 0, 0);
+    for (size_t i = 1; p->nodes + (shape < 2 || shape == 8 ? 1 : 3) <= NETKAT_NODES; i++) {
         switch (shape) {
         case 0: case 1: top = node(p, 8, top, 0); break;
         case 2: { size_t l = leaf(p, i); top = node(p, 7, top, l); break; }
@@ -62,6 +68,9 @@ static void build(struct policy *p, int shape) {
         case 4: { size_t l = leaf(p, i); top = node(p, 6, l, top); break; }
         case 5: { size_t l = leaf(p, i); top = node(p, 8, node(p, 7, top, l), 0); break; }
         case 6: { size_t l = leaf(p, i); top = node(p, 8, node(p, 6, top, l), 0); break; }
+        case 8: top = node(p, 9, top, 0); break;
+        case 9: { size_t l = test(p, i); top = node(p, 9, node(p, 7, l, top), 0); break; }
+        case 10: { size_t l = test(p, i); top = node(p, 9, node(p, 6, l, top), 0); break; }
         default: { size_t l = leaf(p, i); top = node(p, 7, l, node(p, 8, top, 0)); break; }
         }
     }
@@ -160,6 +169,14 @@ int main(void) {
                 if (calls[c].call == reads || calls[c].call == texts) measure(&calls[c]);
         }
     }
+    /* and with negations before each parenthesis, and a run of them inside */
+    text_length = 0;
+    say("!(", 64);
+    say("!", 512 - 65);
+    say("f0=0", 1);
+    say(")", 64);
+    for (size_t c = 0; c < CALLS; c++)
+        if (calls[c].call == reads || calls[c].call == texts) measure(&calls[c]);
     int over = 0;
     for (size_t i = 0; i < CALLS; i++) {
         printf("%s %zu\n", calls[i].name, (calls[i].most + 1023) / 1024);

@@ -2,8 +2,12 @@
 import pathlib
 import sys
 
+# bytes that such a program reads
+MOST = 65536
+
 
 def store(crate, given, expected, check):
+    assert sum(len(line) + 1 for line in given) <= MOST, "more than the program reads"
     folder = pathlib.Path(__file__).resolve().parent.parent / "crates" / crate
     for name, lines in (("stdin", given), ("stdout", expected)):
         text = "".join(line + "\n" for line in lines)

@@ -1,11 +1,11 @@
-"""Texts read, with what the reader answers worked out from document 01, "Text" and causes 14 to 17."""
+"""Texts read, with what the reader answers worked out from document 01, "Text" and causes 14 to 17, and document 02, A.1."""
 import random
 import string
 
 from calls import READ, call, numbers_of, total
 
 WORD = set((string.ascii_letters + string.digits).encode())
-SINGLE = {ord(c): c for c in "=+;*()"}
+SINGLE = {ord(c): c for c in "=+;*()!"}
 
 
 class Refused(Exception):
@@ -104,6 +104,16 @@ class Reader:
         return child
 
     def item(self):
+        run = 0
+        while self.peek() == "!":
+            self.take("!")
+            run += 1
+        child = self.unnegated()
+        for _ in range(run):
+            child = self.node(9, child, 0)
+        return child
+
+    def unnegated(self):
         name, value = self.take("drop", "id", "dup", "field", "(")
         if name == "(":
             inside = self.sum()
@@ -167,6 +177,20 @@ def all_cases():
     source = random.Random(1)
     for _ in range(150):
         yield parts_of(damaged(source, random_text(source, 3))), (12, 12, 12)
+    for text in NEGATIONS:
+        yield parts_of(text), (9, 9, 9)
+    text = "!(f0=0;!f1!=1)*"
+    nodes = len(read(text.encode(), (99, 99, 99)))
+    for short in range(3):
+        for less in (0, 1, nodes):
+            lengths = [nodes + 2] * 3
+            lengths[short] = nodes - less
+            yield parts_of(text), tuple(lengths)
+    for parts, length in LONG_NEGATIONS:
+        yield parts_of(*parts), (length, length, length)
+    source = random.Random(9)
+    for _ in range(100):
+        yield parts_of(damaged(source, negated(source, random_text(source, 3)))), (12, 12, 12)
 
 
 def random_text(source, deep):
@@ -181,6 +205,17 @@ def random_text(source, deep):
         field = "f%d" % source.randrange(8)
         return field + blank(source) + source.choice(["=", "!=", "<-"]) + blank(source) + str(source.choice([0, 1, 7, 10, 65535]))
     return source.choice(["drop", "id", "dup"])
+
+
+def negated(source, text):
+    """The text with negations before some of its items."""
+    made = ""
+    for at, mark in enumerate(text):
+        starts = mark == "(" or mark.isalpha() and (at == 0 or not text[at - 1].isalnum())
+        while starts and source.random() < 0.3:
+            made += source.choice(["!", "!", "! ", " !"])
+        made += mark
+    return made
 
 
 def blank(source):
@@ -228,6 +263,22 @@ TEXTS = [
     ")?", "(?", "id;;id?", "id id 00",
 ]
 
+NEGATIONS = [
+    # before each item, and before it alone
+    "!drop", "!id", "!dup", "!f0=0", "!f1!=2", "!f0<-1", "!(id)", "!(f0=0;f1=0)", "!f0=0*", "!(f0=0*)", "(!f0=0)*", "!f0=0**",
+    "!id;dup", "!id+dup", "id;!dup", "id+!dup", "!id;!dup+!drop", "!(id+dup;drop)*", "((!id))", "(!(id))",
+    # one after the other
+    "!!id", "!!!f0=0", "!(!id)", "!(!(!id))", "!!(f0=0+f1=0)", "!!dup", "!(f0=0+dup)", "!(id;!(drop+!f0=0))",
+    # blanks, and the mark of two bytes beside it
+    "! id", "!\tid", " ! ! id ", "! f0 != 0", "!f0!=0", "!f0 !=0", "!!f0!=0", "! (\tid )", "dup;! f0=0", "!f0=0;dup",
+    # what no text goes on with
+    "!", "!!", "! ", "!\t!", "!=", "!=0", "!!=", "!!=0", "!!!=0", "! =0", "!=id", "!+id", "!;id", "!*", "!*id", "!)", "(!)", "(!", "!(",
+    "!()", "!(id", "!0", "!f0", "!f0=", "!f0!", "!f0 ! = 0", "f0 !", "f0 !0", "f0! = 0", "f0!!=0", "f0=!0", "f0!=!0", "f0<-!0", "id!", "id !",
+    "id!id", "id !id", "id!=0", "(id)!id", "(id)!", "id*!", "id*!id", "id;!", "id;!;id", "id+!+id", "id;!*", "!id id", "!id)",
+    # 14 before 16
+    "!?", "?!", "!!=?", "!;?", "!00", "!idd", "!f8=0", b"!\x80", b"!\0id", "!\nid", "id!\r", "!<", "!-", "<!-0",
+]
+
 LONG = [
     ([(63, "("), "id", (63, ")")], 3),
     ([(64, "("), "id", (64, ")")], 3),
@@ -261,7 +312,37 @@ LONG = [
     ([(4096, "( ")], 5),
     (["dup", (8189, "*")], 5),
     (["dup", (8188, "*"), "!"], 5),
+    (["dup", (8188, "*"), "?"], 5),
     ([(64, "("), "id", (64, ")"), (8061, " "), "?"], 5),
+]
+
+LONG_NEGATIONS = [
+    ([(500, "!"), "f0=0"], 512),
+    ([(510, "!"), "id"], 511),
+    ([(511, "!"), "id"], 512),
+    ([(511, "!"), "id"], 511),
+    ([(512, "!"), "id"], 600),
+    ([(513, "!"), "id"], 600),
+    ([(255, "!"), "(", (255, "!"), "dup)"], 600),
+    ([(256, "!"), "id", (255, "*")], 512),
+    ([(256, "!"), "id", (256, "*")], 600),
+    ([(513, "!")], 600),
+    ([(513, "!"), "=0"], 600),
+    ([(513, "!"), ";id"], 600),
+    ([(513, "!"), "id;"], 600),
+    # parentheses count as before
+    ([(63, "!("), "id", (63, ")")], 99),
+    ([(64, "!("), "id", (64, ")")], 99),
+    ([(65, "!("), "id", (65, ")")], 99),
+    ([(65, "!(")], 99),
+    # as long as the program that runs them holds
+    ([(8190, "!"), "id"], 5),
+    ([(8191, "!"), "?"], 5),
+    ([(8192, "!")], 5),
+    ([(8190, "!"), "=0"], 5),
+    ([(4095, "! "), "id"], 5),
+    ([(1365, "!id;"), "!id", (2729, "*")], 5),
+    ([(2047, "!id+"), "!id"], 5),
 ]
 
 

@@ -1,10 +1,10 @@
-"""Traces checked, with what the trace checker answers worked out from document 01 by a reading of document 000's Figure 1: which
+"""Traces checked, with what the trace checker answers worked out from documents 01 and 02 (A.1) by a reading of document 000's Figure 1: which
 part of a trace each node of a policy can have written, and, for short traces, the sets of traces themselves."""
 import random
 import sys
 
 from calls import TRACE, call, cleared, lists_of, numbers_of
-from policy_cases import DROP, ID, EQ, NE, SET, DUP, SUM, SEQ, STAR, chain, legal, lists, stars
+from policy_cases import DROP, ID, EQ, NE, SET, DUP, SUM, SEQ, STAR, NOT, chain, legal, lists, negated, negations, stars
 from policy_cases import answer as legality
 
 sys.setrecursionlimit(10000)
@@ -54,6 +54,9 @@ def traces(packets, nodes, n, packet, most):
         return traces(packets, nodes, a, packet, most) | traces(packets, nodes, b, packet, most)
     if kind == SEQ:
         return joined(traces(packets, nodes, a, packet, most), lambda p, used: traces(packets, nodes, b, p, most - used))
+    if kind == NOT:
+        # the child's traces, which are tests alone, have one packet
+        return set() if traces(packets, nodes, a, packet, most) else {(packet,)}
     power = {(packet,)}
     found = set(power)
     while power:
@@ -92,6 +95,8 @@ class Written:
             return self.ends(a, packet, place) | self.ends(b, packet, place)
         if kind == SEQ:
             return frozenset(e for p, i in self.ends(a, packet, place) for e in self.ends(b, p, i))
+        if kind == NOT:
+            return frozenset() if self.ends(a, packet, place) else frozenset([(packet, place)])
         found, new = set(), [(packet, place)]
         while new:
             end = new.pop()
@@ -148,12 +153,16 @@ drop, one, dup = leaf(DROP), leaf(ID), leaf(DUP)
 
 def join(kind, p, q):
     n = len(p)
-    moved = [(k, a + n if k in (SUM, SEQ, STAR) else a, b + n if k in (SUM, SEQ) else b) for k, a, b in q]
+    moved = [(k, a + n if k in (SUM, SEQ, STAR, NOT) else a, b + n if k in (SUM, SEQ) else b) for k, a, b in q]
     return p + moved + [(kind, n - 1, n + len(q) - 1)]
 
 
 def star(p):
     return p + [(STAR, len(p) - 1, 0)]
+
+
+def no(p):
+    return p + [(NOT, len(p) - 1, 0)]
 
 
 def pairs():
@@ -208,10 +217,10 @@ def work_lists():
 
 
 def refusals():
-    """1 to 10, each with the causes behind it: a work list too short or long enough, a packet out of range."""
+    """Up to 10, each with the causes behind it: a work list too short or long enough, a packet out of range."""
     good = lists(one)
     bad = [lists([]), ([1], [0], [])]
-    bad += [lists(leaf(*node)) for node in ((9,), (ID, 0, 1), (EQ, 0, 2), (EQ, 1, 0), (STAR, 0, 0))]
+    bad += [lists(leaf(*node)) for node in ((10,), (ID, 0, 1), (EQ, 0, 2), (EQ, 1, 0), (STAR, 0, 0))]
     bad += [lists(one + one), lists(one + [(SUM, 0, 0)]), lists(chain(dup * 32))]
     for words in (WORDS - 1, WORDS):
         for sizes in ([], [2] * 9, [2, 0], [0] * 9, [5, 205], [1024, 2, 0]):
@@ -273,8 +282,57 @@ def random_pairs():
                 yield Case(sizes, left, right, entering, trace)
 
 
+def negation_pairs():
+    """Negations before and behind a dup, in a star, as deep as can be; and 19 with the causes around it."""
+    zero = leaf(EQ, 0, 0)
+    two = join(SEQ, dup, no(zero)), join(SEQ, no(zero), dup)
+    for entering in (0, 1):
+        for trace in ([entering], [0, 0], [1, 1], [0, 1], [1, 1, 1]):
+            yield Case([2], *two, entering, trace)
+            yield Case([2], two[0], join(SEQ, no(no(zero)), dup), entering, trace)
+            yield Case([2], star(two[0]), star(join(SUM, two[1], dup)), entering, trace)
+    both = no(join(SEQ, zero, leaf(EQ, 1, 0))), join(SUM, leaf(NE, 0, 0), leaf(NE, 1, 0))
+    for packet in range(4):
+        yield Case([2, 2], *both, packet, [packet])
+        yield Case([2, 2], both[0], no(both[1]), packet, [packet])
+    turned = star(join(SEQ, leaf(SET, 0, 1), no(zero))), join(SUM, one, leaf(SET, 0, 1))
+    for entering in range(3):
+        for last in range(3):
+            yield Case([3], *turned, entering, [last])
+    for count in (500, 511):
+        for packet in (3, 4):
+            yield Case([1024], negations(count, (EQ, 0, 3)), leaf(EQ, 0, 3), packet, [packet])
+    yield Case([5], star(join(SEQ, no(leaf(EQ, 0, 4)), dup)), star(dup), 3, [3], times=65535, part=[3])
+    yield Case([5], star(join(SEQ, no(leaf(EQ, 0, 4)), dup)), star(dup), 4, [4], times=500, part=[4])
+    good, many = lists(one), lists(chain(dup * 32))
+    bad = [lists(no(p)) for p in (no(dup), star(zero), join(SUM, zero, dup), leaf(SET, 0, 1))]
+    for words in (WORDS - 1, WORDS):
+        for policy in bad:
+            yield Case([2], policy, good, 65535, [65535], words)
+            yield Case([2], good, policy, 65535, [65535], words)
+            yield Case([2], many, policy, 0, [0], words)
+            yield Case([2], policy, many, 0, [0], words)
+            yield Case([2], policy, lists(one + one), 0, [0], words)
+        yield Case([2], bad[2], bad[1], 0, [0], words)
+        yield Case([2, 0], bad[0], bad[1], 0, [0], words)
+    rng = random.Random(14)
+    for sizes in ([1], [2], [3], [2, 2], [2, 3], [33]):
+        packets = Packets(sizes)
+        for leaves in (2, 3, 4, 7):
+            for _ in range(3):
+                left, right = (negated(rng, legal(rng, sizes, leaves)) for _ in range(2))
+                entering = rng.randrange(packets.count)
+                short = packets.count <= 6 and leaves <= 4
+                for p in (left, right) if short else ():
+                    some = sorted(traces(packets, p, len(p) - 1, entering, 4))
+                    if some:
+                        yield Case(sizes, left, right, entering, rng.choice(some))
+                yield Case(sizes, left, right, entering, [entering] * rng.randrange(4) + [rng.randrange(packets.count)])
+
+
 def calls():
-    cases = [c.call() for group in (pairs, out_of_range, work_lists, refusals, long, random_pairs) for c in group()]
+    groups = (pairs, out_of_range, work_lists, refusals, long, random_pairs, negation_pairs)
+    cases = [c.call() for group in groups for c in group()]
     for word in ("left", "right", "both", "neither"):
         assert sum(said == word for said, _ in cases) > 20, word
     return [stored for _, stored in cases]

@@ -338,11 +338,15 @@ const WHAT: &str = "\
   with a leak from one to the other.
 - heavy pairs: 500 nested stars; 31 dups and 1,024 packets, each next to each; 31 dups under one star, each followed by a
   change or a test of its own, against the summands in reverse order; a window over recorded packets.
+- negations: 48 packets of 1,024 blocked, by the negation of their sum against the same spelled out with `!=`; a list of 40
+  rules of which the first that matches counts, with the pattern negated before the rest of the list against the same
+  spelled out; 500 and 501 negations of one test against the test that they are.
 - small: searches of one to ten rows, with one field and 16 rows lent, and one that ends at the first row, on policies of
   several hundred nodes. A call takes microseconds: some hundred are timed together, and the time is that of one.
 - rows: cycles (271 packets, 241 pairs of states, one next row a row) and many states (two packets, two next rows a
   row), with 1,000 to 65,535 rows lent. Where the lists are too short the answer is refusal 11.
-- evidence: a table of 65,535 rows in row order, reversed, shuffled, and with its last row missing; tables of 10, 364 and
+- evidence: a table of 65,535 rows in row order, reversed, shuffled, and with its last row missing; the tables of blocked
+  packets and of the list of rules; tables of 10, 364 and
   65,535 rows that are rejected at their first row, the two shorter ones of policies of several hundred nodes; then tables of
   65,535 rows as a stranger may send them: nearly all rows at one packet of 1,024; the same chosen to share a bucket of the
   library's index, and the bits by which its tree branches first; one such row repeated, after others that a lookup passes;
@@ -350,7 +354,7 @@ const WHAT: &str = "\
 - traces: checks of a trace of one packet on a ring of 14, of the trace that the search finds for the leak in a tree of 15,
   and of the 256 packets of a counter of eight bits, unrolled once and twice; the last with a test that one of the two fails.
 - text: one call of the reader on 1,048,576 bytes. A legal text has at most 512 nodes, so the legal one is mostly
-  parentheses and blanks; the others are refused at their end.
+  parentheses and blanks; the others are refused at their end. The last is a run of `!`.
 - forty checks: texts checked one after the other, with 4,096 rows lent: document 01's pairs, the networks, and random
   pairs.
 - random sweep: pairs of random policies from a fixed seed, made as for the comparison of library and second implementation

@@ -45,6 +45,7 @@ fn evidence(name: &str, pair: &Pair, rows: &[Row]) -> Benchmark {
 /// All tables, the friendly one first.
 pub fn benchmarks(extent: Extent) -> Vec<Benchmark> {
     let mut all = orders();
+    all.extend(negations());
     all.extend(rejected_at_first());
     all.extend(stars(extent));
     all.push(costly_repeats(extent));
@@ -70,6 +71,14 @@ fn orders() -> Vec<Benchmark> {
         evidence("shuffled", &pair, &shuffled),
         evidence("rejected at its last row", &pair, &lacking),
     ]
+}
+
+/// The tables of policies with negations, in row order.
+fn negations() -> impl Iterator<Item = Benchmark> {
+    heavy::negations().into_iter().take(2).map(|pair| {
+        let (rows, _) = row_order(&pair);
+        evidence(&pair.name, &pair, &rows)
+    })
 }
 
 /// Tables that are good but for their first row: what is paid before any row is looked at.

@@ -57,6 +57,8 @@ pub enum Group {
     Networks,
     /// Nested stars, and the other pairs that cost much.
     Heavy,
+    /// Negations against the same spelled out.
+    Negations,
     /// Searches of one to ten rows.
     Small,
     /// Searches of the same pair with more and more rows lent, by the pair's name.
@@ -80,6 +82,7 @@ impl Group {
             Group::Combinatorial => "combinatorial",
             Group::Networks => "networks",
             Group::Heavy => "heavy pairs",
+            Group::Negations => "negations",
             Group::Small => "small",
             Group::Rows(_) => "rows",
             Group::Evidence => "evidence",
@@ -127,6 +130,7 @@ pub fn benchmarks(extent: Extent) -> Vec<Benchmark> {
     all.extend(searches(Group::Networks, heavy::networks()));
     all.extend(searches(Group::Networks, heavy::leaks()));
     all.extend(searches(Group::Heavy, heavy_pairs(extent)));
+    all.extend(searches(Group::Negations, heavy::negations()));
     all.extend(small());
     all.extend(rows(extent));
     all.extend(tables::benchmarks(extent));
@@ -223,6 +227,13 @@ fn legal_text() -> Vec<u8> {
     text.into_bytes()
 }
 
+/// A megabyte of `!` before `id`.
+fn long_negation() -> Vec<u8> {
+    let mut text = vec![b'!'; MEGABYTE - 2];
+    text.extend_from_slice(b"id");
+    text
+}
+
 /// A megabyte of `id+`, with these last bytes.
 fn long_sum(end: &str) -> Vec<u8> {
     let mut text = "id+".repeat((MEGABYTE - end.len()) / 3);
@@ -244,6 +255,7 @@ fn texts() -> Vec<Benchmark> {
         read("a megabyte of nodes", long_sum("id")),
         read("a megabyte, cut off at its end", long_sum("id+")),
         read("a megabyte, no token at its end", long_sum("?")),
+        read("a megabyte of negations", long_negation()),
     ]
 }
 
@@ -288,7 +300,7 @@ fn checks() -> Benchmark {
     let mut random = Random::new(40);
     while cases.len() < CHECKS {
         let sizes = random.pick(&[&[2u16, 3][..], &[4, 4, 4], &[16, 16], &[8, 8, 8]]);
-        let policy = tree::tree(&mut random, sizes, 24, 6);
+        let policy = tree::plain(&mut random, sizes, 24, 6);
         let other = match cases.len() % 2 {
             0 => tree::same(&mut random, sizes, &policy),
             _ => tree::changed(&mut random, sizes, &policy),

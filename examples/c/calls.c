@@ -76,10 +76,13 @@ int main(void) {
     show("policy");
     netkat_policies(SIZES, NODES(one), NODES(other), answer);
     show("policies");
-    other.kind[1] = 9;
+    other.kind[1] = 10;
     netkat_policies(SIZES, NODES(one), NODES(other), answer);
-    show("policies, one with a kind 9");
+    show("policies, one with a kind 10");
     other.kind[1] = 4;
+    policy negated = read_policy("!(f0=0+dup)");
+    netkat_policy(SIZES, NODES(negated), answer);
+    show("policy, a dup negated");
 
     netkat_search(SIZES, NODES(one), NODES(same), LENT, answer);
     show("search");
@@ -108,7 +111,10 @@ int main(void) {
     netkat_search_texts(SIZES, TEXT("id"), TEXT("f2=0"), LENT, answer);
     show("search of texts, no such field on the right");
 
-    other.kind[1] = 9;
+    netkat_search_texts(SIZES, TEXT("!(f0=0;f1=0)"), TEXT("f0!=0+f1!=0"), LENT, answer);
+    show("search of texts, a negation and the same spelled out");
+
+    other.kind[1] = 10;
     netkat_search(SIZES, NODES(one), NODES(other), LENT, answer);
     show("search, no such kind on the right");
     netkat_policy(SIZES, NODES(other), answer);

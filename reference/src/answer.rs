@@ -9,7 +9,7 @@ pub type Numbers = [u64; 8];
 /// A numbered cause for which a call gives no result.
 #[derive(Clone, Copy, Debug, PartialEq, Eq)]
 pub struct Refusal {
-    /// The cause, 1 to 18.
+    /// The cause, 1 to 19.
     pub number: u8,
     /// The policy it concerns: 0 none, 1 left, 2 right.
     pub side: u8,

@@ -3,8 +3,8 @@
 //! A policy becomes a graph of points through which packets flow. Compiling a node with the point that follows it
 //! yields right spines for nothing: what follows a dup is what remains after it. A step pushes packet sets through the
 //! graph; what arrives at a dup is marked next there, what arrives at the end is the output. Each point passes a packet
-//! on once, so nested stars cost no more than other nodes. Steps of single remainders are remembered; a state's step
-//! is the union of its remainders' steps.
+//! on once, so nested stars cost no more than other nodes. A negation is one filter, worked out when it is compiled. Steps
+//! of single remainders are remembered; a state's step is the union of its remainders' steps.
 
 use std::collections::hash_map::DefaultHasher;
 use std::collections::HashMap;
@@ -511,7 +511,12 @@ impl Compiler<'_> {
         match self.nodes[node] {
             Node::Drop => NOWHERE,
             Node::Id => then,
-            Node::Field { act, field, value } => self.field(act, field, value, then),
+            Node::Field {
+                act: Act::Set,
+                field,
+                value,
+            } => self.change(field, value, then),
+            Node::Field { .. } | Node::Not(_) => self.filter(node, then),
             Node::Dup(dup) => {
                 self.remainders[dup] = then;
                 self.point(Point::Dup(dup))
@@ -534,6 +539,48 @@ impl Compiler<'_> {
         }
     }
 
+    /// The packets that pass a node of tests alone.
+    fn passed(&self, node: usize) -> Vec<u64> {
+        let mut passed = vec![0; self.packets.words()];
+        match self.nodes[node] {
+            Node::Id => set::complement(&mut passed, self.packets.count()),
+            Node::Field { act, field, value } => {
+                let keep = act == Act::Equals;
+                for packet in 0..self.packets.count() {
+                    if self.packets.test(packet, field, value) == keep {
+                        set::insert(&mut passed, packet);
+                    }
+                }
+            }
+            Node::Sum(one, other) => {
+                passed = self.passed(one);
+                set::unite(&mut passed, &self.passed(other));
+            }
+            Node::Sequence(one, other) => {
+                passed = self.passed(one);
+                set::intersect(&mut passed, &self.passed(other));
+            }
+            Node::Not(child) => {
+                passed = self.passed(child);
+                set::complement(&mut passed, self.packets.count());
+            }
+            // ⊥; the others are no tests
+            Node::Drop | Node::Dup(_) | Node::Star(_) => {}
+        }
+        passed
+    }
+
+    /// The point that passes on what passes a node of tests alone.
+    fn filter(&mut self, node: usize, to: usize) -> usize {
+        if to == NOWHERE {
+            return NOWHERE;
+        }
+        let filter = self.filters.len();
+        let passed = self.passed(node);
+        self.filters.extend(passed);
+        self.point(Point::Filter { filter, to })
+    }
+
     fn fork(&mut self, one: usize, other: usize) -> usize {
         match (one, other) {
             (NOWHERE, point) | (point, NOWHERE) => point,
@@ -542,23 +589,11 @@ impl Compiler<'_> {
         }
     }
 
-    fn field(&mut self, act: Act, field: usize, value: usize, to: usize) -> usize {
+    fn change(&mut self, field: usize, value: usize, to: usize) -> usize {
         if to == NOWHERE {
             return NOWHERE;
         }
-        let keep = match act {
-            Act::Equals => true,
-            Act::Differs => false,
-            Act::Set => return self.point(Point::Set { field, value, to }),
-        };
-        let filter = self.filters.len();
-        self.filters.resize(filter + self.packets.words(), 0);
-        for packet in 0..self.packets.count() {
-            if self.packets.test(packet, field, value) == keep {
-                set::insert(&mut self.filters[filter..], packet);
-            }
-        }
-        self.point(Point::Filter { filter, to })
+        self.point(Point::Set { field, value, to })
     }
 }
 

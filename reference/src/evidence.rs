@@ -18,7 +18,7 @@ pub struct Table<'a> {
     pub right: &'a [u32],
 }
 
-/// Checks a table. Tests 1 to 10, then the rules.
+/// Checks a table. Tests 1 to 8, 19, 9 and 10, then the rules.
 pub fn check(
     sizes: &[u16],
     left: NodeLists,

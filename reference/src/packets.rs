@@ -144,6 +144,22 @@ pub mod set {
         }
     }
 
+    /// Keeps what is in another set.
+    pub fn intersect(set: &mut [u64], other: &[u64]) {
+        for (word, other) in set.iter_mut().zip(other) {
+            *word &= other;
+        }
+    }
+
+    /// The packets below a count that are not in.
+    pub fn complement(set: &mut [u64], count: usize) {
+        for (at, word) in set.iter_mut().enumerate() {
+            let packets = count.saturating_sub(at * 64).min(64);
+            let all = u64::MAX.checked_shr(64 - packets as u32).unwrap_or(0);
+            *word = !*word & all;
+        }
+    }
+
     /// The lowest packet in exactly one of two sets.
     pub fn lowest_difference(left: &[u64], right: &[u64]) -> Option<usize> {
         left.iter().zip(right).enumerate().find_map(|(at, (l, r))| {

@@ -28,6 +28,8 @@ pub mod kind {
     pub const SEQUENCE: u8 = 7;
     /// Star of one child.
     pub const STAR: u8 = 8;
+    /// Negation of one child.
+    pub const NOT: u8 = 9;
 }
 
 /// A policy as a caller lends it: three lists, of any lengths and contents.
@@ -106,6 +108,8 @@ pub enum Node {
     Sequence(usize, usize),
     /// Any number of rounds.
     Star(usize),
+    /// Passes what the node drops; below it are tests alone.
+    Not(usize),
 }
 
 /// A legal policy: a tree whose root is the last node.
@@ -126,7 +130,7 @@ impl Policy {
         self.dups
     }
 
-    /// Reads lists that have passed 4 to 9.
+    /// Reads lists that have passed 4 to 8, 19 and 9.
     fn from_legal(lists: NodeLists) -> Policy {
         let mut dups = 0;
         let nodes = (0..lists.kind.len())
@@ -149,7 +153,8 @@ impl Policy {
                     }
                     kind::SUM => Node::Sum(first, second),
                     kind::SEQUENCE => Node::Sequence(first, second),
-                    _ => Node::Star(first),
+                    kind::STAR => Node::Star(first),
+                    _ => Node::Not(first),
                 }
             })
             .collect();
@@ -160,13 +165,14 @@ impl Policy {
 /// One cause: the lowest place where it holds. Each may rely on the causes before it.
 type Cause = fn(&Packets, NodeLists) -> Option<usize>;
 
-/// Causes 4 to 9 in their order.
-const CAUSES: [(u8, Cause); 6] = [
+/// The causes of a policy in their order.
+const CAUSES: [(u8, Cause); 7] = [
     (4, wrong_lengths),
     (5, unknown_kind),
     (6, wrong_entry),
     (7, child_not_below),
     (8, not_child_once),
+    (19, negates_no_test),
     (9, too_many_dups),
 ];
 
@@ -179,7 +185,7 @@ fn wrong_lengths(_: &Packets, lists: NodeLists) -> Option<usize> {
 }
 
 fn unknown_kind(_: &Packets, lists: NodeLists) -> Option<usize> {
-    lists.kind.iter().position(|&kind| kind > kind::STAR)
+    lists.kind.iter().position(|&kind| kind > kind::NOT)
 }
 
 fn wrong_entry(packets: &Packets, lists: NodeLists) -> Option<usize> {
@@ -188,7 +194,7 @@ fn wrong_entry(packets: &Packets, lists: NodeLists) -> Option<usize> {
         match lists.kind[node] {
             kind::EQUALS | kind::DIFFERS | kind::SET => !packets.has(first, second),
             kind::SUM | kind::SEQUENCE => false,
-            kind::STAR => second != 0,
+            kind::STAR | kind::NOT => second != 0,
             _ => first != 0 || second != 0,
         }
     })
@@ -198,7 +204,7 @@ fn wrong_entry(packets: &Packets, lists: NodeLists) -> Option<usize> {
 fn children(lists: NodeLists, node: usize) -> impl Iterator<Item = usize> {
     let count = match lists.kind[node] {
         kind::SUM | kind::SEQUENCE => 2,
-        kind::STAR => 1,
+        kind::STAR | kind::NOT => 1,
         _ => 0,
     };
     [lists.first[node], lists.second[node]]
@@ -220,13 +226,29 @@ fn not_child_once(_: &Packets, lists: NodeLists) -> Option<usize> {
     parents[..nodes - 1].iter().position(|&count| count != 1)
 }
 
+/// A negation with a change, a dup or a star anywhere below it.
+fn negates_no_test(_: &Packets, lists: NodeLists) -> Option<usize> {
+    let nodes = lists.kind.len();
+    // By node: is it tests alone? A child stands below its parent.
+    let mut tests = vec![true; nodes];
+    for node in 0..nodes {
+        let kind = lists.kind[node];
+        let child_tests = children(lists, node).all(|child| tests[child]);
+        if kind == kind::NOT && !child_tests {
+            return Some(node);
+        }
+        tests[node] = child_tests && !matches!(kind, kind::SET | kind::DUP | kind::STAR);
+    }
+    None
+}
+
 fn too_many_dups(_: &Packets, lists: NodeLists) -> Option<usize> {
     (0..lists.kind.len())
         .filter(|&node| lists.kind[node] == kind::DUP)
         .nth(MOST_DUPS)
 }
 
-/// Tests 4 to 9 cause by cause, and within a cause policy by policy; each policy comes with the side it is named by.
+/// Tests cause by cause, and within a cause policy by policy; each policy comes with the side it is named by.
 fn test(packets: &Packets, policies: &[(u8, NodeLists)]) -> Result<(), Refusal> {
     for (number, cause) in CAUSES {
         for &(side, lists) in policies {
@@ -238,7 +260,7 @@ fn test(packets: &Packets, policies: &[(u8, NodeLists)]) -> Result<(), Refusal> 
     Ok(())
 }
 
-/// Two policies, tested by 4 to 9.
+/// Two policies, tested by 4 to 8, 19 and 9.
 pub fn pair(
     packets: &Packets,
     left: NodeLists,
@@ -248,13 +270,13 @@ pub fn pair(
     Ok((Policy::from_legal(left), Policy::from_legal(right)))
 }
 
-/// One policy, tested by 4 to 9.
+/// One policy, tested by 4 to 8, 19 and 9.
 pub fn single(packets: &Packets, lists: NodeLists) -> Result<Policy, Refusal> {
     test(packets, &[(0, lists)])?;
     Ok(Policy::from_legal(lists))
 }
 
-/// Tests two policies by 1 to 9 and answers the number of dups of each.
+/// Tests two policies by 1 to 8, 19 and 9, and answers the number of dups of each.
 pub fn check_pair(
     sizes: &[u16],
     left: NodeLists,
@@ -264,7 +286,7 @@ pub fn check_pair(
     Ok((left.dups(), right.dups()))
 }
 
-/// Tests one policy by 1 to 9 and answers its number of dups.
+/// Tests one policy by 1 to 8, 19 and 9, and answers its number of dups.
 pub fn check(sizes: &[u16], lists: NodeLists) -> Result<usize, Refusal> {
     Ok(single(&Packets::new(sizes)?, lists)?.dups())
 }

@@ -89,7 +89,7 @@ pub(crate) fn test_work(work: usize) -> Result<(), Refusal> {
     Ok(())
 }
 
-/// Searches two policies. Tests 1 to 12 but for those of text.
+/// Searches two policies. Tests 1 to 8, 19, 9 to 12.
 pub fn search(
     sizes: &[u16],
     left: NodeLists,
@@ -100,7 +100,7 @@ pub fn search(
     compare(&packets, left, right, lent)
 }
 
-/// Searches two texts. Tests 1 to 3, then 14 to 17 on each text, then 4 to 12.
+/// Searches two texts. Tests 1 to 3, then 14 to 17 on each text, then 4 to 8, 19, 9 to 12.
 pub fn search_texts(
     sizes: &[u16],
     left: &[u8],
@@ -113,7 +113,7 @@ pub fn search_texts(
     compare(&packets, left.lists(), right.lists(), lent)
 }
 
-/// Tests 4 to 10 and searches.
+/// Tests 4 to 8, 19, 9 and 10, and searches.
 fn compare(
     packets: &Packets,
     left: NodeLists,

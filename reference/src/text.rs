@@ -17,6 +17,7 @@ enum Token {
     Number(u16),
     Equals,
     Differs,
+    Not,
     Arrow,
     Plus,
     Semicolon,
@@ -58,6 +59,7 @@ fn head(text: &[u8]) -> Option<(Token, usize)> {
     let token = match text {
         [b'=', ..] => (Token::Equals, 1),
         [b'!', b'=', ..] => (Token::Differs, 2),
+        [b'!', ..] => (Token::Not, 1),
         [b'<', b'-', ..] => (Token::Arrow, 2),
         [b'+', ..] => (Token::Plus, 1),
         [b';', ..] => (Token::Semicolon, 1),
@@ -178,7 +180,19 @@ impl Parser<'_> {
         Ok(item)
     }
 
+    /// An item with its negations, which are a loop: a text may have a million of them.
     fn item(&mut self) -> Result<u16, Refusal> {
+        let first = self.next;
+        while self.take(Token::Not) {}
+        let negations = self.next - first;
+        let mut item = self.plain_item()?;
+        for _ in 0..negations {
+            item = self.nodes.push(kind::NOT, item, 0);
+        }
+        Ok(item)
+    }
+
+    fn plain_item(&mut self) -> Result<u16, Refusal> {
         let token = self.peek().ok_or_else(|| self.unexpected())?;
         let constant = match token {
             Token::Drop => kind::DROP,

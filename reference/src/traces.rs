@@ -6,7 +6,7 @@ use crate::packets::{set, Packets};
 use crate::policy::{self, NodeLists, Policy};
 use crate::search::test_work;
 
-/// Checks a trace. Tests 1 to 9, 10 for the work list, then 13.
+/// Checks a trace. Tests 1 to 8, 19, 9, 10 for the work list, then 13.
 pub fn check(
     sizes: &[u16],
     left: NodeLists,

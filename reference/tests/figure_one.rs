@@ -23,6 +23,7 @@ enum Term {
     Sum(Box<Term>, Box<Term>),
     Sequence(Box<Term>, Box<Term>),
     Star(Box<Term>),
+    Not(Box<Term>),
 }
 
 /// The term of legal node lists.
@@ -45,7 +46,8 @@ fn term(lists: &OwnedLists) -> Term {
             kind::SEQUENCE => {
                 Term::Sequence(terms[first].clone().into(), terms[second].clone().into())
             }
-            _ => Term::Star(terms[first].clone().into()),
+            kind::STAR => Term::Star(terms[first].clone().into()),
+            _ => Term::Not(terms[first].clone().into()),
         });
     }
     terms.pop().expect("a policy has a node")
@@ -101,6 +103,9 @@ fn meaning(term: &Term, from: &Packet, most: usize) -> Traces {
                 all = more;
             }
         }
+        // The traces of tests are of one packet, so those of at most so many are all of them.
+        Term::Not(child) if meaning(child, from, most).is_empty() => one(from.clone()),
+        Term::Not(_) => BTreeSet::new(),
     }
 }
 

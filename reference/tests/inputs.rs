@@ -60,7 +60,7 @@ fn node_lists() {
     assert_eq!(check(&[]), refusal(4, 0));
     assert_eq!(check(&[(1, 0, 0)]), Ok(0));
     assert_eq!(check(&[(5, 0, 0)]), Ok(1));
-    assert_eq!(check(&[(6, 9, 9), (9, 0, 0)]), refusal(5, 1));
+    assert_eq!(check(&[(6, 9, 9), (10, 0, 0)]), refusal(5, 1));
     assert_eq!(check(&[(255, 0, 0)]), refusal(5, 0));
     // Unused entries, and fields with their values.
     for kind in [0, 1, 5] {
@@ -82,6 +82,16 @@ fn node_lists() {
     assert_eq!(check(&[(1, 0, 0), (7, 0, 0)]), refusal(8, 0));
     assert_eq!(check(&[(1, 0, 0), (1, 0, 0)]), refusal(8, 0));
     assert_eq!(check(&[(1, 0, 0), (1, 0, 0), (8, 0, 0)]), refusal(8, 1));
+    // Negations.
+    assert_eq!(check(&[(1, 0, 0), (9, 0, 0)]), Ok(0));
+    assert_eq!(check(&[(1, 0, 0), (9, 0, 1)]), refusal(6, 1));
+    assert_eq!(check(&[(9, 0, 0)]), refusal(7, 0));
+    assert_eq!(check(&[(1, 0, 0), (9, 1, 0)]), refusal(7, 1));
+    assert_eq!(check(&[(1, 0, 0), (1, 0, 0), (9, 0, 0)]), refusal(8, 1));
+    assert_eq!(
+        check(&[(1, 0, 0), (9, 0, 0), (9, 0, 0), (6, 1, 2)]),
+        refusal(8, 0)
+    );
     // Not in postfix order, and legal.
     let shuffled = [(5, 0, 0), (1, 0, 0), (5, 0, 0), (6, 2, 1), (7, 3, 0)];
     assert_eq!(check(&shuffled), Ok(2));
@@ -112,16 +122,64 @@ fn node_lists() {
 }
 
 #[test]
+fn negated_kinds() {
+    let check = |text: &str| policy::check(&[2, 3], nodes(text).lists());
+    for legal in [
+        "!drop",
+        "!id",
+        "!f0=0",
+        "!f0!=0",
+        "!(f0=0+id)",
+        "!(f0=0;f1!=0)",
+        "!!f0=0",
+        "!(f0=0;!(f1=2+!drop))",
+        "!f0=0*",
+        "!f0=0;dup;f0<-0",
+        "(f0<-1;!f0=0)*",
+    ] {
+        let dups = legal.matches("dup").count();
+        assert_eq!(check(legal), Ok(dups), "{legal}");
+    }
+    for (text, place) in [
+        ("!(f0=0*)", 2),
+        ("!!dup", 1),
+        ("!(f0=0+dup)", 3),
+        ("!dup", 1),
+        ("!f0<-1", 1),
+        ("!(id*)", 2),
+        ("!!!dup", 1),
+        ("!(id;!dup)", 2),
+        ("!(id;!f0=0;dup)", 6),
+        ("!(!f0=0*)", 3),
+        ("!(f0=0;(f1=0+(f1=1;f0<-1)))", 7),
+        ("!id+!dup", 3),
+        ("!dup+!dup", 1),
+        ("(!dup)*", 1),
+    ] {
+        assert_eq!(check(text), refusal(19, place), "{text}");
+    }
+    // The lowest in number, whichever is inner or stands to the left.
+    let apart = [(5, 0, 0), (1, 0, 0), (9, 1, 0), (9, 0, 0), (6, 3, 2)];
+    assert_eq!(policy::check(&[1], lists(&apart).lists()), refusal(19, 3));
+    // 512 nodes, nested as deep as can be.
+    let nested = format!("{}f0=0", "!".repeat(511));
+    assert_eq!(check(&nested), Ok(0));
+    let nested = format!("{}dup", "!".repeat(511));
+    assert_eq!(check(&nested), refusal(19, 1));
+}
+
+#[test]
 fn causes_go_before_sides() {
     let search = |left: &OwnedLists, right: &OwnedLists| {
         let mut lent = search::Lists::new(9, 9, 0);
         search::search(&[2], left.lists(), right.lists(), lent.lend()).unwrap_err()
     };
     let empty = lists(&[]);
-    let unknown = lists(&[(9, 0, 0)]);
+    let unknown = lists(&[(10, 0, 0)]);
     let entry = lists(&[(1, 0, 1)]);
     let child = lists(&[(8, 0, 0)]);
     let twice = lists(&[(1, 0, 0), (1, 0, 0)]);
+    let negated = nodes("!dup");
     let dups = nodes(&["dup"; 32].join("+"));
     let legal = lists(&[(1, 0, 0)]);
     let in_order = [
@@ -130,6 +188,7 @@ fn causes_go_before_sides() {
         (6, 0, &entry),
         (7, 0, &child),
         (8, 0, &twice),
+        (19, 1, &negated),
         (9, 61, &dups),
     ];
     for (at, &(number, place, earlier)) in in_order.iter().enumerate() {
@@ -192,6 +251,87 @@ fn grammar() {
 }
 
 #[test]
+fn negations() {
+    assert_eq!(
+        read("!f0=0*"),
+        Ok(lists(&[(2, 0, 0), (9, 0, 0), (8, 1, 0)]))
+    );
+    assert_eq!(
+        read("!(f0=0*)"),
+        Ok(lists(&[(2, 0, 0), (8, 0, 0), (9, 1, 0)]))
+    );
+    assert_eq!(
+        read(" ! !\tf1!=2;!id+!dup"),
+        Ok(lists(&[
+            (3, 1, 2),
+            (9, 0, 0),
+            (9, 1, 0),
+            (1, 0, 0),
+            (9, 3, 0),
+            (7, 2, 4),
+            (5, 0, 0),
+            (9, 6, 0),
+            (6, 5, 7),
+        ]))
+    );
+    assert_eq!(
+        read("!(id;!(drop))"),
+        Ok(lists(&[
+            (1, 0, 0),
+            (0, 0, 0),
+            (9, 1, 0),
+            (7, 0, 2),
+            (9, 3, 0)
+        ]))
+    );
+    // The reader does not ask what is negated.
+    assert!(read("!dup;!f0<-1").is_ok());
+    for (text, place) in [
+        ("f0 ! = 0", 3),
+        ("!!=0", 1),
+        ("!=0", 0),
+        ("!", 1),
+        ("! ", 2),
+        ("!!", 2),
+        ("!)", 1),
+        ("(!)", 2),
+        ("!+id", 1),
+        ("!;id", 1),
+        ("!*", 1),
+        ("!0", 1),
+        ("!=", 0),
+        ("! =0", 2),
+        ("f0=!0", 3),
+        ("f0!", 2),
+        ("f0!!=0", 2),
+        ("id!", 2),
+        ("id !id", 3),
+        ("(id)!id", 4),
+        ("id*!", 3),
+        ("!f0", 3),
+        ("!id id", 4),
+    ] {
+        assert_eq!(refused(text), (16, place), "{text:?}");
+    }
+    let run = |count: usize| format!("{}id", "!".repeat(count));
+    assert_eq!(read(&run(511)).unwrap().kind.len(), 512);
+    assert_eq!(refused(&run(512)), (17, 513));
+    assert_eq!(refused(&run(513)), (17, 514));
+    assert_eq!(refused(&run(1_000_000)), (17, 1_000_001));
+    assert_eq!(refused(&"!".repeat(1_000_000)), (16, 1_000_000));
+    assert_eq!(
+        refused(&format!("{}=0", "!".repeat(1_000_000))),
+        (16, 999_999)
+    );
+    let starred = format!("{}(id){}", "! ".repeat(300_000), "*".repeat(300_000));
+    assert_eq!(refused(&starred), (17, 600_001));
+    let deep = format!("{}id{}", "!(".repeat(64), ")".repeat(64));
+    assert_eq!(read(&deep).unwrap().kind.len(), 65);
+    let deep = format!("{}id{}", "!(".repeat(65), ")".repeat(65));
+    assert_eq!(refused(&deep), (15, 129));
+}
+
+#[test]
 fn words_and_tokens() {
     for bad in [
         "ID",
@@ -221,10 +361,11 @@ fn words_and_tokens() {
         };
         assert_eq!(refused(bad), (14, place), "{bad:?}");
     }
-    assert_eq!(refused("f0 ! = 0"), (14, 3));
     assert_eq!(refused("f0 < - 0"), (14, 3));
-    assert_eq!(refused("f0 !"), (14, 3));
     assert_eq!(refused("f0 <"), (14, 3));
+    // A mark of its own, so that the grammar is what refuses it.
+    assert_eq!(refused("f0 ! = 0"), (16, 3));
+    assert_eq!(refused("f0 !"), (16, 3));
     assert!(read("f0 = 0").is_ok());
     // 14 is tried over the whole text first, then 15.
     assert_eq!(refused(") id id ("), (16, 0));
@@ -342,6 +483,12 @@ fn program_inputs() {
         ("2\nid\n id ?", 14, 4),
         ("2\nid;f0=2\nf0=2", 6, 1),
         ("2\nid\nid;f1=0", 6, 1),
+        ("2\n!!dup\nid", 19, 1),
+        ("2\nid\n!(f0=0+dup)", 19, 3),
+        ("2\n!(f0=0*)\n!dup", 19, 2),
+        ("2\n!\n!!dup", 16, 1),
+        ("2\n!dup\nf0 ! = 0", 16, 3),
+        ("2\n!dup\nf0=2", 6, 0),
     ] {
         let expected = format!("refused,{number},{place}\r\n");
         assert_eq!(program(input), expected, "{input:?}");

@@ -6,6 +6,7 @@ use common::{nodes, search, search_with, Outcome};
 use netkat_reference::answer::{Holders, Refusal, Ruling, Side, Verdict};
 use netkat_reference::evidence::{self, Table};
 use netkat_reference::generate::heavy;
+use netkat_reference::policy;
 use netkat_reference::search::{search_texts, Lists, LEAST_WORK};
 use netkat_reference::traces;
 
@@ -91,6 +92,82 @@ fn p7_to_p10() {
     equal(&[1], "dup;drop", "drop", &[(0, 1, 1), (0, 2, 0)]);
 }
 
+const NEGATED_ROWS: [(u16, u32, u32); 4] = [(0, 1, 1), (1, 1, 1), (0, 2, 0), (1, 2, 2)];
+
+#[test]
+fn negations() {
+    let starting: Vec<(u16, u32, u32)> = (0..4).map(|packet| (packet, 1, 1)).collect();
+    let (left, right) = ("!(f0=0;f1=0)", "f0!=0+f1!=0");
+    equal(&[2, 2], left, right, &starting);
+    equal(&[2], "dup;!f0=0", "!f0=0;dup", &NEGATED_ROWS);
+    equal(&[2], "!f0=0*", "id", &starting[..2]);
+    equal(&[3], "(f0<-1;!f0=0)*", "id+f0<-1", &starting[..3]);
+    // Two packets come to a negation that one of them passes.
+    let (left, right) = ("(f0<-0+f0<-1);!f0=0", "f0<-1");
+    equal(&[3], left, right, &starting[..3]);
+    equal(&[2], "!!f0=1", "f0=1", &starting[..2]);
+    equal(&[2], "!drop", "id", &starting[..2]);
+    equal(&[2], "!id", "drop", &starting[..2]);
+    different(&[2], "!f0=0", "f0=0", Side::Right, 0, &[0]);
+    different(&[3], "!f0=0", "f0=1", Side::Left, 2, &[2]);
+    different(&[2], "dup;!f0=0", "dup", Side::Right, 0, &[0, 0]);
+}
+
+#[test]
+fn the_sets_of_negations_end_at_the_last_packet() {
+    for size in [1, 63, 64, 65, 127, 128, 129, 1024] {
+        let starting: Vec<(u16, u32, u32)> = (0..size).map(|packet| (packet, 1, 1)).collect();
+        equal(&[size], "!drop", "id", &starting);
+        equal(&[size], "!!f0=0", "f0=0", &starting);
+    }
+}
+
+#[test]
+fn negated_kinds_are_tested_after_8_and_before_9() {
+    let answer = |left: &str, right: &str| search(&[2], left, right).answer.unwrap_err();
+    let dups = ["dup"; 32].join(";");
+    assert_eq!(answer(&dups, "!dup"), Refusal::new(19, 1).on(2));
+    assert_eq!(answer("!dup", &dups), Refusal::new(19, 1).on(1));
+    assert_eq!(answer("!(f0=0*)", "!!dup"), Refusal::new(19, 2).on(1));
+    assert_eq!(answer("id", "!(f0=0+dup)"), Refusal::new(19, 3).on(2));
+    assert_eq!(answer("!dup", "f0=2"), Refusal::new(6, 0).on(2));
+    assert_eq!(answer("!dup", "!"), Refusal::new(16, 1));
+}
+
+#[test]
+fn every_call_on_policies_tests_what_is_negated() {
+    let (left, right) = (nodes("id"), nodes("!!dup"));
+    let (left, right) = (left.lists(), right.lists());
+    let refused = Refusal::new(19, 1);
+    let mut work = vec![3; LEAST_WORK];
+    let table = Table {
+        packet: &[9],
+        left: &[9],
+        right: &[9],
+    };
+    let ruling = evidence::check(&[2], left, right, table, &mut work);
+    assert_eq!(ruling, Err(refused.on(2)));
+    let holders = traces::check(&[2], right, left, 9, &[9], &mut work);
+    assert_eq!(holders, Err(refused.on(1)));
+    assert!(work.iter().all(|&word| word == 3));
+    assert_eq!(policy::check(&[2], right), Err(refused));
+    assert_eq!(policy::check_pair(&[2], left, right), Err(refused.on(2)));
+    // Before 10.
+    let answer = evidence::check(&[2], left, right, table, &mut []);
+    assert_eq!(answer, Err(refused.on(2)));
+}
+
+#[test]
+fn nested_negations_cost_nothing() {
+    let start = std::time::Instant::now();
+    for (count, once) in [(500, "f0=3"), (501, "f0!=3"), (511, "!f0=3")] {
+        let text = format!("{}f0=3", "!".repeat(count));
+        let outcome = search(&[1024], &text, once);
+        assert_eq!(outcome.answer, Ok(Verdict::Equal { rows: 1024 }));
+    }
+    assert!(start.elapsed().as_secs() < 5);
+}
+
 fn ruling(sizes: &[u16], left: &str, right: &str, rows: &[(u16, u32, u32)]) -> Ruling {
     let packet: Vec<u16> = rows.iter().map(|row| row.0).collect();
     let left_states: Vec<u32> = rows.iter().map(|row| row.1).collect();
@@ -141,6 +218,25 @@ fn p11_and_the_row_rules() {
     assert_eq!(
         check(&[(0, 2, 1), (0, 1, 1), (1, 1, 1)]),
         Ruling::OutputsDiffer { row: 0 }
+    );
+}
+
+#[test]
+fn tables_of_negations() {
+    let check = |rows: &[(u16, u32, u32)]| ruling(&[2], "dup;!f0=0", "!f0=0;dup", rows);
+    assert_eq!(check(&NEGATED_ROWS), Ruling::Accepted);
+    assert_eq!(
+        check(&NEGATED_ROWS[..3]),
+        Ruling::NextMissing { row: 1, packet: 1 }
+    );
+    // What passes the negation passes it on one side only.
+    assert_eq!(
+        check(&[(0, 1, 1), (1, 1, 1), (1, 2, 0), (0, 2, 0), (1, 2, 2)]),
+        Ruling::OutputsDiffer { row: 2 }
+    );
+    assert_eq!(
+        check(&[(0, 1, 1), (1, 1, 1), (0, 2, 2)]),
+        Ruling::NextMissing { row: 0, packet: 0 }
     );
 }
 
@@ -260,6 +356,20 @@ fn the_trace_checker() {
     assert_eq!(check(2, &[], LEAST_WORK), Err(Refusal::new(13, 0)));
     assert_eq!(check(0, &[1, 2, 3], LEAST_WORK), Err(Refusal::new(13, 2)));
     assert_eq!(check(2, &[2], LEAST_WORK - 1), Err(Refusal::new(10, 0)));
+}
+
+#[test]
+fn traces_of_negations() {
+    let (left, right) = (nodes("dup;!f0=0"), nodes("!(f0=1;f0!=0);dup"));
+    let check = |entering, trace: &[u16]| {
+        let mut work = vec![1; LEAST_WORK];
+        let (left, right) = (left.lists(), right.lists());
+        traces::check(&[3], left, right, entering, trace, &mut work)
+    };
+    assert_eq!(check(0, &[0, 0]), Ok(Holders::Right));
+    assert_eq!(check(1, &[1, 1]), Ok(Holders::Left));
+    assert_eq!(check(2, &[2, 2]), Ok(Holders::Both));
+    assert_eq!(check(2, &[2]), Ok(Holders::Neither));
 }
 
 #[test]

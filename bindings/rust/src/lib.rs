@@ -15,7 +15,7 @@
 //! [`Checker`] and [`Policy`] own their lists and give typed answers; [`lists`] lends slices of any lengths and gives the eight
 //! numbers of the C interface; [`raw`] is that interface itself. The library is proved, this wrapper is not.
 //!
-//! A call needs up to 4 MiB of stack, measured at most 839 KiB: a thread that makes calls is started with at least [`STACK`] (Rust
+//! A call needs up to 4 MiB of stack, measured at most 891 KiB: a thread that makes calls is started with at least [`STACK`] (Rust
 //! starts threads with 2 MiB). It runs to its end, on the costliest policies for minutes, and can't be cancelled.
 
 #![warn(missing_docs)]
@@ -49,7 +49,7 @@ pub enum Side {
 /// Why a call gives no result; `include/netkat.h` lists the numbers.
 #[derive(Clone, Copy, Debug, PartialEq, Eq)]
 pub struct Refusal {
-    /// The cause, 1 to 17.
+    /// The cause, 1 to 17 or 19.
     pub number: u64,
     /// The policy it concerns, if it names one.
     pub side: Option<Side>,
@@ -65,7 +65,7 @@ impl Refusal {
             2 => ("a size is 0", Some("field")),
             3 => ("more than 1,024 packets", Some("up to field")),
             4 => ("policy lists unequal, empty or over 512 nodes", None),
-            5 => ("a kind over 8", Some("node")),
+            5 => ("a kind over 9", Some("node")),
             6 => ("a wrong field, value or unused entry", Some("node")),
             7 => ("a child not below its parent", Some("parent node")),
             8 => ("not a child exactly once", Some("node")),
@@ -81,6 +81,7 @@ impl Refusal {
             15 => ("more than 64 open parentheses", Some("byte")),
             16 => ("no legal text goes on so", Some("byte")),
             17 => ("more nodes than fit", Some("nodes needed:")),
+            19 => ("a negation over a change, a dup or a star", Some("node")),
             _ => ("an unknown cause", Some("place")),
         }
     }
@@ -130,7 +131,7 @@ fn not_answered(answer: Numbers) -> ! {
 /// A policy as node lists; they are tested by each call that takes them.
 #[derive(Clone, Debug, PartialEq, Eq)]
 pub struct Policy {
-    /// Kinds: 0 drop, 1 id, 2 f = v, 3 f ≠ v, 4 f ← v, 5 dup, 6 sum, 7 sequence, 8 star.
+    /// Kinds: 0 drop, 1 id, 2 f = v, 3 f ≠ v, 4 f ← v, 5 dup, 6 sum, 7 sequence, 8 star, 9 negation.
     pub kind: Vec<u8>,
     /// Field or first child.
     pub first: Vec<u16>,
@@ -139,7 +140,7 @@ pub struct Policy {
 }
 
 impl Policy {
-    /// Reads a text, as `f0=0;(dup+f1<-2)*`. Refused by 14 to 17.
+    /// Reads a text, as `f0=0;(dup+f1<-2)*;!(f0=0;f1=2)`. Refused by 14 to 17.
     pub fn read(text: &[u8]) -> Result<Policy, Refusal> {
         let mut policy = Policy {
             kind: vec![0; MOST_NODES],
@@ -248,12 +249,12 @@ impl Checker {
         Ok(accepted(lists::number(&self.sizes, values))?[1] as u16)
     }
 
-    /// The number of dups of a policy. Refused by 1 to 9.
+    /// The number of dups of a policy. Refused by 1 to 9, 19.
     pub fn dups(&self, policy: &Policy) -> Result<u8, Refusal> {
         Ok(accepted(lists::policy(&self.sizes, policy.nodes()))?[1] as u8)
     }
 
-    /// The numbers of dups of two policies, left and right. Refused by 1 to 9, each of 4 to 9 with its side.
+    /// The numbers of dups of two policies, left and right. Refused by 1 to 9, 19, each of 4 to 9 and 19 with its side.
     pub fn dups_of_both(&self, left: &Policy, right: &Policy) -> Result<(u8, u8), Refusal> {
         let answer = lists::policies(&self.sizes, left.nodes(), right.nodes());
         let answer = accepted(answer)?;
@@ -261,7 +262,7 @@ impl Checker {
     }
 
     /// Have two policies the same traces from every packet? The search lists at most so many rows; if it needs more, it is
-    /// refused by 11, and if that is over [`MOST_ROWS`], by 10. Refused by 1 to 11.
+    /// refused by 11, and if that is over [`MOST_ROWS`], by 10. Refused by 1 to 11, 19.
     pub fn search(
         &mut self,
         left: &Policy,
@@ -274,7 +275,7 @@ impl Checker {
         })
     }
 
-    /// The same for two texts. Refused by 1 to 3, 14 to 17 on the left text, then on the right, 4 to 11.
+    /// The same for two texts. Refused by 1 to 3, 14 to 17 on the left text, then on the right, 4 to 11, 19.
     pub fn search_texts(
         &mut self,
         left: &[u8],
@@ -330,7 +331,7 @@ impl Checker {
         }
     }
 
-    /// Does a table, whoever made it, show that two policies are equal? Refused by 1 to 10.
+    /// Does a table, whoever made it, show that two policies are equal? Refused by 1 to 10, 19.
     pub fn evidence(
         &mut self,
         left: &Policy,
@@ -354,7 +355,7 @@ impl Checker {
         }
     }
 
-    /// Which of two policies has a trace from the entering packet? Refused by 1 to 10, 13.
+    /// Which of two policies has a trace from the entering packet? Refused by 1 to 10, 13, 19.
     pub fn trace(
         &mut self,
         left: &Policy,

@@ -135,7 +135,7 @@ fn refusals_name_a_side() {
         let mut checker = checker();
         let verdict = checker.search_texts(b"id", b"f2=0", ROWS);
         assert_eq!(verdict, Err(refusal(6, Some(Side::Right), 0)));
-        other.kind[1] = 9;
+        other.kind[1] = 10;
         let verdict = checker.search(&one, &other, ROWS);
         assert_eq!(verdict, Err(refusal(5, Some(Side::Right), 1)));
         let verdict = checker.search(&other, &one, ROWS);
@@ -149,6 +149,38 @@ fn refusals_name_a_side() {
 }
 
 #[test]
+fn negated_tests() {
+    within_bound(|| {
+        let mut checker = checker();
+        let verdict = checker.search_texts(b"!(f0=0;f1=0)", b"f0!=0+f1!=0", ROWS);
+        let starting = Rows {
+            packet: (0..6).collect(),
+            left: vec![1; 6],
+            right: vec![1; 6],
+        };
+        assert_eq!(verdict, Ok(Verdict::Equal(starting)));
+        let (before, behind) = (policy("!f0=0;dup"), policy("dup;!f0=0"));
+        let rows = match checker.search(&before, &behind, ROWS) {
+            Ok(Verdict::Equal(rows)) => rows,
+            other => panic!("equal policies, and {other:?}"),
+        };
+        let ruling = checker.evidence(&before, &behind, &rows);
+        assert_eq!(ruling, Ok(Ruling::Accepted));
+        let holders = checker.trace(&before, &policy("dup;f0=0"), 5, &[5, 5]);
+        assert_eq!(holders, Ok(Holders::Only(Side::Left)));
+
+        let negated = policy("!(f0=0+dup)");
+        assert_eq!(checker.dups(&negated), Err(refusal(19, None, 3)));
+        let verdict = checker.search_texts(b"id", b"!!dup", ROWS);
+        assert_eq!(verdict, Err(refusal(19, Some(Side::Right), 1)));
+        assert_eq!(Policy::read(b"f0 ! = 0"), Err(refusal(16, None, 3)));
+        let deep = policy(&("!".repeat(511) + "f0=0"));
+        let verdict = checker.search(&deep, &policy("f0!=0"), ROWS);
+        assert!(matches!(verdict, Ok(Verdict::Equal(_))));
+    });
+}
+
+#[test]
 fn refusals_in_words() {
     let said = |number, side, place| refusal(number, side, place).to_string();
     assert_eq!(
@@ -156,6 +188,10 @@ fn refusals_in_words() {
         "refused by 6 on the right: a wrong field, value or unused entry, node 3"
     );
     assert_eq!(said(1, None, 0), "refused by 1: not 1 to 8 fields");
+    assert_eq!(
+        said(19, Some(Side::Left), 3),
+        "refused by 19 on the left: a negation over a change, a dup or a star, node 3"
+    );
     assert_eq!(
         said(17, None, 513),
         "refused by 17: more nodes than fit, nodes needed: 513"

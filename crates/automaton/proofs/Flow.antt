@@ -1,25 +1,28 @@
 -- What flows through a policy and what enters its dups, exactly.
 use Prim.Native.Nat.{ℕ, zero, suc, _<_}
-use mathlib.Core.Bool.{false}
+use mathlib.Core.Bool.{true, false, _&&_}
 use mathlib.Core.List.{List, [], _∷_, _++_, nil≢cons}
 use mathlib.Core.Logic.{_⊎_, inl, inr, ⊎-map, ⊎-elim, _↔_, Iff·symm, Iff·trans}
 use mathlib.Core.Path.{_≡_, refl, sym, _∙_, subst}
 use lib.Dec.{T, eqb, eqb→eq}
 use Rattle.packet.specs.Sizes.{product}
 use Rattle.packet.proofs.Packets.{changed-below}
+use Rattle.packet.proofs.Tests.{and-true}
 use Rattle.policy.specs.declared.FieldAction.{FieldAction}
 use Rattle.policy.specs.declared.FieldAction.the-variants.{Equals, Differs, Set}
 use Rattle.policy.specs.Legality.{badField, fieldOf, valueOf, InFields}
-use Rattle.policy.specs.Meaning.{Packets, numbered}
-use Rattle.policy.specs.Tree.{Policy, drop, id, field, dup, sum, seq, star}
+use Rattle.policy.specs.Meaning.{Packets, numbered, Drops, Traces}
+use Rattle.policy.specs.Tests.{isTest, negatesTests}
+use Rattle.policy.specs.Tree.{Policy, drop, id, field, dup, sum, seq, star, neg}
 use Rattle.policy.proofs.Numbered.{value-below}
+use Rattle.policy.proofs.TestLaws.{test-negates, test-traces}
 use Rattle.packet_set.specs.Bits.{bit}
 use Rattle.automaton.specs.Reaches.{Passes, Reaches}
-use Rattle.automaton.specs.State.{PacketSet, union, starRounds, flow, enter}
-use Rattle.automaton.proofs.Tests.{eqb-true}
+use Rattle.automaton.specs.State.{PacketSet, single, union, starRounds, flow, enter}
+use Rattle.automaton.proofs.Tests.{eqb-true, both}
 use Rattle.automaton.proofs.Words.{Acts, Tr, Star, done, more}
 use Rattle.automaton.proofs.Fundamental.{passes-iff, star-append}
-use Rattle.automaton.proofs.Sets.{Fits, empty, empty-fits, cond-fits, cond-iff, union-fits, union-iff, image-fits, image-iff, rounds-fits, round-iff, rounds-enough}
+use Rattle.automaton.proofs.Sets.{Fits, below, setOf-fits, setOf-iff, same-set, single-fits, single-iff, empty, empty-fits, cond-fits, cond-iff, union-fits, union-iff, image-fits, image-iff, rounds-fits, round-iff, rounds-enough}
 
 nil-split : {A : Type 0} (u v : List A) → [] ≡ u ++ v → (u ≡ []) × (v ≡ [])
 nil-split [] v e = (refl, sym e)
@@ -47,6 +50,7 @@ module _ (sizes : List ℕ) where
   flow-fits (sum p q) X h = union-fits sizes _ _
   flow-fits (seq p q) X h = flow-fits q (flow sizes p X) (flow-fits p X h)
   flow-fits (star p) X h = rounds-fits sizes (flow sizes p) (flow-fits p) X h _
+  flow-fits (neg p) X h = setOf-fits sizes _
 
   pub enter-fits : (p : Policy) (X : PacketSet) → Fits sizes X → (i : ℕ) → Fits sizes (enter sizes p X i)
   unfolding enter
@@ -57,6 +61,7 @@ module _ (sizes : List ℕ) where
   enter-fits (sum p q) X h i = union-fits sizes _ _
   enter-fits (seq p q) X h i = union-fits sizes _ _
   enter-fits (star p) X h i = enter-fits p (flow sizes (star p) X) (flow-fits (star p) X h) i
+  enter-fits (neg p) X h i = empty-fits sizes
 
   -- ---- from the packets of a set
 
@@ -146,46 +151,91 @@ module _ (sizes : List ℕ) where
         (h .μ, subst (λ x. Tr P p α x (h .μ)) (e .0) (h .first), subst (λ x. Tr P q (h .μ) x γ) (e .1) (h .second)),
   )
 
-  silently : (p : Policy) → InFields sizes p → (X : PacketSet) → Fits sizes X → (γ : ℕ) → In (flow sizes p X) γ ↔ From X (Silent p) γ
-  unfolding flow InFields Tr
-  silently drop f X h γ = from-nothing X (Silent drop) γ (λ α t. t)
-  silently id f X h γ = (λ t. (γ, t, (refl, refl)), λ r. subst (In X) (sym (r .2 .1)) (r .1))
-  silently (field a) f X h γ =
+  -- a negation: the packets of X that the test drops
+  module _ (p : Policy) (test : isTest p ≡ true) (exact : (Y : PacketSet) → Fits sizes Y → (γ : ℕ) → In (flow sizes p Y) γ ↔ From Y (Silent p) γ) where
+    abbrev by-itself : ℕ → PacketSet
+    by-itself γ = flow sizes p (single sizes γ)
+
+    from-itself : (γ δ : ℕ) → γ < product sizes → In (by-itself γ) δ ↔ Passes P p γ δ
+    from-itself γ δ l =
+        let e = exact (single sizes γ) (single-fits sizes γ) δ in (
+          λ t. let r = e .0 t in
+              let s = single-iff sizes γ (r .0) .0 (r .1) in
+              passes-iff P p γ δ .1 (subst (λ α. Silent p α δ) (s .1) (r .2)),
+          λ h. e .1 (γ, single-iff sizes γ γ .1 (l, refl), passes-iff P p γ δ .0 h),
+        )
+
+    dropped : (γ : ℕ) → γ < product sizes → T (eqb (by-itself γ) 0) ↔ Drops P (Traces P p) γ
+    unfolding Drops Passes
+    dropped γ l = (
+      λ t u h.
+          let s = test-traces P p test γ u .0 h in
+          empty sizes γ (subst (λ Y. In Y γ) (eqb→eq (by-itself γ) 0 t) (from-itself γ γ l .1 (subst (Traces P p γ) (s .1) h))),
+      λ d.
+          eqb-true (by-itself γ) 0
+          (same-set sizes (by-itself γ) 0 (flow-fits p (single sizes γ) (single-fits sizes γ)) (empty-fits sizes)
+          (λ δ t. absurd (d (δ ∷ []) (from-itself γ δ l .0 t))) (λ δ t. absurd (empty sizes δ t))),
+    )
+
+    neg-exact : (X : PacketSet) → Fits sizes X → (γ : ℕ) → In (flow sizes (neg p) X) γ ↔ From X (Silent (neg p)) γ
+    unfolding flow Tr
+    neg-exact X h γ =
+        let e = setOf-iff sizes (λ γ. bit X γ && eqb (by-itself γ) 0) γ in (
+          λ t. let r = e .0 t in
+              let b = both (bit X γ) (eqb (by-itself γ) 0) .0 (r .1) in
+              (γ, b .0, (refl, dropped γ (r .0) .0 (b .1), refl)),
+          λ r.
+              let x : In X γ = subst (In X) (sym (r .2 .2)) (r .1) in
+              let l = below sizes X h γ x in
+              e .1 (l, both (bit X γ) (eqb (by-itself γ) 0) .1 (x, dropped γ l .1 (subst (Drops P (Traces P p)) (sym (r .2 .2)) (r .2 .1)))),
+        )
+
+  silently : (p : Policy) → InFields sizes p → negatesTests p ≡ true → (X : PacketSet) → Fits sizes X → (γ : ℕ) → In (flow sizes p X) γ ↔ From X (Silent p) γ
+  unfolding flow InFields negatesTests Tr
+  silently drop f n X h γ = from-nothing X (Silent drop) γ (λ α t. t)
+  silently id f n X h γ = (λ t. (γ, t, (refl, refl)), λ r. subst (In X) (sym (r .2 .1)) (r .1))
+  silently (field a) f n X h γ =
       let e = image-iff sizes a (keeps a f) X h γ in
       (λ t. let r = e .0 t in (r .0, r .1, (refl, r .2)), λ r. e .1 (r .0, r .1, r .2 .1))
-  silently (dup i) f X h γ = from-nothing X (Silent (dup i)) γ (λ α t. nil≢cons (t .0))
-  silently (sum p q) f X h γ =
-      from-union (flow sizes p X) (flow sizes q X) X (Silent p) (Silent q) γ (flow-fits p X h) (flow-fits q X h) (silently p (f .0) X h γ)
-      (silently q (f .1) X h γ)
-  silently (seq p q) f X h γ =
-      Iff·trans (silently q (f .1) (flow sizes p X) (flow-fits p X h) γ)
-      (Iff·trans (from-onward (flow sizes p X) X (Silent p) (Silent q) (silently p (f .0) X h) γ) (from-same X (λ α. silent-seq p q α γ)))
-  silently (star p) f X h γ = star-exact p (silently p f) X h γ
+  silently (dup i) f n X h γ = from-nothing X (Silent (dup i)) γ (λ α t. nil≢cons (t .0))
+  silently (sum p q) f n X h γ =
+      let k = and-true (negatesTests p) (negatesTests q) n in
+      from-union (flow sizes p X) (flow sizes q X) X (Silent p) (Silent q) γ (flow-fits p X h) (flow-fits q X h) (silently p (f .0) (k .0) X h γ)
+      (silently q (f .1) (k .1) X h γ)
+  silently (seq p q) f n X h γ =
+      let k = and-true (negatesTests p) (negatesTests q) n in
+      Iff·trans (silently q (f .1) (k .1) (flow sizes p X) (flow-fits p X h) γ)
+      (Iff·trans (from-onward (flow sizes p X) X (Silent p) (Silent q) (silently p (f .0) (k .0) X h) γ) (from-same X (λ α. silent-seq p q α γ)))
+  silently (star p) f n X h γ = star-exact p (silently p f n) X h γ
+  silently (neg p) f n X h γ = neg-exact p n (silently p f (test-negates p n)) X h γ
 
   -- the packets that come out of p unrecorded
-  pub flow-iff : (p : Policy) → InFields sizes p → (X : PacketSet) → Fits sizes X → (γ : ℕ) → In (flow sizes p X) γ ↔ From X (Passes P p) γ
-  flow-iff p f X h γ = Iff·trans (silently p f X h γ) (from-same X (λ α. Iff·symm (passes-iff P p α γ)))
+  pub flow-iff : (p : Policy) → InFields sizes p → negatesTests p ≡ true → (X : PacketSet) → Fits sizes X → (γ : ℕ) → In (flow sizes p X) γ ↔ From X (Passes P p) γ
+  flow-iff p f n X h γ = Iff·trans (silently p f n X h γ) (from-same X (λ α. Iff·symm (passes-iff P p α γ)))
 
   -- the packets with which dup i is reached first
-  pub enter-iff : (p : Policy) → InFields sizes p → (X : PacketSet) → Fits sizes X → (i γ : ℕ) → In (enter sizes p X i) γ ↔ From X (Reaches P p i) γ
-  unfolding enter InFields Reaches
-  enter-iff drop f X h i γ = from-nothing X (Reaches P drop i) γ (λ α t. t)
-  enter-iff id f X h i γ = from-nothing X (Reaches P id i) γ (λ α t. t)
-  enter-iff (field a) f X h i γ = from-nothing X (Reaches P (field a) i) γ (λ α t. t)
-  enter-iff (dup k) f X h i γ =
+  pub enter-iff : (p : Policy) → InFields sizes p → negatesTests p ≡ true → (X : PacketSet) → Fits sizes X → (i γ : ℕ) → In (enter sizes p X i) γ ↔ From X (Reaches P p i) γ
+  unfolding enter InFields negatesTests Reaches
+  enter-iff drop f n X h i γ = from-nothing X (Reaches P drop i) γ (λ α t. t)
+  enter-iff id f n X h i γ = from-nothing X (Reaches P id i) γ (λ α t. t)
+  enter-iff (field a) f n X h i γ = from-nothing X (Reaches P (field a) i) γ (λ α t. t)
+  enter-iff (dup k) f n X h i γ =
       let e = cond-iff sizes (eqb i k) X γ in (
         λ t. let c = e .0 t in (γ, c .1, (eqb→eq i k (c .0), refl)),
         λ r. e .1 (eqb-true i k (r .2 .0), subst (In X) (sym (r .2 .1)) (r .1)),
       )
-  enter-iff (sum p q) f X h i γ =
+  enter-iff (sum p q) f n X h i γ =
+      let k = and-true (negatesTests p) (negatesTests q) n in
       from-union (enter sizes p X i) (enter sizes q X i) X (Reaches P p i) (Reaches P q i) γ (enter-fits p X h i) (enter-fits q X h i)
-      (enter-iff p (f .0) X h i γ) (enter-iff q (f .1) X h i γ)
-  enter-iff (seq p q) f X h i γ =
+      (enter-iff p (f .0) (k .0) X h i γ) (enter-iff q (f .1) (k .1) X h i γ)
+  enter-iff (seq p q) f n X h i γ =
+      let k = and-true (negatesTests p) (negatesTests q) n in
       let Y = flow sizes p X in
       let hy = flow-fits p X h in
       from-union (enter sizes p X i) (enter sizes q Y i) X (Reaches P p i) (λ α γ. (μ : ℕ) × Passes P p α μ × Reaches P q i μ γ) γ (enter-fits p X h i)
-      (enter-fits q Y hy i) (enter-iff p (f .0) X h i γ)
-      (Iff·trans (enter-iff q (f .1) Y hy i γ) (from-onward Y X (Passes P p) (Reaches P q i) (flow-iff p (f .0) X h) γ))
-  enter-iff (star p) f X h i γ =
+      (enter-fits q Y hy i) (enter-iff p (f .0) (k .0) X h i γ)
+      (Iff·trans (enter-iff q (f .1) (k .1) Y hy i γ) (from-onward Y X (Passes P p) (Reaches P q i) (flow-iff p (f .0) (k .0) X h) γ))
+  enter-iff (star p) f n X h i γ =
       let Y = flow sizes (star p) X in
-      Iff·trans (enter-iff p f Y (flow-fits (star p) X h) i γ) (from-onward Y X (Passes P (star p)) (Reaches P p i) (flow-iff (star p) f X h) γ)
+      Iff·trans (enter-iff p f n Y (flow-fits (star p) X h) i γ) (from-onward Y X (Passes P (star p)) (Reaches P p i) (flow-iff (star p) f n X h) γ)
+  enter-iff (neg p) f n X h i γ = from-nothing X (Reaches P (neg p) i) γ (λ α t. t)

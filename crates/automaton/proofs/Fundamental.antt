@@ -5,7 +5,7 @@ use mathlib.Core.List.{List, [], _∷_, _++_, append-assoc, cons≢nil, head-eq-
 use mathlib.Core.Logic.{inl, inr, _↔_}
 use mathlib.Core.Path.{_≡_, refl, sym, ap, ap₂, _∙_, subst}
 use Rattle.policy.specs.Meaning.{Packets, Traces}
-use Rattle.policy.specs.Tree.{Policy, drop, id, field, dup, sum, seq, star}
+use Rattle.policy.specs.Tree.{Policy, drop, id, field, dup, sum, seq, star, neg}
 use Rattle.policy.specs.Visits.{HasDup, Labelled}
 use Rattle.automaton.specs.Reaches.{Passes, Reaches}
 use Rattle.automaton.specs.Remainder.{remainder}
@@ -86,6 +86,7 @@ module _ (P : Packets) where
         (k .0, passes-iff (star p) α (k .0) .1 (k .1), r .3),
         record { u = s .u; v = s .v; μ = s .μ; split = s .split; first = r .4; second = s .second },
       )
+  first-dup (neg p) α γ w δ t = absurd (cons≢nil (t .0))
 
   pub dup-first : (p : Policy) (i : ℕ) (α γ : P .Packet) → Reaches P p i α γ
       → (r : Policy) × Spine p i r × ((w : List (P .Packet)) (δ : P .Packet) → Tr P r γ w δ → Tr P p α (γ ∷ w) δ)
@@ -115,6 +116,7 @@ module _ (P : Packets) where
         λ w δ t. star-append (Tr P p) (γ ∷ w) (γ ∷ w) refl (passes-iff (star p) α (h .0) .0 (h .1))
             (more (γ ∷ t .u) (t .v) (t .μ) (ap (λ x. γ ∷ x) (t .split)) (r .2 (t .u) (t .μ) (t .first)) (t .second)),
       )
+  dup-first (neg p) i α γ h = absurd h
 
   -- ---- for remainders
 

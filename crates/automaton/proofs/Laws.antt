@@ -1,6 +1,6 @@
 -- Output and next say exactly what document 01 says of them, and the traces of a state follow from them.
 use Prim.Native.Nat.{ℕ, zero, suc, _^_, _<_, suc-le-suc}
-use mathlib.Core.Bool.{cond}
+use mathlib.Core.Bool.{true, cond}
 use mathlib.Core.List.{List, [], _∷_, _++_}
 use mathlib.Core.Logic.{_↔_}
 use mathlib.Core.Path.{_≡_, refl, sym, ap, _∙_, subst}
@@ -12,6 +12,7 @@ use lib.Dec.{T, lit<}
 use Rattle.packet.specs.Sizes.{product}
 use Rattle.policy.specs.Legality.{InFields, occurrences}
 use Rattle.policy.specs.Meaning.{Packets, numbered, Traces}
+use Rattle.policy.specs.Tests.{negatesTests}
 use Rattle.policy.specs.Tree.{Policy, drop}
 use Rattle.policy.specs.Visits.{labels, HasDup}
 use Rattle.policy.proofs.TraceLaws.{traces-non-empty}
@@ -22,7 +23,7 @@ use Rattle.automaton.specs.Remainder.{remainder, Evaluable}
 use Rattle.automaton.specs.Reaches.{Passes, Reaches}
 use Rattle.automaton.specs.State.{Marks, PacketSet, single, flow, enter, ofMarked, outputSet, enteredSet, output, next, outputMask, nextMask, StateTraces, runs, hasTrace}
 use Rattle.automaton.proofs.Tests.{T-false}
-use Rattle.automaton.proofs.RightSpines.{remainder-fields, remainder-listed}
+use Rattle.automaton.proofs.RightSpines.{remainder-fields, remainder-listed, remainder-negates}
 use Rattle.automaton.proofs.Fundamental.{reached-has, remainder-iff}
 use Rattle.automaton.proofs.Sets.{Fits, below, empty, empty-fits, cond-fits, cond-iff, single-fits, single-iff, unionOver-fits, unionOver-iff}
 use Rattle.automaton.proofs.Flow.{From, flow-fits, enter-fits, flow-iff, enter-iff}
@@ -38,6 +39,9 @@ module _ (sizes : List ℕ) (dups : ℕ) (p : Policy) (ok : Evaluable sizes dups
 
   fields : (j : ℕ) → InFields sizes (remainder p j)
   fields j = remainder-fields sizes p (ok .inFields) j
+
+  negates : (j : ℕ) → negatesTests (remainder p j) ≡ true
+  negates j = remainder-negates p (ok .negates) j
 
   -- ---- the union over the marked remainders
 
@@ -79,7 +83,7 @@ module _ (sizes : List ℕ) (dups : ℕ) (p : Policy) (ok : Evaluable sizes dups
     output-exact γ =
         let X = single sizes β in
         let h = single-fits sizes β in
-        related-iff (λ r. flow sizes r X) (Passes P) (λ r. flow-fits sizes r X h) γ (λ j. flow-iff sizes (remainder p j) (fields j) X h γ) (λ t. t)
+        related-iff (λ r. flow sizes r X) (Passes P) (λ r. flow-fits sizes r X h) γ (λ j. flow-iff sizes (remainder p j) (fields j) (negates j) X h γ) (λ t. t)
 
     next-exact : (γ i : ℕ) → T (next sizes p marks β γ i) ↔ ((β < product sizes) × ((j : ℕ) × T (marks j) × Reaches P (remainder p j) i β γ))
     unfolding next enteredSet Reaches
@@ -87,7 +91,7 @@ module _ (sizes : List ℕ) (dups : ℕ) (p : Policy) (ok : Evaluable sizes dups
         let X = single sizes β in
         let h = single-fits sizes β in
         related-iff (λ r. enter sizes r X i) (λ r. Reaches P r i) (λ r. enter-fits sizes r X h i) γ
-        (λ j. enter-iff sizes (remainder p j) (fields j) X h i γ) (λ t. t)
+        (λ j. enter-iff sizes (remainder p j) (fields j) (negates j) X h i γ) (λ t. t)
 
     -- the next state marks dups of the policy alone
     pub next-marks-dups : (γ i : ℕ) → T (next sizes p marks β γ i) → HasDup p i

@@ -1,19 +1,21 @@
 -- Right spines as a relation: one of every dup, also where dups share a number, as the dups of a right spine may.
 use Prim.Native.Nat.{ℕ, zero, suc, _<_}
-use mathlib.Core.Bool.{Bool, true, false, cond}
+use mathlib.Core.Bool.{Bool, true, false, cond, _&&_}
 use mathlib.Core.List.{List, _∷_}
 use mathlib.Core.Logic.{_⊎_, inl, inr, ⊎-map, ⊎-elim}
 use mathlib.Core.Option.{Option, none, some, Option·getD, Option·some-injective, Option·none-ne-some}
-use mathlib.Core.Path.{_≡_, refl, sym, ap, _∙_, subst}
+use mathlib.Core.Path.{_≡_, refl, sym, ap, ap₂, _∙_, subst}
 use native.Mathlib.Nat.{not-suc-le-zero}
 use native.Mathlib.Omega.{arith}
 use lib.Dec.{T, eqb, eqb→eq}
+use Rattle.packet.proofs.Tests.{and-true}
 use Rattle.policy.specs.Legality.{occurrences, InFields}
-use Rattle.policy.specs.Tree.{Policy, drop, id, field, dup, sum, seq, star}
+use Rattle.policy.specs.Tree.{Policy, drop, id, field, dup, sum, seq, star, neg}
 use Rattle.policy.specs.Visits.{labels, HasDup, Labelled}
 use Rattle.policy.proofs.EachLaws.{one-same}
 use Rattle.policy.proofs.LabelLaws.{has-one, has-either, labelled-sum, labelled-seq, labelled-star}
 use Rattle.automaton.specs.Remainder.{orElse, followedBy, rightSpine, remainder}
+use Rattle.policy.specs.Tests.{negatesTests}
 use Rattle.automaton.proofs.Tests.{eqb-true, T-true}
 
 -- r is the right spine of a dup with number i
@@ -25,6 +27,7 @@ Spine (dup j) i r = (i ≡ j) × (r ≡ id)
 Spine (sum p q) i r = Spine p i r ⊎ Spine q i r
 Spine (seq p q) i r = ((s : Policy) × Spine p i s × (r ≡ seq s q)) ⊎ Spine q i r
 Spine (star p) i r = (s : Policy) × Spine p i s × (r ≡ seq s (star p))
+Spine (neg p) i r = ⊥
 
 pub spine-has : (p : Policy) (i : ℕ) (r : Policy) → Spine p i r → HasDup p i
 unfolding Spine labels
@@ -37,6 +40,7 @@ spine-has (sum p q) i r (inr h) = has-either p q i .1 (inr (spine-has q i r h))
 spine-has (seq p q) i r (inl h) = has-either p q i .1 (inl (spine-has p i (h .0) (h .1)))
 spine-has (seq p q) i r (inr h) = has-either p q i .1 (inr (spine-has q i r h))
 spine-has (star p) i r h = spine-has p i (h .0) (h .1)
+spine-has (neg p) i r h = absurd h
 
 spine-fields : (sizes : List ℕ) (p : Policy) → InFields sizes p → (i : ℕ) (r : Policy) → Spine p i r → InFields sizes r
 unfolding Spine InFields
@@ -49,6 +53,22 @@ spine-fields sizes (sum p q) f i r (inr h) = spine-fields sizes q (f .1) i r h
 spine-fields sizes (seq p q) f i r (inl h) = subst (InFields sizes) (sym (h .2)) (spine-fields sizes p (f .0) i (h .0) (h .1), f .1)
 spine-fields sizes (seq p q) f i r (inr h) = spine-fields sizes q (f .1) i r h
 spine-fields sizes (star p) f i r h = subst (InFields sizes) (sym (h .2)) (spine-fields sizes p f i (h .0) (h .1), f)
+spine-fields sizes (neg p) f i r h = absurd h
+
+spine-negates : (p : Policy) → negatesTests p ≡ true → (i : ℕ) (r : Policy) → Spine p i r → negatesTests r ≡ true
+unfolding Spine negatesTests
+spine-negates drop n i r h = absurd h
+spine-negates id n i r h = absurd h
+spine-negates (field a) n i r h = absurd h
+spine-negates (dup j) n i r h = ap negatesTests (h .1)
+spine-negates (sum p q) n i r (inl h) = spine-negates p (and-true (negatesTests p) (negatesTests q) n .0) i r h
+spine-negates (sum p q) n i r (inr h) = spine-negates q (and-true (negatesTests p) (negatesTests q) n .1) i r h
+spine-negates (seq p q) n i r (inl h) =
+    let k = and-true (negatesTests p) (negatesTests q) n in
+    ap negatesTests (h .2) ∙ ap₂ _&&_ (spine-negates p (k .0) i (h .0) (h .1)) (k .1)
+spine-negates (seq p q) n i r (inr h) = spine-negates q (and-true (negatesTests p) (negatesTests q) n .1) i r h
+spine-negates (star p) n i r h = ap negatesTests (h .2) ∙ ap₂ _&&_ (spine-negates p n i (h .0) (h .1)) n
+spine-negates (neg p) n i r h = absurd h
 
 -- a right spine of a right spine is one of the policy
 spine-of-spine : (p : Policy) (j : ℕ) (r : Policy) → Spine p j r → (i : ℕ) (s : Policy) → Spine r i s → Spine p i s
@@ -64,6 +84,7 @@ spine-of-spine (seq p q) j r (inl h) i s k =
 spine-of-spine (seq p q) j r (inr h) i s k = inr (spine-of-spine q j r h i s k)
 spine-of-spine (star p) j r h i s k =
     ⊎-elim (λ m. (m .0, spine-of-spine p j (h .0) (h .1) i (m .0) (m .1), m .2)) (λ m. m) (subst (λ x. Spine x i s) (h .2) k)
+spine-of-spine (neg p) j r h i s k = absurd h
 
 -- ---- the right spine as a term
 
@@ -92,6 +113,7 @@ term-spine (seq p q) i r e =
     ⊎-map (λ h. let k = followed-some (rightSpine p i) q r h in (k .0, term-spine p i (k .0) (k .1), k .2)) (term-spine q i r)
     (orElse-some (followedBy (rightSpine p i) q) (rightSpine q i) r e)
 term-spine (star p) i r e = let k = followed-some (rightSpine p i) (star p) r e in (k .0, term-spine p i (k .0) (k .1), k .2)
+term-spine (neg p) i r e = absurd (Option·none-ne-some r e)
 
 no-term : (p : Policy) (i : ℕ) → (HasDup p i → ⊥) → rightSpine p i ≡ none
 no-term p i n = go (rightSpine p i) refl
@@ -118,6 +140,7 @@ spine-term (seq p q) l i r (inr h) =
     let s = labelled-seq l in
     ap (λ o. orElse (followedBy o q) (rightSpine q i)) (no-term p i (λ a. s .apart i a (spine-has q i r h))) ∙ spine-term q (s .right) i r h
 spine-term (star p) l i r h = ap (λ o. followedBy o (star p)) (spine-term p (labelled-star l) i (h .0) (h .1)) ∙ ap {B = Option Policy} some (sym (h .2))
+spine-term (neg p) l i r h = absurd h
 
 -- ---- remainders
 
@@ -149,6 +172,15 @@ remainder-fields sizes p f (suc j) = go (rightSpine p (suc j)) refl
     go : (o : Option Policy) → rightSpine p (suc j) ≡ o → InFields sizes (Option·getD o drop)
     go none e = tt
     go (some r) e = spine-fields sizes p f (suc j) r (term-spine p (suc j) r e)
+
+pub remainder-negates : (p : Policy) → negatesTests p ≡ true → (j : ℕ) → negatesTests (remainder p j) ≡ true
+unfolding negatesTests remainder
+remainder-negates p n zero = n
+remainder-negates p n (suc j) = go (rightSpine p (suc j)) refl
+  where
+    go : (o : Option Policy) → rightSpine p (suc j) ≡ o → negatesTests (Option·getD o drop) ≡ true
+    go none e = refl
+    go (some r) e = spine-negates p n (suc j) r (term-spine p (suc j) r e)
 
 -- a right spine of a remainder is one of the policy
 pub remainder-spine : (p : Policy) (j i : ℕ) (s : Policy) → Spine (remainder p j) i s → Spine p i s

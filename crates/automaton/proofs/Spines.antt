@@ -5,7 +5,7 @@ use mathlib.Core.List.{List, []}
 use mathlib.Core.Logic.{_⊎_, inl, inr, ⊎-map, _↔_}
 use mathlib.Core.Path.{_≡_, refl, sym, subst}
 use Rattle.policy.specs.Meaning.{Packets}
-use Rattle.policy.specs.Tree.{Policy, drop, id, field, dup, sum, seq, star}
+use Rattle.policy.specs.Tree.{Policy, drop, id, field, dup, sum, seq, star, neg}
 use Rattle.policy.specs.Visits.{HasDup, Labelled}
 use Rattle.automaton.specs.Remainder.{remainder}
 use Rattle.automaton.specs.Reaches.{Passes, Reaches}
@@ -27,6 +27,7 @@ module _ (P : Packets) where
   Meets (sum p q) i β γ = Meets p i β γ ⊎ Meets q i β γ
   Meets (seq p q) i β γ = Meets p i β γ ⊎ Onward (Tr P p) (Meets q i) β γ
   Meets (star p) i β γ = Onward (Star P (Tr P p)) (Meets p i) β γ
+  Meets (neg p) i β γ = ⊥
 
   pub meets-iff : (p : Policy) (i : ℕ) (β γ : P .Packet) → Reaches P p i β γ ↔ Meets p i β γ
   unfolding Reaches Meets Passes Tr
@@ -43,6 +44,7 @@ module _ (P : Packets) where
     λ h. (h .0, traces-iff P (star p) β [] (h .0) .0 (h .1), meets-iff p i (h .0) γ .0 (h .2)),
     λ h. (h .0, traces-iff P (star p) β [] (h .0) .1 (h .1), meets-iff p i (h .0) γ .1 (h .2)),
   )
+  meets-iff (neg p) i β γ = (λ h. h, λ h. h)
 
   -- the words of what remains after dup i
   unfoldable pub Rem : Policy → ℕ → Rel P
@@ -53,6 +55,7 @@ module _ (P : Packets) where
   Rem (sum p q) i β w δ = Rem p i β w δ ⊎ Rem q i β w δ
   Rem (seq p q) i β w δ = Then P (Rem p i) (Tr P q) β w δ ⊎ Rem q i β w δ
   Rem (star p) i β w δ = Then P (Rem p i) (Star P (Tr P p)) β w δ
+  Rem (neg p) i β w δ = ⊥
 
   -- what remains after dup j reaches dup i first
   unfoldable pub RemMeets : Policy → ℕ → ℕ → P .Packet → P .Packet → Type 0
@@ -63,6 +66,7 @@ module _ (P : Packets) where
   RemMeets (sum p q) j i β γ = RemMeets p j i β γ ⊎ RemMeets q j i β γ
   RemMeets (seq p q) j i β γ = (RemMeets p j i β γ ⊎ Onward (Rem p j) (Meets q i) β γ) ⊎ RemMeets q j i β γ
   RemMeets (star p) j i β γ = RemMeets p j i β γ ⊎ Onward (Rem p j) (Meets (star p) i) β γ
+  RemMeets (neg p) j i β γ = ⊥
 
   -- ---- they are those of the right spines
 
@@ -82,6 +86,7 @@ module _ (P : Packets) where
   rem-spine (star p) i β w δ h =
       let r = rem-spine p i β (h .u) (h .μ) (h .first) in
       (seq (r .0) (star p), (r .0, r .1, refl), record { u = h .u; v = h .v; μ = h .μ; split = h .split; first = r .2; second = h .second })
+  rem-spine (neg p) i β w δ h = absurd h
 
   spine-rem : (p : Policy) (i : ℕ) (r : Policy) → Spine p i r → (β : P .Packet) (w : List (P .Packet)) (δ : P .Packet) → Tr P r β w δ → Rem p i β w δ
   unfolding Rem Spine Tr
@@ -98,6 +103,7 @@ module _ (P : Packets) where
   spine-rem (star p) i r s β w δ t =
       let k = subst (λ x. Tr P x β w δ) (s .2) t in
       record { u = k .u; v = k .v; μ = k .μ; split = k .split; first = spine-rem p i (s .0) (s .1) β (k .u) (k .μ) (k .first); second = k .second }
+  spine-rem (neg p) i r s β w δ t = s
 
   meets-spine : (p : Policy) (j i : ℕ) (β γ : P .Packet) → RemMeets p j i β γ → (r : Policy) × Spine p j r × Meets r i β γ
   unfolding RemMeets Spine Meets Tr
@@ -116,6 +122,7 @@ module _ (P : Packets) where
   meets-spine (star p) j i β γ (inr h) =
       let r = rem-spine p j β [] (h .0) (h .1) in
       (seq (r .0) (star p), (r .0, r .1, refl), inr (h .0, r .2, h .2))
+  meets-spine (neg p) j i β γ h = absurd h
 
   spine-meets : (p : Policy) (j : ℕ) (r : Policy) → Spine p j r → (i : ℕ) (β γ : P .Packet) → Meets r i β γ → RemMeets p j i β γ
   unfolding RemMeets Spine Meets Tr
@@ -133,6 +140,7 @@ module _ (P : Packets) where
   spine-meets (star p) j r s i β γ m =
       ⊎-map (spine-meets p j (s .0) (s .1) i β γ) (λ k. (k .0, spine-rem p j (s .0) (s .1) β [] (k .0) (k .1), k .2))
       (subst (λ x. Meets x i β γ) (s .2) m)
+  spine-meets (neg p) j r s i β γ m = s
 
   -- ---- only dups of the policy are met and have remainders
 

@@ -7,8 +7,8 @@ use mathlib.Core.Path.{_≡_, refl, sym, ap, ap₂, _∙_, subst₂}
 use lib.Dec.{T}
 use Rattle.policy.specs.declared.FieldAction.{FieldAction}
 use Rattle.policy.specs.declared.FieldAction.the-variants.{Equals, Differs, Set}
-use Rattle.policy.specs.Meaning.{Packets, TraceSet, ActionTraces, Seq, Power, Traces}
-use Rattle.policy.specs.Tree.{Policy, drop, id, field, dup, sum, seq, star}
+use Rattle.policy.specs.Meaning.{Packets, TraceSet, ActionTraces, Seq, Power, Drops, Traces}
+use Rattle.policy.specs.Tree.{Policy, drop, id, field, dup, sum, seq, star, neg}
 use Rattle.policy.proofs.TraceLaws.{snoc-injective}
 
 module _ (P : Packets) where
@@ -44,6 +44,7 @@ module _ (P : Packets) where
   Tr (sum p q) α w δ = Tr p α w δ ⊎ Tr q α w δ
   Tr (seq p q) α w δ = Then (Tr p) (Tr q) α w δ
   Tr (star p) α w δ = Star (Tr p) α w δ
+  Tr (neg p) α w δ = (w ≡ []) × Drops P (Traces P p) α × (δ ≡ α)
 
   last-eq : {w w′ : List (P .Packet)} {δ δ′ : P .Packet} → w ≡ w′ → δ ≡ δ′ → w ++ (δ ∷ []) ≡ w′ ++ (δ′ ∷ [])
   last-eq e d = ap₂ (λ (x : List (P .Packet)) (y : P .Packet). x ++ (y ∷ [])) e d
@@ -82,6 +83,7 @@ module _ (P : Packets) where
   tr→traces (sum p q) α w δ (inr t) = inr (tr→traces q α w δ t)
   tr→traces (seq p q) α w δ t = holds-seq (tr→traces p) (tr→traces q) α w δ t
   tr→traces (star p) α w δ t = holds-star (Traces P p) (tr→traces p) α w δ t
+  tr→traces (neg p) α w δ t = (t .1, last-eq (t .0) (t .2))
 
   -- a trace is a word and a last packet
   abbrev Comes : Rel → P .Packet → List (P .Packet) → Type 0
@@ -122,6 +124,7 @@ module _ (P : Packets) where
   traces→tr (sum p q) α t (inr h) = let r = traces→tr q α t h in (r .0, r .1, r .2, inr (r .3))
   traces→tr (seq p q) α t s = from-seq (traces→tr p) (traces→tr q) α t s
   traces→tr (star p) α t h = from-power (traces→tr p) (h .0) α t (h .1)
+  traces→tr (neg p) α t h = ([], α, h .1, (refl, h .0, refl))
 
   -- the two forms say the same
   pub traces-iff : (p : Policy) (α : P .Packet) (w : List (P .Packet)) (δ : P .Packet) → Traces P p α (w ++ (δ ∷ [])) ↔ Tr p α w δ

@@ -4,7 +4,7 @@ use mathlib.Core.List.{[], _∷_}
 use mathlib.Core.Logic.{_⊎_}
 use mathlib.Core.Path.{_≡_}
 use Rattle.policy.specs.Meaning.{Packets, Traces}
-use Rattle.policy.specs.Tree.{Policy, drop, id, field, dup, sum, seq, star}
+use Rattle.policy.specs.Tree.{Policy, drop, id, field, dup, sum, seq, star, neg}
 
 module _ (P : Packets) where
   -- p passes from β to μ and records nothing
@@ -20,3 +20,4 @@ module _ (P : Packets) where
   Reaches (sum p q) i β γ = Reaches p i β γ ⊎ Reaches q i β γ
   Reaches (seq p q) i β γ = Reaches p i β γ ⊎ ((μ : P .Packet) × Passes p β μ × Reaches q i μ γ)
   Reaches (star p) i β γ = (μ : P .Packet) × Passes (star p) β μ × Reaches p i μ γ
+  Reaches (neg p) i β γ = ⊥

@@ -8,7 +8,7 @@ use Rattle.packet.specs.Sizes.{product}
 use Rattle.policy.specs.declared.FieldAction.{FieldAction}
 use Rattle.policy.specs.declared.FieldAction.the-variants.{Equals, Differs, Set}
 use Rattle.policy.specs.Meaning.{numbered, Traces}
-use Rattle.policy.specs.Tree.{Policy, drop, id, field, dup, sum, seq, star}
+use Rattle.policy.specs.Tree.{Policy, drop, id, field, dup, sum, seq, star, neg}
 use Rattle.policy.specs.Visits.{labels}
 use Rattle.packet_set.specs.Bits.{bit, maskOf}
 use Rattle.automaton.specs.Remainder.{remainder}
@@ -65,6 +65,7 @@ module _ (sizes : List ℕ) where
   flow (sum p q) X = union (flow p X) (flow q X)
   flow (seq p q) X = flow q (flow p X)
   flow (star p) X = starRounds (product sizes) (flow p) X
+  flow (neg p) X = setOf (λ γ. bit X γ && eqb (flow p (single γ)) 0)
 
   -- document 004's D: the packets with which p, from the packets of X, reaches dup i before any other dup
   unfoldable pub enter : Policy → PacketSet → ℕ → PacketSet
@@ -75,6 +76,7 @@ module _ (sizes : List ℕ) where
   enter (sum p q) X i = union (enter p X i) (enter q X i)
   enter (seq p q) X i = union (enter p X i) (enter q (flow p X) i)
   enter (star p) X i = enter p (flow (star p) X) i
+  enter (neg p) X i = 0
 
 module _ (sizes : List ℕ) (p : Policy) where
   -- the union, over the marked remainders, of the set of each; a number that no dup has stands for nothing

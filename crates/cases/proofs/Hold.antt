@@ -7,8 +7,9 @@ use Rattle.packet.specs.Packets.{valueAt, changed, valuesOf, numberOf}
 use Rattle.packet.specs.Sizes.{product, badCount, zeroSize, productOver, fieldsStage, productStage}
 use Rattle.packet.specs.Refusals.{refusal, refusedAt, atPlace, firstOf}
 use Rattle.packet.specs.Written.{written}
-use Rattle.policy.specs.NodeLists.{nodeCount, nodeOf, nodeAt, children, one, isDup, dupsBelow, grow, treeAt, policyOf}
-use Rattle.policy.specs.Legality.{badLengths, badKind, badField, used, wrongEntries, badEntries, someNotBelow, badChild, occurrences, timesChild, notOnce, maxDups, tooManyDups}
+use Rattle.policy.specs.NodeLists.{nodeCount, nodeOf, nodeAt, children, one, isDup, dupsBelow, grow, treeAt, treeOf, policyOf}
+use Rattle.policy.specs.Legality.{badLengths, badKind, badField, used, wrongEntries, badEntries, someNotBelow, badChild, occurrences, timesChild, notOnce, negatesOther, badNegation, maxDups, tooManyDups}
+use Rattle.policy.specs.Tests.{isTest}
 use Rattle.policy.specs.Order.{order, inOrder, causes, sided, cause, policiesStage, stagesOf, policyTests, pairTests}
 use Rattle.turning.specs.Turning.{lengthTest, numberStage, valuesTests, valuesAnswer, keptUnless, valuesLeft, badValue, valuesStage, numberTests, numberAnswer}
 use Rattle.legality.specs.Answers.{policyAnswer, pairAnswer, policyLegality, pairLegality}
@@ -32,13 +33,13 @@ use Rattle.evidence.specs.Calls.{evidenceOf, evidenceTests, evidenceCall}
 use Rattle.traces.specs.Checking as following
 use Rattle.traces.specs.Checking.{badPacket, packetsStage, checkedAs, checkedUnless, traceTests, traceCall}
 use Rattle.grammar.specs.Bytes.{isBlank, isLetter, isDigit, inWord}
-use Rattle.grammar.specs.Tokens.{fieldNames, sameWord, allDigits, decimal, leadingZero, isNumber, numberToken, fieldToken, fieldNamed, wordToken, singleMark, doubleMark, beginsDouble, markToken, wordOf, frontToken, isBad, restOfToken, placedFrom, tokensFrom, tokens}
+use Rattle.grammar.specs.Tokens.{fieldNames, sameWord, allDigits, decimal, leadingZero, isNumber, numberToken, fieldToken, fieldNamed, wordToken, singleMark, isDouble, doubleMark, beginsDouble, markToken, wordOf, frontToken, isBad, restOfToken, placedFrom, tokensFrom, tokens}
 use Rattle.grammar.specs.Grammar.{constantPolicy, fieldAction}
-use Rattle.grammar.specs.Reading.{nothing, joinSequence, joinSum, upTo, whole, start, close, step, finish, readOn}
+use Rattle.grammar.specs.Reading.{nothing, joinSequence, joinSum, upTo, whole, negated, negating, itemRead, start, close, step, finish, readOn}
 use Rattle.grammar.specs.Answer.{badPlace, openAfter, deepPlace, stopPlace, treeRead, tooMany, answerAfter, outcome, textTree, tested, answerTo, leftBy, shortest}
 use Rattle.search_texts.specs.Call.{textNodes, textStage, textsTests, textsVerdict, textsLeaves}
 use Rattle.cases.specs.Cases.{Case, resultOf, bytes, dups, nested, nines, words, lending, thenNines, holding, compares, cases}
 
 pub all-as-stated : map (λ (c : Case). resultOf (c .call)) cases ≡ map (λ (c : Case). c .stated) cases
-unfolding xor lowest orAt valueAt changed valuesOf numberOf product nodeCount nodeOf nodeAt one isDup dupsBelow grow treeAt policyOf nodeEntry actionEntry treeSize entriesFrom listsOf nodesOf bit maskOf anyBelow setOf union takes image starRounds single unionOver labels rightSpine orElse followedBy remainder flow enter ofMarked outputSet enteredSet next outputMask nextMask runs hasTrace starts sameRow listed append appendNext lowestTelling turn handle runFrom run climbing climb path entering runAnswer answerWith held at onBoth outputAt nextAt sameStates bothZero inOneOutput bitsOfDups lastOf sideOf reported searchAnswer columnsOf heldColumns andThen brokenAt present breaksA breaksB breaksD checkRow checkRows checkRules evidenceAnswer answerOf sideHas traceAnswer misfit rowsMisfit listsStage lentTests workAfter verdictOf traceAfter filled verdictAfter lentAfter searchTests searchVerdict searchLeaves checking.asEvidence evidenceOf evidenceTests evidenceCall badPacket packetsStage checkedAs checkedUnless following.listsTests traceTests traceCall policyTests pairTests policyAnswer pairAnswer policyLegality pairLegality lengthTest numberStage valuesStage valuesTests valuesAnswer keptUnless valuesLeft badValue numberTests numberAnswer sided isBlank isLetter isDigit inWord fieldNames sameWord allDigits decimal leadingZero isNumber numberToken fieldToken fieldNamed wordToken singleMark doubleMark beginsDouble markToken wordOf frontToken isBad restOfToken placedFrom tokensFrom tokens constantPolicy fieldAction nothing joinSequence joinSum upTo whole start close step finish readOn badPlace openAfter deepPlace stopPlace treeRead tooMany answerAfter outcome textTree tested answerTo leftBy shortest textNodes textStage textsTests textsVerdict textsLeaves badCount zeroSize productOver fieldsStage productStage refusal refusedAt atPlace firstOf written children badLengths badKind badField used wrongEntries badEntries someNotBelow badChild occurrences timesChild notOnce maxDups tooManyDups cause policiesStage onlyBits resultOf bytes dups nested nines words lending thenNines holding compares cases order inOrder causes stagesOf
+unfolding xor lowest orAt valueAt changed valuesOf numberOf product nodeCount nodeOf nodeAt one isDup dupsBelow grow treeAt treeOf policyOf nodeEntry actionEntry treeSize entriesFrom listsOf nodesOf bit maskOf anyBelow setOf union takes image starRounds single unionOver labels rightSpine orElse followedBy remainder flow enter ofMarked outputSet enteredSet next outputMask nextMask runs hasTrace starts sameRow listed append appendNext lowestTelling turn handle runFrom run climbing climb path entering runAnswer answerWith held at onBoth outputAt nextAt sameStates bothZero inOneOutput bitsOfDups lastOf sideOf reported searchAnswer columnsOf heldColumns andThen brokenAt present breaksA breaksB breaksD checkRow checkRows checkRules evidenceAnswer answerOf sideHas traceAnswer misfit rowsMisfit listsStage lentTests workAfter verdictOf traceAfter filled verdictAfter lentAfter searchTests searchVerdict searchLeaves checking.asEvidence evidenceOf evidenceTests evidenceCall badPacket packetsStage checkedAs checkedUnless following.listsTests traceTests traceCall policyTests pairTests policyAnswer pairAnswer policyLegality pairLegality lengthTest numberStage valuesStage valuesTests valuesAnswer keptUnless valuesLeft badValue numberTests numberAnswer sided isBlank isLetter isDigit inWord fieldNames sameWord allDigits decimal leadingZero isNumber numberToken fieldToken fieldNamed wordToken singleMark isDouble doubleMark beginsDouble markToken wordOf frontToken isBad restOfToken placedFrom tokensFrom tokens constantPolicy fieldAction nothing joinSequence joinSum upTo whole negated negating itemRead start close step finish readOn badPlace openAfter deepPlace stopPlace treeRead tooMany answerAfter outcome textTree tested answerTo leftBy shortest textNodes textStage textsTests textsVerdict textsLeaves badCount zeroSize productOver fieldsStage productStage refusal refusedAt atPlace firstOf written children badLengths badKind badField used wrongEntries badEntries someNotBelow badChild occurrences timesChild notOnce isTest negatesOther badNegation maxDups tooManyDups cause policiesStage onlyBits resultOf bytes dups nested nines words lending thenNines holding compares cases order inOrder causes stagesOf
 all-as-stated = refl

@@ -1,4 +1,5 @@
--- Document 01, "Pairs to hold against it": P1 to P11 from document 01's own texts, its edges, and further pairs, as one table of calls.
+-- Document 01, "Pairs to hold against it": P1 to P11 from document 01's own texts, its edges, and further pairs, document 02's too, as one
+-- table of calls.
 -- A line is a call with every list lent to it, and the answer and the lists that are stated; `resultOf` is what the calls promise.
 use Prim.Native.Nat.{ℕ, zero, suc, _-_}
 use Prim.Native.Char.{code}
@@ -112,13 +113,13 @@ dups (suc n) = bytes "dup+" ++ dups n
 unfoldable pub nested : ℕ → List ℕ
 nested n = replicate n 40 ++ bytes "id" ++ replicate n 41
 
--- every kind in lists, of the policy ((f0=0;f0!=1)+drop);dup;(f0<-1;id)*
+-- every kind in lists, of the policy ((f0=0;f0!=1)+drop);dup;(f0<-1;!drop;id)*
 abbrev everyKind : NodeLists
 everyKind =
     asLists
-    (2 ∷ 3 ∷ 7 ∷ 0 ∷ 6 ∷ 5 ∷ 7 ∷ 4 ∷ 1 ∷ 7 ∷ 8 ∷ 7 ∷ [])
-    (0 ∷ 0 ∷ 0 ∷ 0 ∷ 2 ∷ 0 ∷ 4 ∷ 0 ∷ 0 ∷ 7 ∷ 9 ∷ 6 ∷ [])
-    (0 ∷ 1 ∷ 1 ∷ 0 ∷ 3 ∷ 0 ∷ 5 ∷ 1 ∷ 0 ∷ 8 ∷ 0 ∷ 10 ∷ [])
+    (2 ∷ 3 ∷ 7 ∷ 0 ∷ 6 ∷ 5 ∷ 7 ∷ 4 ∷ 0 ∷ 9 ∷ 7 ∷ 1 ∷ 7 ∷ 8 ∷ 7 ∷ [])
+    (0 ∷ 0 ∷ 0 ∷ 0 ∷ 2 ∷ 0 ∷ 4 ∷ 0 ∷ 0 ∷ 8 ∷ 7 ∷ 0 ∷ 10 ∷ 12 ∷ 6 ∷ [])
+    (0 ∷ 1 ∷ 1 ∷ 0 ∷ 3 ∷ 0 ∷ 5 ∷ 1 ∷ 0 ∷ 0 ∷ 9 ∷ 0 ∷ 11 ∷ 0 ∷ 13 ∷ [])
 
 -- a sequence whose second dup is node 0 and whose first is node 1
 abbrev turnedRound : NodeLists
@@ -174,7 +175,7 @@ judges sizes l r packets lefts rights answer = gives (checkRows sizes l r packet
 abbrev follows : List ℕ → NodeLists → NodeLists → ℕ → List ℕ → TraceChecked → Case
 follows sizes l r entering packets answer = gives (checkTrace sizes l r entering packets (nines words)) (followed answer (replicate words 0))
 
--- a refusal of causes 4 to 9: number, side and place
+-- a refusal of causes 4 to 9 and 19: number, side and place
 abbrev refuses : NodeLists → NodeLists → ℕ → ℕ → ℕ → Case
 refuses l r number side place = gives (bothLegal (2 ∷ 3 ∷ []) l r) (legality (PairRefused (refusal number side place)))
 
@@ -191,6 +192,9 @@ P2-right = nodes "dup;f0=0"
 
 abbrev P2-rows : Columns
 P2-rows = columns (0 ∷ 1 ∷ 0 ∷ 1 ∷ []) (1 ∷ 1 ∷ 2 ∷ 0 ∷ []) (1 ∷ 1 ∷ 2 ∷ 2 ∷ []) (0 ∷ 1 ∷ 0 ∷ 1 ∷ [])
+
+abbrev A1-rows : Columns
+A1-rows = columns (0 ∷ 1 ∷ 0 ∷ 1 ∷ []) (1 ∷ 1 ∷ 2 ∷ 2 ∷ []) (1 ∷ 1 ∷ 0 ∷ 2 ∷ []) (0 ∷ 1 ∷ 0 ∷ 1 ∷ [])
 
 abbrev P5 : ℕ → Verdict → Columns → List Case
 P5 rows verdict held = compares (1 ∷ []) "dup*" "id+dup;dup*" rows 2 verdict held []
@@ -274,10 +278,10 @@ cases =
     ∷ refuses (asLists [] [] []) pass 4 1 0
     ∷ refuses pass (asLists (replicate 513 1) (replicate 513 0) (replicate 513 0)) 4 2 0
     -- of two causes the earlier, of two sides the left, of two nodes the lower
-    ∷ refuses (asLists (1 ∷ 9 ∷ []) (1 ∷ 0 ∷ []) (0 ∷ 0 ∷ [])) pass 5 1 1
-    ∷ refuses (asLists (1 ∷ []) (1 ∷ []) (0 ∷ [])) (asLists (9 ∷ []) (0 ∷ []) (0 ∷ [])) 5 2 0
-    ∷ refuses (asLists (9 ∷ []) (0 ∷ []) (0 ∷ [])) (asLists (9 ∷ 9 ∷ []) (0 ∷ 0 ∷ []) (0 ∷ 0 ∷ [])) 5 1 0
-    ∷ refuses pass (asLists (9 ∷ 9 ∷ []) (0 ∷ 0 ∷ []) (0 ∷ 0 ∷ [])) 5 2 0
+    ∷ refuses (asLists (1 ∷ 10 ∷ []) (1 ∷ 0 ∷ []) (0 ∷ 0 ∷ [])) pass 5 1 1
+    ∷ refuses (asLists (1 ∷ []) (1 ∷ []) (0 ∷ [])) (asLists (10 ∷ []) (0 ∷ []) (0 ∷ [])) 5 2 0
+    ∷ refuses (asLists (10 ∷ []) (0 ∷ []) (0 ∷ [])) (asLists (10 ∷ 10 ∷ []) (0 ∷ 0 ∷ []) (0 ∷ 0 ∷ [])) 5 1 0
+    ∷ refuses pass (asLists (10 ∷ 10 ∷ []) (0 ∷ 0 ∷ []) (0 ∷ 0 ∷ [])) 5 2 0
     -- a value equal to its field's size, an undeclared field, a star's second entry, an unused entry
     ∷ refuses (asLists (2 ∷ []) (1 ∷ []) (3 ∷ [])) pass 6 1 0
     ∷ refuses (asLists (4 ∷ []) (2 ∷ []) (0 ∷ [])) pass 6 1 0
@@ -292,8 +296,37 @@ cases =
     ∷ gives (oneLegal (2 ∷ []) everyKind) (legalityOfOne (LegalAlone 1))
     ∷ gives (oneLegal (2 ∷ []) (asLists (5 ∷ []) (0 ∷ []) (7 ∷ []))) (legalityOfOne (AloneRefused (refusal 6 0 0)))
     -- causes 14 to 17: each over the whole text before the next
-    ∷ unread (bytes "f0 ! = 0") 9 14 3
     ∷ unread (bytes "id+;00") 9 14 4
     ∷ unread (bytes "id+ ") 9 16 4
     ∷ unread (bytes "id;dup*") 3 17 4
+    -- document 02, A.1: a negated sequence; a negation before and after a dup; `!` binds closer than `*`; a negation in a star
+    ∷ compares (2 ∷ 2 ∷ []) "!(f0=0;f1=0)" "f0!=0+f1!=0" 5 3 (Equal 4) (columns (0 ∷ 1 ∷ 2 ∷ 3 ∷ []) (1 ∷ 1 ∷ 1 ∷ 1 ∷ []) (1 ∷ 1 ∷ 1 ∷ 1 ∷ []) (0 ∷ 1 ∷ 2 ∷ 3 ∷ [])) []
+    ++ compares (2 ∷ []) "dup;!f0=0" "!f0=0;dup" 5 3 (Equal 4) A1-rows []
+    ++ judges (2 ∷ []) (nodes "dup;!f0=0") (nodes "!f0=0;dup") (0 ∷ 1 ∷ 0 ∷ 1 ∷ []) (1 ∷ 1 ∷ 2 ∷ 2 ∷ []) (1 ∷ 1 ∷ 0 ∷ 2 ∷ []) Accepted
+    ∷ follows (2 ∷ []) (nodes "!f0=0") (nodes "f0=0") 1 (1 ∷ []) OnlyLeft
+    ∷ follows (2 ∷ []) (nodes "!f0=0") (nodes "f0=0") 0 (0 ∷ []) OnlyRight
+    ∷ compares (2 ∷ []) "!f0=0*" "id" 5 3 (Equal 2) starts2 []
+    ++ compares (3 ∷ []) "(f0<-1;!f0=0)*" "id+f0<-1" 5 3 (Equal 3) starts3 []
+    -- kind 9's entries, child and place in the tree: 6, 7 and 8
+    ++ refuses (asLists (1 ∷ 9 ∷ []) (0 ∷ 0 ∷ []) (0 ∷ 1 ∷ [])) pass 6 1 1
+    ∷ refuses (asLists (1 ∷ 9 ∷ []) (0 ∷ 1 ∷ []) (0 ∷ 0 ∷ [])) pass 7 1 1
+    ∷ refuses (asLists (5 ∷ 9 ∷ 1 ∷ []) (0 ∷ 0 ∷ 0 ∷ []) (0 ∷ 0 ∷ 0 ∷ [])) pass 8 1 1
+    -- 19: a star, a dup and a change anywhere below, of nested negations the inner one; before 9, and nothing is written
+    ∷ refuses (nodes "!(f0=0*)") pass 19 1 2
+    ∷ refuses pass (nodes "!!dup") 19 2 1
+    ∷ refuses (nodes "!(f0=0+dup)") (nodes "!dup") 19 1 3
+    ∷ refuses (nodes "!!(f0=0;f1<-2)") pass 19 1 3
+    ∷ gives (bothLegal (1 ∷ []) (textNodes (dups 31)) (nodes "!dup")) (legality (PairRefused (refusal 19 2 1)))
+    ∷ gives (oneLegal (2 ∷ []) (nodes "!dup")) (legalityOfOne (AloneRefused (refusal 19 0 1)))
+    ∷ gives (oneLegal (2 ∷ []) (nodes "!(!f0=0+drop;f0!=1;id)")) (legalityOfOne (LegalAlone 0))
+    ∷ gives (searchTexts (2 ∷ []) (bytes "id") (bytes "!dup") (lending 5 3)) (searched (Refused (refusal 19 2 1)) (lending 5 3))
+    ∷ gives (search (2 ∷ []) (nodes "!dup") pass (lending 5 3)) (searched (Refused (refusal 19 1 1)) (lending 5 3))
+    ∷ gives (checkRows (2 ∷ []) (nodes "!dup") pass [] [] [] (nines words)) (judged (NotChecked (refusal 19 1 1)) (nines words))
+    ∷ gives (checkTrace (2 ∷ []) pass (nodes "!dup") 0 [] (nines words)) (followed (NotFollowed (refusal 19 2 1)) (nines words))
+    -- `!` in a text: `!` directly before `=` is a part of `!=`
+    ∷ gives (read (bytes "!f0=0*") (nines 4) (nines 4) (nines 4)) (readAs (Nodes 3) (asLists (2 ∷ 9 ∷ 8 ∷ 9 ∷ []) (0 ∷ 0 ∷ 1 ∷ 9 ∷ []) (0 ∷ 0 ∷ 0 ∷ 9 ∷ [])))
+    ∷ unread (bytes "f0 ! = 0") 9 16 3
+    ∷ unread (bytes "!!=0") 9 16 1
+    ∷ unread (bytes "!") 9 16 1
+    ∷ unread (bytes "!!!id") 3 17 4
     ∷ []

@@ -35,7 +35,7 @@ comparedOf side (some γ) = differsAt (side γ) γ
 unfoldable pub comparedSets : ℕ → List ℕ → List ℕ → Compared
 comparedSets k a b = comparedOf (λ γ. cond (member a γ) left right) (lowestIn k 0 (exclusiveOrOf k a b))
 
--- what loading both policies asks: causes 1 to 9 don't hold, and each policy has its lists
+-- what loading both policies asks: no cause before 10 holds, and each policy has its lists
 pub record LoadReady (sizes : List ℕ) (L R : NodeLists) (count : ℕ) (nodes tests : List (List ℕ)) : Type 0 where
   pub legal-sizes : LegalSizes sizes
   pub left-legal : Legal sizes L
@@ -48,7 +48,7 @@ pub record LoadReady (sizes : List ℕ) (L R : NodeLists) (count : ℕ) (nodes t
   pub right-nodes : length (rightOf nodes) ≡ 544
   pub right-tests : length (rightOf tests) ≡ 8224
 
--- both policies are loaded: causes 1 to 9 don't hold
+-- both policies are loaded: no cause before 10 holds
 pub record BothLoaded (sizes : List ℕ) (L R : NodeLists) (nodes tests : List (List ℕ)) : Type 0 where
   pub legal-sizes : LegalSizes sizes
   pub left-legal : Legal sizes L

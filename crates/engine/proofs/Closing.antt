@@ -12,16 +12,16 @@ use Rattle.packet.specs.Packets.{changed}
 use Rattle.packet.specs.Sizes.{product}
 use Rattle.policy.specs.declared.FieldAction.the-variants.{Equals, Differs, Set}
 use Rattle.policy.specs.declared.Node.{Node}
-use Rattle.policy.specs.declared.Node.the-variants.{Drop, Id, Field, Dup, Sum, Seq, Star}
+use Rattle.policy.specs.declared.Node.the-variants.{Drop, Id, Field, Dup, Sum, Seq, Star, Neg}
 use Rattle.policy.specs.Legality.{Legal}
 use Rattle.policy.specs.Meaning.{numbered}
-use Rattle.policy.specs.NodeLists.{NodeLists, nodeCount, nodeAt, children, dupsBelow}
+use Rattle.policy.specs.NodeLists.{NodeLists, nodeCount, nodeAt, children, dupsBelow, treeOf}
 use Rattle.policy.specs.Visits.{HasDup}
 use Rattle.packet_set.specs.InnerMembers.{Members}
 use Rattle.automaton.specs.Reaches.{Passes, Reaches}
 use Rattle.automaton.proofs.Spines.{meets-iff, meets-has, rem-has, rem-meets-of}
 use Rattle.loaded.specs.Nodes.{testsAt, upAt, guardAt}
-use Rattle.loaded.specs.Loaded.{treeOf, Linked, OnlyTests, Enterable, Enters, DupAt, Loaded}
+use Rattle.loaded.specs.Loaded.{Linked, OnlyTests, Enterable, Enters, DupAt, Loaded}
 use Rattle.engine.specs.Going.{into, by-rule, out-of, Goes, blocked, noted, ruled, tested, changing, recorded, branching, starting, turning, let-out, resting, repeating}
 use Rattle.engine.proofs.Parts.{two-kids, one-kid, Turns, stay, turn, pass-below, change-pass, dup-pass, dup-reach, sum-pass, sum-reach, seq-pass, seq-reach, star-pass, star-pass-self, star-reach}
 use Rattle.engine.proofs.Remains.{RemPass, RemReach, HasBy, PassBy, ReachBy, same-label, has-by, pass-by, reach-by}
@@ -36,6 +36,7 @@ rest-of Dup = 0
 rest-of (Sum x y) = 0
 rest-of (Seq x y) = y
 rest-of (Star x) = 0
+rest-of (Neg x) = 0
 
 unfoldable pub Starred : Node → Type 0
 Starred Drop = ⊥
@@ -45,9 +46,10 @@ Starred Dup = ⊥
 Starred (Sum x y) = ⊥
 Starred (Seq x y) = ⊥
 Starred (Star x) = Unit
+Starred (Neg x) = ⊥
 
 module _ (sizes : List ℕ) (L : NodeLists) (nodes tests : List ℕ) where
-  -- a node with a dup is no tests alone
+  -- a node with a dup is not tests alone
   pub has-moves : (n i : ℕ) → Enterable sizes L nodes tests n → HasDup (treeOf L n) i → testsAt nodes n ≡ false
   unfolding Enterable
   has-moves n i en h = go (testsAt nodes n) refl
@@ -95,6 +97,7 @@ module _ {sizes : List ℕ} {L : NodeLists} {nodes tests : List ℕ} (ld : Loade
     Rule n α (Sum x y) = (testsAt nodes n ≡ false) × Into x α × Into y α
     Rule n α (Seq x y) = (testsAt nodes n ≡ false) × Into x α
     Rule n α (Star x) = (testsAt nodes n ≡ false) × Into x α × OutOf n α
+    Rule n α (Neg x) = ⊥
 
     rule-of : (n α : ℕ) → Goes sizes L nodes tests S D 512 R by-rule n α → (OnlyTests sizes L nodes tests n × OutOf n α) ⊎ Rule n α (nodeAt L n)
     unfolding Rule
@@ -188,6 +191,7 @@ module _ {sizes : List ℕ} {L : NodeLists} {nodes tests : List ℕ} (ld : Loade
               let ok = ih c k (subst (Enters sizes L nodes tests) e (mv .enters)) in
               ⊎-elim (λ o. only o (r .2)) (λ w. w .1)
               (walk c e ok (omega arith) (subst (Linked (upAt nodes) n) e (mv .linked)) (star-pass lg n l c e α γ .0 h) b g)
+          go (Neg c) e r = absurd r
 
       reach-on : (α i γ : ℕ) → α < product sizes → Into n α → Reaches (numbered sizes) (treeOf L n) i α γ → T (D i γ)
       unfolding Rule Linked Enters children HasBy
@@ -225,6 +229,7 @@ module _ {sizes : List ℕ} {L : NodeLists} {nodes tests : List ℕ} (ld : Loade
               let p = star-reach lg n l c e i α γ .0 h in
               ⊎-elim (λ o. absurd (o .dupless i has)) (λ w. ok .reach (p .0) i γ (pass-below lg n l α (p .0) b (p .1)) (w .0) (p .2))
               (walk c e ok (omega arith) (subst (Linked (upAt nodes) n) e (mv .0)) (star-pass lg n l c e α (p .0) .0 (p .1)) b g)
+          go (Neg c) e r = absurd r
 
     complete : (t n : ℕ) → n < t → n < nodeCount L → Enterable sizes L nodes tests n → Complete n
     complete zero n a l en = absurd (not-suc-le-zero a)
@@ -273,6 +278,7 @@ module _ {sizes : List ℕ} {L : NodeLists} {nodes tests : List ℕ} (ld : Loade
             go (Star x) e m r =
                 let k = ih x (one-kid lg n x l (ap children e)) (m .1) (r .0) (r .1) in
                 (pass-below lg n l (r .0) γ (k .0) (r .2), completes n l en .pass (r .0) γ (k .0) (on-star n x x (r .0) l e (m .0) (k .1)) (r .2))
+            go (Neg x) e m r = absurd r
 
         meet-on : ((c : ℕ) → c < n → Enterable sizes L nodes tests c → Resumes c) → ((c : ℕ) → c < n → Enterable sizes L nodes tests c → Meeting c) → Meeting n
         unfolding Linked Enters ReachBy children
@@ -295,6 +301,7 @@ module _ {sizes : List ℕ} {L : NodeLists} {nodes tests : List ℕ} (ld : Loade
             go (Star x) e m (inr r) =
                 let k = res x (one-kid lg n x l (ap children e)) (m .1) (r .0) (r .1) in
                 completes n l en .reach (r .0) j γ (k .0) (on-star n x x (r .0) l e (m .0) (k .1)) (r .2)
+            go (Neg x) e m r = absurd r
 
       resume : (t n : ℕ) → n < t → n < nodeCount L → Enterable sizes L nodes tests n → Resumes n
       resume zero n a l en = absurd (not-suc-le-zero a)

@@ -1,4 +1,4 @@
--- The entry of a node that is no tests alone: what its guard blocks stays outside, and so does what its slot has already.
+-- The entry of a node that is not tests alone: what its guard blocks stays outside, and so does what its slot has already.
 use Prim.Native.Nat.{ℕ}
 use mathlib.Core.Bool.{Bool, true, false, _&&_, _||_, not}
 use mathlib.Core.List.{List}

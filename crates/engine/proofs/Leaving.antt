@@ -11,10 +11,10 @@ use Rattle.packet.specs.Sizes.{product}
 use Rattle.policy.specs.declared.FieldAction.{FieldAction}
 use Rattle.policy.specs.declared.FieldAction.the-variants.{Equals, Differs, Set}
 use Rattle.policy.specs.declared.Node.{Node}
-use Rattle.policy.specs.declared.Node.the-variants.{Drop, Id, Field, Dup, Sum, Seq, Star}
+use Rattle.policy.specs.declared.Node.the-variants.{Drop, Id, Field, Dup, Sum, Seq, Star, Neg}
 use Rattle.policy.specs.Legality.{InFields, badField, fieldOf, valueOf, maxDups}
 use Rattle.policy.specs.InnerEach.{Each}
-use Rattle.policy.specs.NodeLists.{NodeLists, nodeCount, nodeAt, dupsBelow, children, grow}
+use Rattle.policy.specs.NodeLists.{NodeLists, nodeCount, nodeAt, dupsBelow, children, grow, treeOf}
 use Rattle.policy.proofs.LabelLaws.{dups-more}
 use Rattle.policy.proofs.Trees.{children-below, tree-fields}
 use Rattle.packet_set.specs.InnerMembers.{member, emptySet}
@@ -24,7 +24,7 @@ use Rattle.spans.proofs.Sets.{no-packet}
 use Rattle.spans.specs.Spans.{slot, hasMark, Spanned, Holds, Noted, GotMark}
 use Rattle.changes.specs.Changes.{Changing}
 use Rattle.loaded.specs.Nodes.{setIn, testsIn, labelIn, slotIn, nodeIn, readAt, testsAt, guardAt}
-use Rattle.loaded.specs.Loaded.{treeOf, Enterable, Enters, Moves, Moving}
+use Rattle.loaded.specs.Loaded.{Enterable, Enters, Moves, Moving}
 use Rattle.engine.specs.Going.{Recorded, ThroughLists, VisitReady}
 use Rattle.engine.specs.Visiting.{Admitted, EnteredLists, Acted, Sent}
 use Rattle.engine.proofs.Parts.{tree-at}
@@ -36,6 +36,10 @@ use Rattle.engine.proofs.Records.{slot-small, empty-span, records-none,
 pub never-drop : Moves Drop → ⊥
 unfolding Moves
 never-drop h = h
+
+pub never-neg : (c : ℕ) → Moves (Neg c) → ⊥
+unfolding Moves
+never-neg c h = h
 
 pub never-id : Moves Id → ⊥
 unfolding Moves
@@ -56,7 +60,7 @@ pub sent-spanned : {sizes nodes tests : List ℕ} {n from to : ℕ} {set work se
     → Sent sizes nodes tests n from to set work seen next f t set′ work′ seen′ next′ → (L : NodeLists) → VisitReady sizes L nodes tests n from to set work → Spanned f t set′
 sent-spanned h L rd = h .sent L rd .spanned
 
--- a node that is no tests alone has been entered: what goes on, and what is recorded
+-- a node that is not tests alone has been entered: what goes on, and what is recorded
 pub record EntryLists (sizes : List ℕ) (L : NodeLists) (nodes tests : List ℕ) (n from to : ℕ) (set work seen set₂ work₁ seen₁ : List ℕ) : Type 0 where
   pub entered : Entered nodes tests n (member set) (slot work) (member set₂) (slot work₁)
   pub spanned : Spanned from to set₂

@@ -2,23 +2,22 @@
 use Prim.Native.Nat.{ℕ, suc, pred, _<_}
 use mathlib.Core.List.{List, [], _∷_, _++_, nil≢cons}
 use mathlib.Core.Logic.{_⊎_, _↔_, Iff·trans}
-use mathlib.Core.Path.{_≡_, refl, sym, ap, ap₂, _∙_, subst}
+use mathlib.Core.Path.{_≡_, refl, sym, ap, _∙_, subst}
 use native.Mathlib.Omega.{arith}
 use Rattle.packet.specs.Packets.{changed}
 use Rattle.packet.specs.Sizes.{product}
 use Rattle.policy.specs.declared.FieldAction.the-variants.{Set}
 use Rattle.policy.specs.declared.Node.{Node}
-use Rattle.policy.specs.declared.Node.the-variants.{Drop, Id, Field, Dup, Sum, Seq, Star}
+use Rattle.policy.specs.declared.Node.the-variants.{Field, Dup, Sum, Seq, Star}
 use Rattle.policy.specs.InnerEach.{Each}
 use Rattle.policy.specs.Legality.{Legal}
 use Rattle.policy.specs.Meaning.{Packets, numbered, Traces}
-use Rattle.policy.specs.NodeLists.{NodeLists, nodeCount, nodeAt, children, dupsBelow, grow, treeAt, policyOf}
-use Rattle.policy.specs.Tree.{Policy, field, dup, sum, seq, star}
+use Rattle.policy.specs.NodeLists.{NodeLists, nodeCount, nodeAt, children, dupsBelow, grow, policyOf, treeOf}
+use Rattle.policy.specs.Tree.{Policy, field, dup, seq, star}
 use Rattle.policy.proofs.Numbered.{traces-below}
-use Rattle.policy.proofs.Trees.{children-below, two-below, one-below, tree-fuel, tree-fields}
+use Rattle.policy.proofs.Trees.{children-below, two-below, one-below, tree-fuel, tree-grow, tree-fields}
 use Rattle.automaton.specs.Reaches.{Passes, Reaches}
 use Rattle.automaton.proofs.Words.{Rel, Then, Star as Stars, done, more, Acts, Tr, traces-iff}
-use Rattle.loaded.specs.Loaded.{treeOf}
 
 -- ---- policies
 
@@ -87,20 +86,7 @@ module _ {sizes : List ℕ} {L : NodeLists} (lg : Legal sizes L) where
 
   -- the tree of a node of the given kind
   pub tree-at : (n : ℕ) → n < nodeCount L → (d : Node) → nodeAt L n ≡ d → treeOf L n ≡ grow (treeOf L) (dupsBelow L (suc n)) d
-  unfolding treeOf treeAt grow children
-  tree-at n l d e = ap (grow (treeAt L n) (dupsBelow L (suc n))) e ∙ go d e
-    where
-      here : (c : ℕ) → c < n → treeAt L n c ≡ treeAt L (suc c) c
-      here c k = tree-fuel L (children-below (lg .wellFormed)) n (suc c) c k (omega arith) (omega arith)
-
-      go : (d : Node) → nodeAt L n ≡ d → grow (treeAt L n) (dupsBelow L (suc n)) d ≡ grow (treeOf L) (dupsBelow L (suc n)) d
-      go Drop e = refl
-      go Id e = refl
-      go (Field a) e = refl
-      go Dup e = refl
-      go (Sum x y) e = let k = two-kids n x y l (ap children e) in ap₂ sum (here x (k .0)) (here y (k .1))
-      go (Seq x y) e = let k = two-kids n x y l (ap children e) in ap₂ seq (here x (k .0)) (here y (k .1))
-      go (Star x) e = let k = one-kid n x l (ap children e) in ap star (here x k)
+  tree-at n l d e = tree-grow L (children-below (lg .wellFormed)) n l ∙ ap (grow (treeOf L) (dupsBelow L (suc n))) e
 
   -- the root
   pub root-inside : pred (nodeCount L) < nodeCount L

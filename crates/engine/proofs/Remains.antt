@@ -5,18 +5,19 @@ use mathlib.Core.Logic.{_⊎_, ⊎-map, _↔_}
 use mathlib.Core.Path.{_≡_, refl, sym, ap, subst}
 use native.Mathlib.Nat.{not-suc-le-zero}
 use Rattle.policy.specs.declared.Node.{Node}
-use Rattle.policy.specs.declared.Node.the-variants.{Drop, Id, Field, Dup, Sum, Seq, Star}
+use Rattle.policy.specs.declared.Node.the-variants.{Drop, Id, Field, Dup, Sum, Seq, Star, Neg}
 use Rattle.policy.specs.Legality.{Legal, occurrences}
 use Rattle.policy.specs.Meaning.{Packets, numbered}
-use Rattle.policy.specs.NodeLists.{NodeLists, nodeCount, nodeAt, isDup, dupsBelow, grow}
+use Rattle.policy.specs.NodeLists.{NodeLists, nodeCount, nodeAt, isDup, dupsBelow, grow, treeOf}
 use Rattle.policy.specs.Tree.{Policy, star}
 use Rattle.policy.specs.Visits.{labels, HasDup}
 use Rattle.policy.proofs.LabelLaws.{has-one, has-either, label-one}
 use Rattle.automaton.specs.Reaches.{Passes, Reaches}
 use Rattle.automaton.proofs.Words.{Star as Stars, Tr}
 use Rattle.automaton.proofs.Spines.{Meets, meets-iff, Rem, RemMeets}
-use Rattle.loaded.specs.Loaded.{treeOf}
 use Rattle.engine.proofs.Parts.{then-nil, passes-iff, tree-at}
+use Rattle.policy.proofs.Trees.{negated-test}
+use Rattle.loaded.proofs.Meanings.{test-dupless}
 
 module _ (sizes : List ℕ) (L : NodeLists) where
   -- dup i stands in the tree of node n
@@ -40,6 +41,7 @@ module _ (sizes : List ℕ) (L : NodeLists) where
   HasBy n i (Sum x y) = HasAt x i ⊎ HasAt y i
   HasBy n i (Seq x y) = HasAt x i ⊎ HasAt y i
   HasBy n i (Star x) = HasAt x i
+  HasBy n i (Neg x) = ⊥
 
   unfoldable pub PassBy : ℕ → ℕ → ℕ → ℕ → Node → Type 0
   PassBy n i β γ Drop = ⊥
@@ -49,6 +51,7 @@ module _ (sizes : List ℕ) (L : NodeLists) where
   PassBy n i β γ (Sum x y) = RemPass x i β γ ⊎ RemPass y i β γ
   PassBy n i β γ (Seq x y) = ((μ : ℕ) × RemPass x i β μ × Passes (numbered sizes) (treeOf L y) μ γ) ⊎ RemPass y i β γ
   PassBy n i β γ (Star x) = (μ : ℕ) × RemPass x i β μ × Passes (numbered sizes) (treeOf L n) μ γ
+  PassBy n i β γ (Neg x) = ⊥
 
   unfoldable pub ReachBy : ℕ → ℕ → ℕ → ℕ → ℕ → Node → Type 0
   ReachBy n i j β γ Drop = ⊥
@@ -59,6 +62,7 @@ module _ (sizes : List ℕ) (L : NodeLists) where
   ReachBy n i j β γ (Seq x y) =
       (RemReach x i j β γ ⊎ ((μ : ℕ) × RemPass x i β μ × Reaches (numbered sizes) (treeOf L y) j μ γ)) ⊎ RemReach y i j β γ
   ReachBy n i j β γ (Star x) = RemReach x i j β γ ⊎ ((μ : ℕ) × RemPass x i β μ × Reaches (numbered sizes) (treeOf L n) j μ γ)
+  ReachBy n i j β γ (Neg x) = ⊥
 
   -- a label belongs to one dup
   pub same-label : (m n : ℕ) → nodeAt L m ≡ Dup → nodeAt L n ≡ Dup → dupsBelow L (suc m) ≡ dupsBelow L (suc n) → m ≡ n
@@ -74,16 +78,17 @@ module _ {sizes : List ℕ} {L : NodeLists} (lg : Legal sizes L) (n : ℕ) (l : 
 
   pub has-by : (i : ℕ) (d : Node) → nodeAt L n ≡ d → HasDup (treeOf L n) i ↔ HasBy sizes L n i d
   unfolding HasBy labels occurrences grow
-  has-by i d e = subst (λ p. HasDup p i ↔ HasBy sizes L n i d) (sym (tree-at lg n l d e)) (go d)
+  has-by i d e = subst (λ p. HasDup p i ↔ HasBy sizes L n i d) (sym (tree-at lg n l d e)) (go d e)
     where
-      go : (d : Node) → HasDup (grow (treeOf L) label d) i ↔ HasBy sizes L n i d
-      go Drop = (λ h. not-suc-le-zero h, λ h. absurd h)
-      go Id = (λ h. not-suc-le-zero h, λ h. absurd h)
-      go (Field a) = (λ h. not-suc-le-zero h, λ h. absurd h)
-      go Dup = has-one label i
-      go (Sum x y) = has-either (treeOf L x) (treeOf L y) i
-      go (Seq x y) = has-either (treeOf L x) (treeOf L y) i
-      go (Star x) = (λ h. h, λ h. h)
+      go : (d : Node) → nodeAt L n ≡ d → HasDup (grow (treeOf L) label d) i ↔ HasBy sizes L n i d
+      go Drop e = (λ h. not-suc-le-zero h, λ h. absurd h)
+      go Id e = (λ h. not-suc-le-zero h, λ h. absurd h)
+      go (Field a) e = (λ h. not-suc-le-zero h, λ h. absurd h)
+      go Dup e = has-one label i
+      go (Sum x y) e = has-either (treeOf L x) (treeOf L y) i
+      go (Seq x y) e = has-either (treeOf L x) (treeOf L y) i
+      go (Star x) e = (λ h. h, λ h. h)
+      go (Neg x) e = (λ h. test-dupless (treeOf L x) (negated-test (lg .wellFormed) n x l e) i h, λ h. absurd h)
 
   pub pass-by : (i β γ : ℕ) (d : Node) → nodeAt L n ≡ d → Rem (numbered sizes) (treeOf L n) i β [] γ ↔ PassBy sizes L n i β γ d
   unfolding PassBy Rem grow Tr
@@ -109,6 +114,7 @@ module _ {sizes : List ℕ} {L : NodeLists} (lg : Legal sizes L) (n : ℕ) (l : 
           let f : (μ : ℕ) → Passes P (treeOf L n) μ γ ↔ Tr P (star (treeOf L x)) μ [] γ
           = λ μ. subst (λ r. Passes P r μ γ ↔ Tr P (star (treeOf L x)) μ [] γ) (sym q) (passes-iff P (star (treeOf L x)) μ γ) in
           by-tree _ _ q (λ h. let s = k .0 h in (s .0, s .1, f (s .0) .1 (s .2)), λ s. k .1 (s .0, s .1, f (s .0) .0 (s .2)))
+      go (Neg x) q = by-tree _ _ q (λ h. h, λ h. h)
 
   pub reach-by : (i j β γ : ℕ) (d : Node) → nodeAt L n ≡ d → RemMeets (numbered sizes) (treeOf L n) i j β γ ↔ ReachBy sizes L n i j β γ d
   unfolding ReachBy RemMeets grow
@@ -135,3 +141,4 @@ module _ {sizes : List ℕ} {L : NodeLists} (lg : Legal sizes L) (n : ℕ) (l : 
             λ h. ⊎-map (λ s. s) (λ s. (s .0, s .1, f (s .0) .1 (s .2))) h,
             λ h. ⊎-map (λ s. s) (λ s. (s .0, s .1, f (s .0) .0 (s .2))) h,
           )
+      go (Neg x) q = by-tree _ _ q (λ h. h, λ h. h)

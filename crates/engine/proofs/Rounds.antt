@@ -9,12 +9,12 @@ use Rattle.packet.specs.Sizes.{product}
 use Rattle.policy.specs.declared.Node.the-variants.{Star}
 use Rattle.policy.specs.Legality.{Legal}
 use Rattle.policy.specs.Meaning.{numbered}
-use Rattle.policy.specs.NodeLists.{NodeLists, nodeCount, nodeAt}
+use Rattle.policy.specs.NodeLists.{NodeLists, nodeCount, nodeAt, treeOf}
 use Rattle.packet_set.specs.InnerMembers.{Members, Within}
 use Rattle.automaton.specs.Reaches.{Passes, Reaches}
 use Rattle.automaton.proofs.Tests.{both, either, eqb-true}
 use Rattle.loaded.specs.Nodes.{testsAt, upAt, guardAt}
-use Rattle.loaded.specs.Loaded.{treeOf, Linked, KeepsSlot, Loaded}
+use Rattle.loaded.specs.Loaded.{Linked, KeepsSlot, Loaded}
 use Rattle.engine.specs.Going.{Way, by-rule, Goes, blocked, noted, turning, let-out, repeating, Through}
 use Rattle.engine.proofs.Parts.{pass-below, star-pass-self, star-pass-more, star-reach}
 use Rattle.engine.proofs.Goings.{goes-map}

@@ -12,7 +12,7 @@ use Rattle.packet.specs.Sizes.{product}
 use Rattle.packet.proofs.Tests.{last-or-before}
 use Rattle.policy.specs.Legality.{Legal}
 use Rattle.policy.specs.Meaning.{numbered}
-use Rattle.policy.specs.NodeLists.{NodeLists, nodeCount, dupsBelow, policyOf}
+use Rattle.policy.specs.NodeLists.{NodeLists, nodeCount, dupsBelow, policyOf, treeOf}
 use Rattle.policy.specs.Tree.{Policy}
 use Rattle.packet_set.specs.Bits.{bit}
 use Rattle.packet_set.specs.InnerMembers.{Members, Within}
@@ -24,7 +24,7 @@ use Rattle.automaton.proofs.Spines.{Rem, RemMeets, meets-iff, rem-has, rem-meet
 use Rattle.automaton.proofs.Laws.{next-iff, outputMask-iff, nextMask-bit}
 use Rattle.automaton.proofs.Trees.{policy-evaluable}
 use Rattle.loaded.specs.Nodes.{upAt, placeAt}
-use Rattle.loaded.specs.Loaded.{treeOf, DupAt, Loaded}
+use Rattle.loaded.specs.Loaded.{DupAt, Loaded}
 use Rattle.engine.specs.Going.{Way, into, by-rule, out-of, Goes, let-out, resting, repeating, Through}
 use Rattle.engine.specs.Stepping.{Steps}
 use Rattle.engine.proofs.Parts.{passes-iff, root-inside, root-tree}

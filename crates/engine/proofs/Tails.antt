@@ -8,16 +8,16 @@ use mathlib.Core.Path.{_≡_, refl, sym, ap, _∙_, subst}
 use native.Mathlib.Nat.{not-suc-le-zero}
 use native.Mathlib.Omega.{arith}
 use Rattle.policy.specs.declared.Node.{Node}
-use Rattle.policy.specs.declared.Node.the-variants.{Drop, Id, Field, Dup, Sum, Seq, Star}
+use Rattle.policy.specs.declared.Node.the-variants.{Drop, Id, Field, Dup, Sum, Seq, Star, Neg}
 use Rattle.policy.specs.Legality.{Legal}
 use Rattle.policy.specs.Meaning.{numbered}
-use Rattle.policy.specs.NodeLists.{NodeLists, nodeCount, nodeAt, children, isDup, dupsBelow}
+use Rattle.policy.specs.NodeLists.{NodeLists, nodeCount, nodeAt, children, isDup, dupsBelow, treeOf}
 use Rattle.policy.specs.Visits.{InTree, HasDup}
 use Rattle.policy.proofs.LabelLaws.{label-stands}
 use Rattle.policy.proofs.VisitLaws.{exactly-once}
 use Rattle.automaton.specs.Reaches.{Passes, Reaches}
 use Rattle.loaded.specs.Nodes.{testsAt, upAt}
-use Rattle.loaded.specs.Loaded.{treeOf, Linked, Enterable, Enters, DupAt, Loaded}
+use Rattle.loaded.specs.Loaded.{Linked, Enterable, Enters, DupAt, Loaded}
 use Rattle.engine.proofs.Parts.{two-kids, one-kid, root-inside}
 use Rattle.engine.proofs.Remains.{HasAt, RemPass, RemReach, HasBy, PassBy, ReachBy, same-label, has-by, pass-by, reach-by}
 use Rattle.engine.proofs.Closing.{Starred, rest-of, has-moves}
@@ -185,6 +185,7 @@ module _ {sizes : List ℕ} {L : NodeLists} {nodes tests : List ℕ} (ld : Loade
         go (Seq x y) e m (inl r) = ih x (two-kids lg n x y l (ap children e) .0) (m .1 .0) r (at-seq n x y (m .0 .0) l moves e p)
         go (Seq x y) e m (inr r) = ih y (two-kids lg n x y l (ap children e) .1) (m .1 .1) r (path-same (sym (m .0 .1)) p)
         go (Star c) e m r = ih c (one-kid lg n c l (ap children e)) (m .1) r (at-star n c (m .0) l moves e p)
+        go (Neg c) e m r = absurd r
 
     module _ (a : Aim) (β : ℕ) where
       abbrev Climbed : ℕ → Type 0
@@ -223,6 +224,7 @@ module _ {sizes : List ℕ} {L : NodeLists} {nodes tests : List ℕ} (ld : Loade
               ⊎-elim (λ s. inl (after-again lg n l i β c e a (k .0) (k .1) s))
               (λ s. inr (s .0, pass-by lg n l i β (s .0) (Star c) e .1 (k .0, k .1, s .1), s .2))
               (tail-star lg n l a c e (m .0) (k .2))) (ih c (one-kid lg n c l (ap children e)) (m .1) r)
+          go (Neg c) e m r = absurd r
 
   path : (t n : ℕ) → n < t → n < nodeCount L → Enterable sizes L nodes tests n → HasAt sizes L n i → Path sizes L nodes n → Path sizes L nodes d
   path zero n a l en h p = absurd (not-suc-le-zero a)

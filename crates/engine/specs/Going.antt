@@ -12,12 +12,12 @@ use Rattle.policy.specs.declared.FieldAction.the-variants.{Set}
 use Rattle.policy.specs.declared.Node.the-variants.{Field, Dup, Sum, Seq, Star}
 use Rattle.policy.specs.Legality.{Legal}
 use Rattle.policy.specs.Meaning.{numbered}
-use Rattle.policy.specs.NodeLists.{NodeLists, nodeCount, nodeAt, dupsBelow}
+use Rattle.policy.specs.NodeLists.{NodeLists, nodeCount, nodeAt, dupsBelow, treeOf}
 use Rattle.packet_set.specs.InnerMembers.{Members, Within, member}
 use Rattle.automaton.specs.Reaches.{Passes, Reaches}
 use Rattle.spans.specs.Spans.{slot, hasMark, touched, Spanned}
 use Rattle.loaded.specs.Nodes.{testsAt, upAt, guardAt}
-use Rattle.loaded.specs.Loaded.{treeOf, OnlyTests, Enterable, Loaded}
+use Rattle.loaded.specs.Loaded.{OnlyTests, Enterable, Loaded}
 
 -- What is recorded is seen, what is marked is touched; the work list beyond the slots is as it was.
 pub record Recorded (sizes work seen next work′ seen′ next′ : List ℕ) : Type 0 where

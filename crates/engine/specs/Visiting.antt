@@ -7,7 +7,7 @@ use lib.Dec.{eqb}
 use Rattle.policy.specs.declared.FieldAction.{FieldAction}
 use Rattle.policy.specs.declared.FieldAction.the-variants.{Set}
 use Rattle.policy.specs.declared.Node.{Node}
-use Rattle.policy.specs.declared.Node.the-variants.{Drop, Id, Field, Dup, Sum, Seq, Star}
+use Rattle.policy.specs.declared.Node.the-variants.{Drop, Id, Field, Dup, Sum, Seq, Star, Neg}
 use Rattle.policy.specs.NodeLists.{NodeLists}
 use Rattle.packet_set.specs.InnerMembers.{member}
 use Rattle.spans.specs.Spans.{slot, Spanned, Holds, Noted}
@@ -39,6 +39,7 @@ onward Dup q = q
 onward (Sum l r) q = q
 onward (Seq l r) q = r
 onward (Star c) q = q
+onward (Neg c) q = q
 
 module _ (sizes nodes tests : List ℕ) where
   -- a visit may start, for some policy that is loaded

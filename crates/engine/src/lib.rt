@@ -158,6 +158,8 @@ fn through(
                 to = came.to;
             }
         }
+        // tests alone, so never visited
+        Node::Neg(_) => span,
     }
 }
 
@@ -173,6 +175,7 @@ fn onward(node: Node, above: u16) -> u16
         Node::Sum(_, _) => above,
         Node::Seq(_, r) => r,
         Node::Star(_) => above,
+        Node::Neg(_) => above,
     }
 }
 

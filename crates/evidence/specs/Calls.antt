@@ -34,7 +34,7 @@ evidenceOf (Refused r) x = NotChecked r
 
 module _ (sizes : List ℕ) (L R : NodeLists) where
   module _ (packets lefts rights : List ℕ) where
-    -- the causes in the order tested, 1 to 10; the work list has so many words
+    -- the causes in the order tested, up to 10; the work list has so many words
     unfoldable pub evidenceTests : ℕ → Tested
     evidenceTests words = lentTests sizes L R (listsStage (length packets ∷ length lefts ∷ length rights ∷ []) words)
 

@@ -35,7 +35,7 @@ abbrev pub DupsAre : NodeLists → NodeLists → ℕ → ℕ → Type 0
 DupsAre L R left right = (left ≡ dupsBelow L (nodeCount L)) × (right ≡ dupsBelow R (nodeCount R))
 
 module _ (sizes : List ℕ) (L R : NodeLists) (packets lefts rights : List ℕ) where
-  -- causes 1 to 9 don't hold, and N is `count`
+  -- no cause before 10 holds, and N is `count`
   pub record Allowed (count : ℕ) : Type 0 where
     pub legal : LegalSizes sizes
     pub left-legal : Legal sizes L

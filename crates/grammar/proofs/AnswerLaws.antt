@@ -16,7 +16,7 @@ use Rattle.policy.specs.Tree.{Policy}
 use Rattle.policy.specs.NodesOfTree.{treeSize}
 use Rattle.grammar.specs.declared.Answer.{Answer}
 use Rattle.grammar.specs.declared.Answer.the-variants.{Nodes, Refused}
-use Rattle.grammar.specs.Tokens.{Token, Placed, constant, field, number, comparison, plus, semicolon, asterisk, opening, closing, bad, isBad, tokens, fieldNames}
+use Rattle.grammar.specs.Tokens.{Token, Placed, constant, field, number, comparison, plus, semicolon, asterisk, opening, closing, exclamation, bad, isBad, tokens, fieldNames}
 use Rattle.grammar.specs.InnerKinds.{kindOf, frontKind, frontPlace, afterFront, openAfterKind}
 use Rattle.grammar.specs.Reading.{tree}
 use Rattle.grammar.specs.Answer.{badPlace, openAfter, deepPlace, stopPlace, treeRead, tooMany, answerAfter, outcome, textTree, tested, answerTo, leftBy, shortest, TextRead}
@@ -34,6 +34,7 @@ never-end semicolon e = omega arith
 never-end asterisk e = omega arith
 never-end opening e = omega arith
 never-end closing e = omega arith
+never-end exclamation e = omega arith
 
 bad-is : (t : Token) → kindOf t ≡ 0 → isBad t ≡ true
 unfolding kindOf isBad
@@ -47,6 +48,7 @@ bad-is semicolon e = absurd (omega arith)
 bad-is asterisk e = absurd (omega arith)
 bad-is opening e = absurd (omega arith)
 bad-is closing e = absurd (omega arith)
+bad-is exclamation e = absurd (omega arith)
 
 bad-not : (t : Token) → (kindOf t ≡ 0 → ⊥) → isBad t ≡ false
 unfolding kindOf isBad
@@ -60,6 +62,7 @@ bad-not semicolon h = refl
 bad-not asterisk h = refl
 bad-not opening h = refl
 bad-not closing h = refl
+bad-not exclamation h = refl
 
 open-is : (n : ℕ) (t : Token) → openAfter n t ≡ openAfterKind n (kindOf t)
 unfolding kindOf openAfter openAfterKind
@@ -73,6 +76,7 @@ open-is n semicolon = refl
 open-is n asterisk = refl
 open-is n opening = refl
 open-is n closing = refl
+open-is n exclamation = refl
 
 -- ---- cause 14
 

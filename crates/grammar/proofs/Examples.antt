@@ -5,21 +5,21 @@ use mathlib.Core.Path.{_≡_, refl}
 use lib.ListN.{replicate}
 use Rattle.packet.specs.Lowest.{lowest, orAt}
 use Rattle.packet.specs.Refusals.{refusal, refusedAt, firstOf}
-use Rattle.policy.specs.Tree.{drop, id, dup, sum, seq, star}
+use Rattle.policy.specs.Tree.{drop, id, dup, sum, seq, star, neg}
 use Rattle.policy.specs.Tree
 use Rattle.policy.specs.NodesOfTree.{treeSize}
-use Rattle.policy.specs.declared.FieldAction.the-variants.{Equals}
+use Rattle.policy.specs.declared.FieldAction.the-variants.{Equals, Differs}
 use Rattle.grammar.specs.declared.Answer.{Answer}
 use Rattle.grammar.specs.declared.Answer.the-variants.{Nodes, Refused}
 use Rattle.grammar.specs.Bytes.{isBlank, isLetter, isDigit, inWord}
-use Rattle.grammar.specs.Tokens.{sameWord, allDigits, decimal, leadingZero, isNumber, numberToken, fieldToken, fieldNamed, wordToken, singleMark, doubleMark, beginsDouble, markToken, wordOf, frontToken, isBad, restOfToken, placedFrom, tokensFrom, tokens, fieldNames}
+use Rattle.grammar.specs.Tokens.{sameWord, allDigits, decimal, leadingZero, isNumber, numberToken, fieldToken, fieldNamed, wordToken, singleMark, isDouble, doubleMark, beginsDouble, markToken, wordOf, frontToken, isBad, restOfToken, placedFrom, tokensFrom, tokens, fieldNames}
 use Rattle.grammar.specs.Grammar.{constantPolicy, fieldAction}
-use Rattle.grammar.specs.Reading.{Outcome, tree, nothing, joinSequence, joinSum, upTo, whole, start, close, step, finish, readOn}
+use Rattle.grammar.specs.Reading.{Outcome, tree, nothing, joinSequence, joinSum, upTo, whole, negated, start, negating, itemRead, close, step, finish, readOn}
 use Rattle.grammar.specs.Answer.{badPlace, openAfter, deepPlace, stopPlace, treeRead, tooMany, answerAfter, outcome, textTree, tested, answerTo}
 
 -- a text's reading and answer, which compute where these two are opened
 unfoldable pub readingOf : List ℕ → Outcome
-unfolding outcome tokens tokensFrom placedFrom restOfToken isBad frontToken wordOf markToken beginsDouble doubleMark singleMark wordToken fieldNamed fieldToken numberToken isNumber leadingZero decimal allDigits sameWord isBlank isLetter isDigit inWord fieldNames lowest orAt constantPolicy fieldAction nothing joinSequence joinSum upTo whole start close step finish readOn
+unfolding outcome tokens tokensFrom placedFrom restOfToken isBad frontToken wordOf markToken beginsDouble isDouble doubleMark singleMark wordToken fieldNamed fieldToken numberToken isNumber leadingZero decimal allDigits sameWord isBlank isLetter isDigit inWord fieldNames lowest orAt constantPolicy fieldAction nothing joinSequence joinSum upTo whole negated start negating itemRead close step finish readOn
 readingOf text = outcome fieldNames text
 
 unfoldable pub answerOf : List ℕ → ℕ → Answer
@@ -41,10 +41,52 @@ left : readingOf (105 ∷ 100 ∷ 59 ∷ 100 ∷ 114 ∷ 111 ∷ 112 ∷ 59 ∷ 
 unfolding readingOf
 left = refl
 
--- f0 ! = 0
-broken : answerOf (102 ∷ 48 ∷ 32 ∷ 33 ∷ 32 ∷ 61 ∷ 32 ∷ 48 ∷ []) 9 ≡ Refused (refusal 14 0 3)
+-- f0 ! = 0 is no comparison: the ! stands where one should
+broken : answerOf (102 ∷ 48 ∷ 32 ∷ 33 ∷ 32 ∷ 61 ∷ 32 ∷ 48 ∷ []) 9 ≡ Refused (refusal 16 0 3)
 unfolding answerOf refusal
 broken = refl
+
+-- !f0=0*: the star is over the negation
+star-of-negation : readingOf (33 ∷ 102 ∷ 48 ∷ 61 ∷ 48 ∷ 42 ∷ []) ≡ tree (star (neg (Tree.field (Equals 0 0))))
+unfolding readingOf
+star-of-negation = refl
+
+-- !(f0=0*) the other way round
+negation-of-star : readingOf (33 ∷ 40 ∷ 102 ∷ 48 ∷ 61 ∷ 48 ∷ 42 ∷ 41 ∷ []) ≡ tree (neg (star (Tree.field (Equals 0 0))))
+unfolding readingOf
+negation-of-star = refl
+
+-- !(f0=0;f1=0)
+negated-sequence : readingOf (33 ∷ 40 ∷ 102 ∷ 48 ∷ 61 ∷ 48 ∷ 59 ∷ 102 ∷ 49 ∷ 61 ∷ 48 ∷ 41 ∷ [])
+    ≡ tree (neg (seq (Tree.field (Equals 0 0)) (Tree.field (Equals 1 0))))
+unfolding readingOf
+negated-sequence = refl
+
+-- f0!=0;! !dup: != is one token, and a ! negates the next item alone
+negated-twice : readingOf (102 ∷ 48 ∷ 33 ∷ 61 ∷ 48 ∷ 59 ∷ 33 ∷ 32 ∷ 33 ∷ 100 ∷ 117 ∷ 112 ∷ 43 ∷ 105 ∷ 100 ∷ [])
+    ≡ tree (sum (seq (Tree.field (Differs 0 0)) (neg (neg (dup 0)))) id)
+unfolding readingOf
+negated-twice = refl
+
+-- !!=0: a ! and then !=
+negated-comparison : answerOf (33 ∷ 33 ∷ 61 ∷ 48 ∷ []) 9 ≡ Refused (refusal 16 0 1)
+unfolding answerOf refusal
+negated-comparison = refl
+
+-- !
+negated-nothing : answerOf (33 ∷ []) 9 ≡ Refused (refusal 16 0 1)
+unfolding answerOf refusal
+negated-nothing = refl
+
+-- < is still no token
+less-alone : answerOf (102 ∷ 48 ∷ 60 ∷ []) 9 ≡ Refused (refusal 14 0 2)
+unfolding answerOf refusal
+less-alone = refl
+
+-- each ! is a node: !!!id with room for three
+negations-count : answerOf (33 ∷ 33 ∷ 33 ∷ 105 ∷ 100 ∷ []) 3 ≡ Refused (refusal 17 0 4)
+unfolding answerOf refusal
+negations-count = refl
 
 -- f7<-65535 reads, and needs one entry
 assignment : answerOf (102 ∷ 55 ∷ 60 ∷ 45 ∷ 54 ∷ 53 ∷ 53 ∷ 51 ∷ 53 ∷ []) 1 ≡ Nodes 1

@@ -1,6 +1,6 @@
 -- The reading finds exactly the trees that the tokens derive: at most one tree, and the byte of cause 16 is that of the first token (or the end)
 -- that no legal text continues with.
-use Prim.Native.Nat.{ℕ, _≤_, min}
+use Prim.Native.Nat.{ℕ, zero, suc, _≤_, min}
 use native.Mathlib.Omega.{arith}
 use mathlib.Core.Bool.{Bool, true, false, true≢false}
 use mathlib.Core.List.{List, [], _∷_, _++_, map, append-assoc, append-nil}
@@ -8,14 +8,14 @@ use mathlib.Core.Logic.{_↔_}
 use mathlib.Core.Option.{Option, none, some}
 use mathlib.Core.Path.{_≡_, refl, sym, _∙_, ap, subst, subst₂}
 use lib.ListN.{length}
-use Rattle.policy.specs.Tree.{Policy, sum, seq, star}
+use Rattle.policy.specs.Tree.{Policy, sum, seq, star, neg}
 use Rattle.policy.specs.Tree
 use Rattle.policy.specs.NodesOfTree.{treeSize}
 use Rattle.grammar.specs.declared.Answer.the-variants.{Nodes}
-use Rattle.grammar.specs.Tokens.{Token, Placed, Constant, Comparison, passed, equals, constant, field, number, comparison, plus, semicolon, asterisk, opening, closing, bad, isBad, tokens}
+use Rattle.grammar.specs.Tokens.{Token, Placed, Constant, Comparison, passed, equals, constant, field, number, comparison, plus, semicolon, asterisk, opening, closing, exclamation, bad, isBad, tokens}
 use Rattle.grammar.specs.InnerKinds.{frontPlace}
-use Rattle.grammar.specs.Grammar.{constantPolicy, fieldAction, Item, Starred, Sequence, Sum, word, action, parentheses, item, starred, single, sequenced, alone, summed}
-use Rattle.grammar.specs.Reading.{Before, nothing, joinSequence, joinSum, upTo, whole, State, wants, named, compared, has, start, close, step, Outcome, tree, stop, finish, readOn}
+use Rattle.grammar.specs.Grammar.{constantPolicy, fieldAction, Item, Starred, Sequence, Sum, word, action, parentheses, negation, item, starred, single, sequenced, alone, summed}
+use Rattle.grammar.specs.Reading.{Before, nothing, joinSequence, joinSum, upTo, whole, negated, State, wants, named, compared, has, start, negating, itemRead, close, step, Outcome, tree, stop, finish, readOn}
 use Rattle.grammar.specs.Answer.{badPlace, deepPlace, stopPlace, treeRead, outcome, textTree, answerTo}
 use Rattle.grammar.proofs.AnswerLaws.{few-enough, count-parts, count-answers}
 
@@ -71,9 +71,17 @@ read-accept end s (t ∷ ts) = go (step s (t .token)) refl (λ s′. read-accept
 
 -- ---- what is derived is found
 
--- an item, with its stars
+-- what stands before an item outside its !
+plain : Option Policy → Option Policy → Before
+plain s q = record { summed = s; sequenced = q; negations = 0 }
+
+-- an item, after whatever !
 record ItemEnd (ts : List Token) (p : Policy) : Type 0 where
-  moves : (b : Before) (cs : List Before) (rest : List Token) → accept (wants b cs) (ts ++ rest) ≡ accept (has b cs p) rest
+  moves : (b : Before) (cs : List Before) (rest : List Token) → accept (wants b cs) (ts ++ rest) ≡ accept (itemRead b cs p) rest
+
+-- an item with its stars, which has no ! before it
+record StarredEnd (ts : List Token) (p : Policy) : Type 0 where
+  moves : (s q : Option Policy) (cs : List Before) (rest : List Token) → accept (wants (plain s q) cs) (ts ++ rest) ≡ accept (has (plain s q) cs p) rest
 
 -- the last item of a sequence, and what stands before it
 record SequenceEnd (s : Option Policy) (ts : List Token) (p : Policy) : Type 0 where
@@ -81,7 +89,7 @@ record SequenceEnd (s : Option Policy) (ts : List Token) (p : Policy) : Type 0 w
   last : Policy
   joined : joinSequence before last ≡ p
   moves : (cs : List Before) (rest : List Token)
-      → accept (wants (record { summed = s; sequenced = none }) cs) (ts ++ rest) ≡ accept (has (record { summed = s; sequenced = before }) cs last) rest
+      → accept (wants (plain s none) cs) (ts ++ rest) ≡ accept (has (plain s before) cs last) rest
 
 record SumEnd (ts : List Token) (p : Policy) : Type 0 where
   before : Before
@@ -89,40 +97,40 @@ record SumEnd (ts : List Token) (p : Policy) : Type 0 where
   joined : whole before last ≡ p
   moves : (cs : List Before) (rest : List Token) → accept (wants nothing cs) (ts ++ rest) ≡ accept (has before cs last) rest
 
-sequence-one : (s : Option Policy) {ts : List Token} {p : Policy} → ItemEnd ts p → SequenceEnd s ts p
+sequence-one : (s : Option Policy) {ts : List Token} {p : Policy} → StarredEnd ts p → SequenceEnd s ts p
 unfolding joinSequence
-sequence-one s {p = p} m = record { before = none; last = p; joined = refl; moves = λ cs rest. m .moves (record { summed = s; sequenced = none }) cs rest }
+sequence-one s {p = p} m = record { before = none; last = p; joined = refl; moves = m .moves s none }
 
-sequence-more : (s : Option Policy) {ts us : List Token} {p q : Policy} → SequenceEnd s ts p → ItemEnd us q
+sequence-more : (s : Option Policy) {ts us : List Token} {p q : Policy} → SequenceEnd s ts p → StarredEnd us q
     → SequenceEnd s (ts ++ semicolon ∷ us) (seq p q)
-unfolding joinSequence accept step upTo
+unfolding joinSequence accept step upTo plain
 sequence-more s {ts} {us} {p} {q} e m =
     record {
       before = some p;
       last = q;
       joined = refl;
       moves = λ cs rest.
-          ap (accept (wants (record { summed = s; sequenced = none }) cs)) (append-assoc ts (semicolon ∷ us) rest)
+          ap (accept (wants (plain s none) cs)) (append-assoc ts (semicolon ∷ us) rest)
           ∙ e .moves cs (semicolon ∷ us ++ rest)
-          ∙ ap (λ (x : Policy). accept (wants (record { summed = s; sequenced = some x }) cs) (us ++ rest)) (e .joined)
-          ∙ m .moves (record { summed = s; sequenced = some p }) cs rest;
+          ∙ ap (λ (x : Policy). accept (wants (plain s (some x)) cs) (us ++ rest)) (e .joined)
+          ∙ m .moves s (some p) cs rest;
     }
 
 sum-one : {ts : List Token} {p : Policy} → SequenceEnd none ts p → SumEnd ts p
-unfolding whole upTo joinSum nothing
-sum-one e = record { before = record { summed = none; sequenced = e .before }; last = e .last; joined = e .joined; moves = e .moves }
+unfolding whole upTo joinSum nothing plain
+sum-one e = record { before = plain none (e .before); last = e .last; joined = e .joined; moves = e .moves }
 
 sum-more : {ts us : List Token} {p q : Policy} → SumEnd ts p → SequenceEnd (some p) us q → SumEnd (ts ++ plus ∷ us) (sum p q)
-unfolding whole upTo joinSum accept step
+unfolding whole upTo joinSum accept step plain
 sum-more {ts} {us} {p} {q} e f =
     record {
-      before = record { summed = some p; sequenced = f .before };
+      before = plain (some p) (f .before);
       last = f .last;
       joined = ap (sum p) (f .joined);
       moves = λ cs rest.
           ap (accept (wants nothing cs)) (append-assoc ts (plus ∷ us) rest)
           ∙ e .moves cs (plus ∷ us ++ rest)
-          ∙ ap (λ (x : Policy). accept (wants (record { summed = some x; sequenced = none }) cs) (us ++ rest)) (e .joined)
+          ∙ ap (λ (x : Policy). accept (wants (plain (some x) none) cs) (us ++ rest)) (e .joined)
           ∙ f .moves cs rest;
     }
 
@@ -133,12 +141,32 @@ item-inside {ts} {p} e =
       moves = λ b cs rest.
           ap (accept (wants nothing (b ∷ cs))) (append-assoc ts (closing ∷ []) rest)
           ∙ e .moves (b ∷ cs) (closing ∷ rest)
-          ∙ ap (λ (x : Policy). accept (has b cs x) rest) (e .joined);
+          ∙ ap (λ (x : Policy). accept (itemRead b cs x) rest) (e .joined);
     }
 
-star-more : {ts : List Token} {p : Policy} → ItemEnd ts p → ItemEnd (ts ++ asterisk ∷ []) (star p)
+-- the ! that stands next to an item negates it first
+negated-inside : (n : ℕ) (p : Policy) → negated n (neg p) ≡ neg (negated n p)
+unfolding negated
+negated-inside zero p = refl
+negated-inside (suc n) p = ap neg (negated-inside n p)
+
+item-negates : {ts : List Token} {p : Policy} → ItemEnd ts p → ItemEnd (exclamation ∷ ts) (neg p)
+unfolding accept step negating itemRead negated plain
+item-negates {ts} {p} m =
+    record {
+      moves = λ b cs rest.
+          m .moves (negating b) cs rest
+          ∙ ap (λ (x : Policy). accept (has (plain (b .summed) (b .sequenced)) cs x) rest) (sym (negated-inside (b .negations) p));
+    }
+
+item-alone : {ts : List Token} {p : Policy} → ItemEnd ts p → StarredEnd ts p
+unfolding plain itemRead negated
+item-alone m = record { moves = λ s q. m .moves (plain s q) }
+
+star-more : {ts : List Token} {p : Policy} → StarredEnd ts p → StarredEnd (ts ++ asterisk ∷ []) (star p)
 unfolding accept step
-star-more {ts} {p} m = record { moves = λ b cs rest. ap (accept (wants b cs)) (append-assoc ts (asterisk ∷ []) rest) ∙ m .moves b cs (asterisk ∷ rest) }
+star-more {ts} {p} m =
+    record { moves = λ s q cs rest. ap (accept (wants (plain s q) cs)) (append-assoc ts (asterisk ∷ []) rest) ∙ m .moves s q cs (asterisk ∷ rest) }
 
 word-reads : (c : Constant) → ItemEnd (constant c ∷ []) (constantPolicy c)
 unfolding accept step
@@ -153,10 +181,11 @@ mutual
   item-found (word c e q) = subst₂ ItemEnd (sym e) (sym q) (word-reads c)
   item-found (action f v c e q) = subst₂ ItemEnd (sym e) (sym q) (action-reads f v c)
   item-found (parentheses {p = p} d e) = subst (λ (ts : List Token). ItemEnd ts p) (sym e) (item-inside (sum-found d))
+  item-found (negation d e q) = subst₂ ItemEnd (sym e) (sym q) (item-negates (item-found d))
 
-  starred-found : {ts : List Token} {p : Policy} → Starred ts p → ItemEnd ts p
-  starred-found (item d) = item-found d
-  starred-found (starred d e q) = subst₂ ItemEnd (sym e) (sym q) (star-more (starred-found d))
+  starred-found : {ts : List Token} {p : Policy} → Starred ts p → StarredEnd ts p
+  starred-found (item d) = item-alone (item-found d)
+  starred-found (starred d e q) = subst₂ StarredEnd (sym e) (sym q) (star-more (starred-found d))
 
   sequence-found : {ts : List Token} {p : Policy} → Sequence ts p → (s : Option Policy) → SequenceEnd s ts p
   sequence-found (single d) s = sequence-one s (starred-found d)
@@ -190,26 +219,36 @@ Sequenced : Option Policy → List Token → Type 0
 Sequenced none ts = ts ≡ []
 Sequenced (some p) ts = (us : List Token) × Sequence us p × (ts ≡ us ++ semicolon ∷ [])
 
+-- so many !
+marks : ℕ → List Token
+marks zero = []
+marks (suc n) = exclamation ∷ marks n
+
 -- the tokens up to an item inside the parentheses that are open
 Opened : List Before → List Token → Type 0
 Opened [] ts = ts ≡ []
-Opened (b ∷ cs) ts = (o s q : List Token) × Opened cs o × Summed (b .summed) s × Sequenced (b .sequenced) q × (ts ≡ o ++ (s ++ (q ++ opening ∷ [])))
+Opened (b ∷ cs) ts =
+    (o s q : List Token) × Opened cs o × Summed (b .summed) s × Sequenced (b .sequenced) q × (ts ≡ o ++ (s ++ (q ++ (marks (b .negations) ++ opening ∷ []))))
 
-record Inside (b : Before) (cs : List Before) (ts : List Token) : Type 0 where
+-- the tokens up to the ! of an item
+record Inside (m n : Option Policy) (cs : List Before) (ts : List Token) : Type 0 where
   o : List Token
   s : List Token
   q : List Token
   opened : Opened cs o
-  sums : Summed (b .summed) s
-  sequences : Sequenced (b .sequenced) q
+  sums : Summed m s
+  sequences : Sequenced n q
   are : ts ≡ o ++ (s ++ q)
+
+abbrev Within : Before → List Before → List Token → Type 0
+Within b cs ts = Inside (b .summed) (b .sequenced) cs ts
 
 -- the tokens that lead to a state
 Reached : State → List Token → Type 0
-Reached (wants b cs) ts = Inside b cs ts
-Reached (named b cs f) ts = (us : List Token) × Inside b cs us × (ts ≡ us ++ field f ∷ [])
-Reached (compared b cs f c) ts = (us : List Token) × Inside b cs us × (ts ≡ us ++ field f ∷ comparison c ∷ [])
-Reached (has b cs p) ts = (us vs : List Token) × Inside b cs us × Starred vs p × (ts ≡ us ++ vs)
+Reached (wants b cs) ts = (us : List Token) × Within b cs us × (ts ≡ us ++ marks (b .negations))
+Reached (named b cs f) ts = (us : List Token) × Within b cs us × (ts ≡ us ++ (marks (b .negations) ++ field f ∷ []))
+Reached (compared b cs f c) ts = (us : List Token) × Within b cs us × (ts ≡ us ++ (marks (b .negations) ++ field f ∷ comparison c ∷ []))
+Reached (has b cs p) ts = (us vs : List Token) × Within b cs us × Starred vs p × (ts ≡ us ++ vs)
 
 Advanced : Option State → List Token → Type 0
 Advanced none ts = Unit
@@ -225,99 +264,138 @@ unfolding Summed joinSum
 sum-of none p s vs e d = rw e (alone d)
 sum-of (some r) p s vs (us, h, e) d = summed h d (ap (λ (x : List Token). x ++ vs) e ∙ append-assoc us (plus ∷ []) vs) refl
 
-close-reached : (b : Before) (cs : List Before) (p : Policy) (ts us vs : List Token) → Inside b cs us → Starred vs p → ts ≡ us ++ vs → Advanced (close b cs p) (ts ++ closing ∷ [])
-unfolding Advanced Reached close Opened whole upTo
+-- an item after so many !
+item-marked : (n : ℕ) {vs : List Token} {p : Policy} → Item vs p → Item (marks n ++ vs) (negated n p)
+unfolding marks negated
+item-marked zero d = d
+item-marked (suc n) d = negation (item-marked n d) refl refl
+
+marks-more : (n : ℕ) (ts : List Token) → marks n ++ exclamation ∷ ts ≡ marks (suc n) ++ ts
+unfolding marks
+marks-more zero ts = refl
+marks-more (suc n) ts = ap (λ (x : List Token). exclamation ∷ x) (marks-more n ts)
+
+-- an item has been read
+read-reached : (b : Before) (cs : List Before) (p : Policy) (ts us vs : List Token) → Within b cs us → Item vs p → ts ≡ us ++ (marks (b .negations) ++ vs)
+    → Reached (itemRead b cs p) ts
+unfolding Reached itemRead
+read-reached b cs p ts us vs i d e = (us, marks (b .negations) ++ vs, i, item (item-marked (b .negations) d), e)
+
+close-reached : (b : Before) (cs : List Before) (p : Policy) (ts us vs : List Token) → Within b cs us → Starred vs p → ts ≡ us ++ vs → Advanced (close b cs p) (ts ++ closing ∷ [])
+unfolding Advanced close Opened whole upTo
 close-reached b [] p ts us vs i d e = tt
 close-reached b (c ∷ cs) p ts us vs i d e =
     let k = i .opened in
-    let inner : Sum (i .s ++ (i .q ++ vs)) (whole b p) = sum-of (b .summed) (joinSequence (b .sequenced) p) (i .s) (i .q ++ vs) (i .sums) (sequence-of (b .sequenced) p (i .q) vs (i .sequences) d) in (
-      k .0 ++ (k .1 ++ k .2),
-      opening ∷ (i .s ++ (i .q ++ vs)) ++ closing ∷ [],
-      record { o = k .0; s = k .1; q = k .2; opened = k .3; sums = k .4; sequences = k .5; are = refl },
-      item (parentheses inner refl),
-      ap (λ (x : List Token). x ++ closing ∷ []) (e ∙ ap (λ (x : List Token). x ++ vs) (i .are ∙ ap (λ (x : List Token). x ++ (i .s ++ i .q)) (k .6))) ∙ simp append-assoc,
-    )
+    let inner : Sum (i .s ++ (i .q ++ vs)) (whole b p) = sum-of (b .summed) (joinSequence (b .sequenced) p) (i .s) (i .q ++ vs) (i .sums) (sequence-of (b .sequenced) p (i .q) vs (i .sequences) d) in
+    read-reached c cs (whole b p) (ts ++ closing ∷ []) (k .0 ++ (k .1 ++ k .2)) (opening ∷ (i .s ++ (i .q ++ vs)) ++ closing ∷ [])
+    (record { o = k .0; s = k .1; q = k .2; opened = k .3; sums = k .4; sequences = k .5; are = refl }) (parentheses inner refl)
+    (ap (λ (x : List Token). x ++ closing ∷ []) (e ∙ ap (λ (x : List Token). x ++ vs) (i .are ∙ ap (λ (x : List Token). x ++ (i .s ++ i .q)) (k .6))) ∙ simp append-assoc)
 
 advance : (st : State) (t : Token) (ts : List Token) → Reached st ts → Advanced (step st t) (ts ++ t ∷ [])
-unfolding Advanced Reached step Opened Summed Sequenced nothing upTo whole
-advance (wants b cs) (constant c) ts i = (ts, constant c ∷ [], i, item (word c refl refl), refl)
-advance (wants b cs) (field g) ts i = (ts, i, refl)
-advance (wants b cs) (number n) ts i = tt
-advance (wants b cs) (comparison d) ts i = tt
-advance (wants b cs) plus ts i = tt
-advance (wants b cs) semicolon ts i = tt
-advance (wants b cs) asterisk ts i = tt
-advance (wants b cs) opening ts i =
-    record {
-      o = ts ++ opening ∷ [];
-      s = [];
-      q = [];
-      opened = (i .o, i .s, i .q, i .opened, i .sums, i .sequences, ap (λ (x : List Token). x ++ opening ∷ []) (i .are) ∙ simp append-assoc);
-      sums = refl;
-      sequences = refl;
-      are = sym (append-nil (ts ++ opening ∷ []));
-    }
-advance (wants b cs) closing ts i = tt
-advance (wants b cs) bad ts i = tt
+unfolding Advanced Reached step Opened Summed Sequenced nothing upTo whole negating marks
+advance (wants b cs) (constant c) ts h =
+    read-reached b cs (constantPolicy c) (ts ++ constant c ∷ []) (h .0) (constant c ∷ []) (h .1) (word c refl refl)
+    (ap (λ (x : List Token). x ++ constant c ∷ []) (h .2) ∙ append-assoc (h .0) (marks (b .negations)) (constant c ∷ []))
+advance (wants b cs) (field g) ts h = (h .0, h .1, ap (λ (x : List Token). x ++ field g ∷ []) (h .2) ∙ append-assoc (h .0) (marks (b .negations)) (field g ∷ []))
+advance (wants b cs) (number n) ts h = tt
+advance (wants b cs) (comparison d) ts h = tt
+advance (wants b cs) plus ts h = tt
+advance (wants b cs) semicolon ts h = tt
+advance (wants b cs) asterisk ts h = tt
+advance (wants b cs) opening ts h =
+    let i = h .1 in (
+      ts ++ opening ∷ [],
+      record {
+        o = ts ++ opening ∷ [];
+        s = [];
+        q = [];
+        opened = (
+          i .o,
+          i .s,
+          i .q,
+          i .opened,
+          i .sums,
+          i .sequences,
+          ap (λ (x : List Token). x ++ opening ∷ []) (h .2 ∙ ap (λ (x : List Token). x ++ marks (b .negations)) (i .are)) ∙ simp append-assoc,
+        );
+        sums = refl;
+        sequences = refl;
+        are = sym (append-nil (ts ++ opening ∷ []));
+      },
+      sym (append-nil (ts ++ opening ∷ [])),
+    )
+advance (wants b cs) exclamation ts h = (
+  h .0,
+  h .1,
+  ap (λ (x : List Token). x ++ exclamation ∷ []) (h .2) ∙ append-assoc (h .0) (marks (b .negations)) (exclamation ∷ [])
+      ∙ ap (λ (x : List Token). h .0 ++ x) (marks-more (b .negations) [] ∙ append-nil (exclamation ∷ marks (b .negations))),
+)
+advance (wants b cs) closing ts h = tt
+advance (wants b cs) bad ts h = tt
 advance (named b cs f) (constant c) ts h = tt
 advance (named b cs f) (field g) ts h = tt
 advance (named b cs f) (number n) ts h = tt
-advance (named b cs f) (comparison d) ts h = (h .0, h .1, ap (λ (x : List Token). x ++ comparison d ∷ []) (h .2) ∙ append-assoc (h .0) (field f ∷ []) (comparison d ∷ []))
+advance (named b cs f) (comparison d) ts h = (h .0, h .1, ap (λ (x : List Token). x ++ comparison d ∷ []) (h .2) ∙ simp append-assoc)
 advance (named b cs f) plus ts h = tt
 advance (named b cs f) semicolon ts h = tt
 advance (named b cs f) asterisk ts h = tt
 advance (named b cs f) opening ts h = tt
 advance (named b cs f) closing ts h = tt
+advance (named b cs f) exclamation ts h = tt
 advance (named b cs f) bad ts h = tt
 advance (compared b cs f e) (constant c) ts h = tt
 advance (compared b cs f e) (field g) ts h = tt
-advance (compared b cs f e) (number n) ts h = (
-  h .0,
-  field f ∷ comparison e ∷ number n ∷ [],
-  h .1,
-  item (action f n e refl refl),
-  ap (λ (x : List Token). x ++ number n ∷ []) (h .2) ∙ append-assoc (h .0) (field f ∷ comparison e ∷ []) (number n ∷ []),
-)
+advance (compared b cs f e) (number n) ts h =
+    read-reached b cs (Tree.field (fieldAction e f n)) (ts ++ number n ∷ []) (h .0) (field f ∷ comparison e ∷ number n ∷ []) (h .1) (action f n e refl refl)
+    (ap (λ (x : List Token). x ++ number n ∷ []) (h .2) ∙ simp append-assoc)
 advance (compared b cs f e) (comparison d) ts h = tt
 advance (compared b cs f e) plus ts h = tt
 advance (compared b cs f e) semicolon ts h = tt
 advance (compared b cs f e) asterisk ts h = tt
 advance (compared b cs f e) opening ts h = tt
 advance (compared b cs f e) closing ts h = tt
+advance (compared b cs f e) exclamation ts h = tt
 advance (compared b cs f e) bad ts h = tt
 advance (has b cs p) (constant c) ts h = tt
 advance (has b cs p) (field g) ts h = tt
 advance (has b cs p) (number n) ts h = tt
 advance (has b cs p) (comparison d) ts h = tt
 advance (has b cs p) plus ts h =
-    let i = h .2 in
-    record {
-      o = i .o;
-      s = (i .s ++ (i .q ++ h .1)) ++ plus ∷ [];
-      q = [];
-      opened = i .opened;
-      sums = (
-        i .s ++ (i .q ++ h .1),
-        sum-of (b .summed) (joinSequence (b .sequenced) p) (i .s) (i .q ++ h .1) (i .sums) (sequence-of (b .sequenced) p (i .q) (h .1) (i .sequences) (h .3)),
-        refl,
-      );
-      sequences = refl;
-      are = ap (λ (x : List Token). x ++ plus ∷ []) (h .4 ∙ ap (λ (x : List Token). x ++ h .1) (i .are)) ∙ simp (append-assoc, append-nil);
-    }
+    let i = h .2 in (
+      ts ++ plus ∷ [],
+      record {
+        o = i .o;
+        s = (i .s ++ (i .q ++ h .1)) ++ plus ∷ [];
+        q = [];
+        opened = i .opened;
+        sums = (
+          i .s ++ (i .q ++ h .1),
+          sum-of (b .summed) (joinSequence (b .sequenced) p) (i .s) (i .q ++ h .1) (i .sums) (sequence-of (b .sequenced) p (i .q) (h .1) (i .sequences) (h .3)),
+          refl,
+        );
+        sequences = refl;
+        are = ap (λ (x : List Token). x ++ plus ∷ []) (h .4 ∙ ap (λ (x : List Token). x ++ h .1) (i .are)) ∙ simp (append-assoc, append-nil);
+      },
+      sym (append-nil (ts ++ plus ∷ [])),
+    )
 advance (has b cs p) semicolon ts h =
-    let i = h .2 in
-    record {
-      o = i .o;
-      s = i .s;
-      q = (i .q ++ h .1) ++ semicolon ∷ [];
-      opened = i .opened;
-      sums = i .sums;
-      sequences = (i .q ++ h .1, sequence-of (b .sequenced) p (i .q) (h .1) (i .sequences) (h .3), refl);
-      are = ap (λ (x : List Token). x ++ semicolon ∷ []) (h .4 ∙ ap (λ (x : List Token). x ++ h .1) (i .are)) ∙ simp append-assoc;
-    }
+    let i = h .2 in (
+      ts ++ semicolon ∷ [],
+      record {
+        o = i .o;
+        s = i .s;
+        q = (i .q ++ h .1) ++ semicolon ∷ [];
+        opened = i .opened;
+        sums = i .sums;
+        sequences = (i .q ++ h .1, sequence-of (b .sequenced) p (i .q) (h .1) (i .sequences) (h .3), refl);
+        are = ap (λ (x : List Token). x ++ semicolon ∷ []) (h .4 ∙ ap (λ (x : List Token). x ++ h .1) (i .are)) ∙ simp append-assoc;
+      },
+      sym (append-nil (ts ++ semicolon ∷ [])),
+    )
 advance (has b cs p) asterisk ts h = (h .0, h .1 ++ asterisk ∷ [], h .2, starred (h .3) refl refl, ap (λ (x : List Token). x ++ asterisk ∷ []) (h .4) ∙ append-assoc (h .0) (h .1) (asterisk ∷ []))
 advance (has b cs p) opening ts h = tt
 advance (has b cs p) closing ts h = close-reached b cs p ts (h .0) (h .1) (h .2) (h .3) (h .4)
+advance (has b cs p) exclamation ts h = tt
 advance (has b cs p) bad ts h = tt
 
 finish-derived : (st : State) (ts : List Token) (p : Policy) → Reached st ts → treeIn (finish 0 st) ≡ some p → Sum ts p
@@ -341,8 +419,8 @@ derived-from st us (t ∷ ts) p h e = go (step st t) refl (advance st t us h) (�
     go (some s′) q a f = subst (λ (l : List Token). Sum l p) (append-assoc us (t ∷ []) ts) (f s′ a (sym (accept-some st s′ t ts q) ∙ e))
 
 derived : (ts : List Token) (p : Policy) → accept start ts ≡ some p → Sum ts p
-unfolding start Reached Opened Summed Sequenced nothing
-derived ts p e = derived-from start [] ts p (record { o = []; s = []; q = []; opened = refl; sums = refl; sequences = refl; are = refl }) e
+unfolding start Reached Opened Summed Sequenced nothing marks
+derived ts p e = derived-from start [] ts p ([], record { o = []; s = []; q = []; opened = refl; sums = refl; sequences = refl; are = refl }, refl) e
 
 tree-in : (o : Outcome) (p : Policy) → treeIn o ≡ some p → o ≡ tree p
 unfolding treeIn
@@ -368,16 +446,16 @@ closings [] = []
 closings (c ∷ cs) = closing ∷ closings cs
 
 has-completes : (cs : List Before) (b : Before) (p : Policy) → (q : Policy) × (accept (has b cs p) (closings cs) ≡ some q)
-unfolding accept closings step close finish treeIn
+unfolding accept closings step close itemRead finish treeIn
 has-completes [] b p = (whole b p, refl)
-has-completes (c ∷ cs) b p = has-completes cs c (whole b p)
+has-completes (c ∷ cs) b p = has-completes cs _ (negated (c .negations) (whole b p))
 
 -- from every state some tokens end in a tree
 completes : (st : State) → (us : List Token) × (q : Policy) × (accept st us ≡ some q)
-unfolding accept step
-completes (wants b cs) = let h = has-completes cs b (constantPolicy passed) in (constant passed ∷ closings cs, h .0, h .1)
-completes (named b cs f) = let h = has-completes cs b (Tree.field (fieldAction equals f 0)) in (comparison equals ∷ number 0 ∷ closings cs, h .0, h .1)
-completes (compared b cs f c) = let h = has-completes cs b (Tree.field (fieldAction c f 0)) in (number 0 ∷ closings cs, h .0, h .1)
+unfolding accept step itemRead
+completes (wants b cs) = let h = has-completes cs _ (negated (b .negations) (constantPolicy passed)) in (constant passed ∷ closings cs, h .0, h .1)
+completes (named b cs f) = let h = has-completes cs _ (negated (b .negations) (Tree.field (fieldAction equals f 0))) in (comparison equals ∷ number 0 ∷ closings cs, h .0, h .1)
+completes (compared b cs f c) = let h = has-completes cs _ (negated (b .negations) (Tree.field (fieldAction c f 0))) in (number 0 ∷ closings cs, h .0, h .1)
 completes (has b cs p) = let h = has-completes cs b p in (closings cs, h .0, h .1)
 
 -- a state refuses the token at the front, or the end
@@ -497,6 +575,7 @@ bad-token semicolon e = absurd (true≢false (sym e))
 bad-token asterisk e = absurd (true≢false (sym e))
 bad-token opening e = absurd (true≢false (sym e))
 bad-token closing e = absurd (true≢false (sym e))
+bad-token exclamation e = absurd (true≢false (sym e))
 bad-token bad e = refl
 
 -- what derives a tree has no bad token

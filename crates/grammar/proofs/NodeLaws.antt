@@ -1,5 +1,5 @@
--- The nodes of a text that is read: of causes 4 to 9 only 6 and 9 remain possible, and the policy of the nodes is the text's tree, dups'
--- numbers apart, so it has the same traces.
+-- The nodes of a text that is read: of causes 4 to 9 and 19 only 6, 19 and 9 remain possible, and the policy of the nodes is the text's
+-- tree, dups' numbers apart, so it has the same traces.
 use Prim.Native.Nat.{ℕ, pred, _≤_, min}
 use native.Mathlib.Omega.{arith}
 use mathlib.Core.List.{List, [], _∷_}
@@ -10,17 +10,17 @@ use Rattle.packet.specs.Refusals.{refusedAt, atPlace, atZero, firstOf}
 use Rattle.packet.specs.declared.Tested.{Tested}
 use Rattle.packet.specs.declared.Tested.the-variants.{Passed, Refused as Failed}
 use Rattle.packet.proofs.Lowest.{none-lowest}
-use Rattle.policy.specs.Tree.{Policy, sum, seq, star}
+use Rattle.policy.specs.Tree.{Policy, sum, seq, star, neg}
 use Rattle.policy.specs.Meaning.{Packets, Traces}
 use Rattle.policy.specs.NodeLists.{NodeLists, nodeCount, policyOf}
 use Rattle.policy.specs.NodesOfTree.{treeSize, nodesOf, unlabelled}
-use Rattle.policy.specs.Legality.{badLengths, badKind, badEntries, badChild, notOnce, tooManyDups}
+use Rattle.policy.specs.Legality.{badLengths, badKind, badEntries, badChild, notOnce, badNegation, tooManyDups}
 use Rattle.policy.specs.Order.{sided, cause, causes, policiesStage}
 use Rattle.policy.proofs.Congruence.{traces-unlabelled}
 use Rattle.policy.proofs.Nodes.{nodes-count, nodes-read-back, nodes-lengths, nodes-kinds, nodes-below, nodes-once}
 use Rattle.grammar.specs.declared.Answer.the-variants.{Nodes}
 use Rattle.grammar.specs.Tokens.{Token, Constant, Comparison, dropped, passed, recorded}
-use Rattle.grammar.specs.Grammar.{constantPolicy, fieldAction, Item, Starred, Sequence, Sum, word, action, parentheses, item, starred, single, sequenced, alone, summed}
+use Rattle.grammar.specs.Grammar.{constantPolicy, fieldAction, Item, Starred, Sequence, Sum, word, action, parentheses, negation, item, starred, single, sequenced, alone, summed}
 use Rattle.grammar.specs.Answer.{textTree, answerTo}
 use Rattle.grammar.proofs.AnswerLaws.{few-enough, count-parts}
 use Rattle.grammar.proofs.GrammarLaws.{read-derives, tree-read}
@@ -46,6 +46,10 @@ bare-star : {p : Policy} → Bare p → Bare (star p)
 unfolding unlabelled
 bare-star h = record { same = ap star (h .same) }
 
+bare-neg : {p : Policy} → Bare p → Bare (neg p)
+unfolding unlabelled
+bare-neg h = record { same = ap neg (h .same) }
+
 bare-seq : {p q : Policy} → Bare p → Bare q → Bare (seq p q)
 unfolding unlabelled
 bare-seq h k = record { same = ap₂ seq (h .same) (k .same) }
@@ -62,6 +66,7 @@ mutual
   item-bare (word c e q) = bare-of (constantPolicy c) q (constant-bare c)
   item-bare (action f v c e q) = bare-action f v c q
   item-bare (parentheses d e) = sum-bare d
+  item-bare (negation {q = q} d e r) = bare-of (neg q) r (bare-neg (item-bare d))
 
   starred-bare : {ts : List Token} {p : Policy} → Starred ts p → Bare p
   starred-bare (item d) = item-bare d
@@ -83,26 +88,27 @@ passes : (number side : ℕ) (L : NodeLists) (place : NodeLists → Option ℕ) 
 unfolding cause firstOf refusedAt sided
 passes number side L place e = rw e
 
-four-pass : (a b c d f g : Tested) → a ≡ Passed → b ≡ Passed → d ≡ Passed → f ≡ Passed → firstOf (a ∷ b ∷ c ∷ d ∷ f ∷ g ∷ []) ≡ firstOf (c ∷ g ∷ [])
+four-pass : (a b c d f g h : Tested) → a ≡ Passed → b ≡ Passed → d ≡ Passed → f ≡ Passed → firstOf (a ∷ b ∷ c ∷ d ∷ f ∷ g ∷ h ∷ []) ≡ firstOf (c ∷ g ∷ h ∷ [])
 unfolding firstOf
-four-pass a b Passed d f g p q r s = rw (p, q, r, s)
-four-pass a b (Failed x) d f g p q r s = rw (p, q)
+four-pass a b Passed d f g h p q r s = rw (p, q, r, s)
+four-pass a b (Failed x) d f g h p q r s = rw (p, q)
 
 module _ (names : List (List ℕ)) (text : List ℕ) (room n : ℕ) (e : answerTo names text room ≡ Nodes n) where
   few : treeSize (textTree names text) ≤ 512
   few = let h : treeSize (textTree names text) ≤ min 512 room = few-enough room (treeSize (textTree names text)) (count-parts names text room n (sym e) .2) in omega arith
 
-  -- of causes 4 to 9 only 6 and 9 remain
-  pub six-or-nine : (sizes : List ℕ) (side : ℕ)
+  -- of the causes of a policy only 6, 19 and 9 remain
+  pub causes-remaining : (sizes : List ℕ) (side : ℕ)
       → policiesStage sizes (sided side (nodesOf (textTree names text)) ∷ [])
       ≡ firstOf
       (cause 6 (λ L. lowest (badEntries sizes L) (nodeCount L)) (sided side (nodesOf (textTree names text)) ∷ [])
+      ∷ cause 19 (λ L. lowest (badNegation L) (nodeCount L)) (sided side (nodesOf (textTree names text)) ∷ [])
       ∷ cause 9 (λ L. lowest (tooManyDups L) (nodeCount L)) (sided side (nodesOf (textTree names text)) ∷ [])
       ∷ [])
   unfolding policiesStage causes sided atPlace
-  six-or-nine sizes side =
+  causes-remaining sizes side =
       let L = nodesOf (textTree names text) in
-      four-pass _ _ _ _ _ _
+      four-pass _ _ _ _ _ _ _
       (passes 4 side L (λ L. atZero (badLengths L)) (ap atZero (nodes-lengths (textTree names text) few)))
       (passes 5 side L (λ L. lowest (badKind L) (nodeCount L)) (none-lowest (badKind L) (nodeCount L) (λ i l. nodes-kinds (textTree names text) i)))
       (passes 7 side L (λ L. lowest (badChild L) (nodeCount L)) (none-lowest (badChild L) (nodeCount L) (nodes-below (textTree names text))))

@@ -6,10 +6,10 @@ use mathlib.Core.Option.{Option, none, some}
 use mathlib.Core.Path.{_≡_, refl, sym, _∙_, ap}
 use Rattle.policy.specs.Tree.{Policy, sum, seq, star}
 use Rattle.policy.specs.Tree
-use Rattle.grammar.specs.Tokens.{Token, Placed, Constant, Comparison, dropped, passed, recorded, equals, differs, assigned, constant, field, number, comparison, plus, semicolon, asterisk, opening, closing, bad}
+use Rattle.grammar.specs.Tokens.{Token, Placed, Constant, Comparison, dropped, passed, recorded, equals, differs, assigned, constant, field, number, comparison, plus, semicolon, asterisk, opening, closing, exclamation, bad}
 use Rattle.grammar.specs.InnerKinds.{kindOf, tokenValue, constantKind, comparisonKind, frontKind, frontValue, frontPlace, afterFront}
 use Rattle.grammar.specs.Grammar.{constantPolicy, fieldAction}
-use Rattle.grammar.specs.Reading.{Before, nothing, joinSequence, joinSum, upTo, whole, State, wants, named, compared, has, close, step, tree, stop, finish, readOn}
+use Rattle.grammar.specs.Reading.{Before, nothing, joinSequence, joinSum, upTo, whole, State, wants, named, compared, has, negating, itemRead, close, step, tree, stop, finish, readOn}
 
 abbrev pub constantOf : ℕ → Constant
 constantOf zero = dropped
@@ -35,7 +35,8 @@ tokenOf (suc (suc (suc (suc (suc (suc zero)))))) v = plus
 tokenOf (suc (suc (suc (suc (suc (suc (suc zero))))))) v = semicolon
 tokenOf (suc (suc (suc (suc (suc (suc (suc (suc zero)))))))) v = asterisk
 tokenOf (suc (suc (suc (suc (suc (suc (suc (suc (suc zero))))))))) v = opening
-tokenOf (suc (suc (suc (suc (suc (suc (suc (suc (suc (suc n)))))))))) v = closing
+tokenOf (suc (suc (suc (suc (suc (suc (suc (suc (suc (suc zero)))))))))) v = closing
+tokenOf (suc (suc (suc (suc (suc (suc (suc (suc (suc (suc (suc n))))))))))) v = exclamation
 
 constant-of : (c : Constant) → constantOf (constantKind c) ≡ c
 unfolding constantKind
@@ -61,6 +62,7 @@ token-of semicolon = refl
 token-of asterisk = refl
 token-of opening = refl
 token-of closing = refl
+token-of exclamation = refl
 
 constant-token : (t : Token) → kindOf t ≡ 2 → (c : Constant) × (tokenValue t ≡ constantKind c) × (constantOf (tokenValue t) ≡ c)
 unfolding kindOf tokenValue
@@ -74,6 +76,7 @@ constant-token semicolon e = absurd (omega arith)
 constant-token asterisk e = absurd (omega arith)
 constant-token opening e = absurd (omega arith)
 constant-token closing e = absurd (omega arith)
+constant-token exclamation e = absurd (omega arith)
 
 comparison-token : (t : Token) → kindOf t ≡ 5 → (c : Comparison) × (tokenValue t ≡ comparisonKind c) × (comparisonOf (tokenValue t) ≡ c)
 unfolding kindOf tokenValue
@@ -87,6 +90,7 @@ comparison-token semicolon e = absurd (omega arith)
 comparison-token asterisk e = absurd (omega arith)
 comparison-token opening e = absurd (omega arith)
 comparison-token closing e = absurd (omega arith)
+comparison-token exclamation e = absurd (omega arith)
 
 -- the constant, or the comparison, whose number is the front token's value
 pub constant-at : (ts : List Placed) → frontKind ts ≡ 2 → (c : Constant) × (frontValue ts ≡ constantKind c) × (constantOf (frontValue ts) ≡ c)
@@ -124,18 +128,19 @@ module _ (end : ℕ) where
   stops s t ts e = rw (e, readOn)
 
   module _ (b : Before) (cs : List Before) where
-    wants-none : (t : Token) → (kindOf t ≡ 2 → ⊥) → (kindOf t ≡ 3 → ⊥) → (kindOf t ≡ 9 → ⊥) → step (wants b cs) t ≡ none
+    wants-none : (t : Token) → (kindOf t ≡ 2 → ⊥) → (kindOf t ≡ 3 → ⊥) → (kindOf t ≡ 9 → ⊥) → (kindOf t ≡ 11 → ⊥) → step (wants b cs) t ≡ none
     unfolding step kindOf
-    wants-none bad x y z = refl
-    wants-none (constant c) x y z = absurd (x refl)
-    wants-none (field f) x y z = absurd (y refl)
-    wants-none (number n) x y z = refl
-    wants-none (comparison c) x y z = refl
-    wants-none plus x y z = refl
-    wants-none semicolon x y z = refl
-    wants-none asterisk x y z = refl
-    wants-none opening x y z = absurd (z refl)
-    wants-none closing x y z = refl
+    wants-none bad x y z w = refl
+    wants-none (constant c) x y z w = absurd (x refl)
+    wants-none (field f) x y z w = absurd (y refl)
+    wants-none (number n) x y z w = refl
+    wants-none (comparison c) x y z w = refl
+    wants-none plus x y z w = refl
+    wants-none semicolon x y z w = refl
+    wants-none asterisk x y z w = refl
+    wants-none opening x y z w = absurd (z refl)
+    wants-none closing x y z w = refl
+    wants-none exclamation x y z w = absurd (w refl)
 
     named-none : (f : ℕ) (t : Token) → (kindOf t ≡ 5 → ⊥) → step (named b cs f) t ≡ none
     unfolding step kindOf
@@ -149,6 +154,7 @@ module _ (end : ℕ) where
     named-none f asterisk x = refl
     named-none f opening x = refl
     named-none f closing x = refl
+    named-none f exclamation x = refl
 
     compared-none : (f : ℕ) (c : Comparison) (t : Token) → (kindOf t ≡ 4 → ⊥) → step (compared b cs f c) t ≡ none
     unfolding step kindOf
@@ -162,11 +168,12 @@ module _ (end : ℕ) where
     compared-none f c asterisk x = refl
     compared-none f c opening x = refl
     compared-none f c closing x = refl
+    compared-none f c exclamation x = refl
 
-    pub wants-stops : (ts : List Placed) → (frontKind ts ≡ 2 → ⊥) → (frontKind ts ≡ 3 → ⊥) → (frontKind ts ≡ 9 → ⊥) → readOn end (wants b cs) ts ≡ stop (frontPlace end ts)
+    pub wants-stops : (ts : List Placed) → (frontKind ts ≡ 2 → ⊥) → (frontKind ts ≡ 3 → ⊥) → (frontKind ts ≡ 9 → ⊥) → (frontKind ts ≡ 11 → ⊥) → readOn end (wants b cs) ts ≡ stop (frontPlace end ts)
     unfolding frontKind frontPlace readOn finish
-    wants-stops [] x y z = refl
-    wants-stops (t ∷ ts) x y z = stops (wants b cs) t ts (wants-none (t .token) x y z)
+    wants-stops [] x y z w = refl
+    wants-stops (t ∷ ts) x y z w = stops (wants b cs) t ts (wants-none (t .token) x y z w)
 
     pub named-stops : (f : ℕ) (ts : List Placed) → (frontKind ts ≡ 5 → ⊥) → readOn end (named b cs f) ts ≡ stop (frontPlace end ts)
     unfolding frontKind frontPlace readOn finish
@@ -178,7 +185,7 @@ module _ (end : ℕ) where
     compared-stops f c [] x = refl
     compared-stops f c (t ∷ ts) x = stops (compared b cs f c) t ts (compared-none f c (t .token) x)
 
-    pub at-constant : (ts : List Placed) → frontKind ts ≡ 2 → readOn end (wants b cs) ts ≡ readOn end (has b cs (constantPolicy (constantOf (frontValue ts)))) (afterFront ts)
+    pub at-constant : (ts : List Placed) → frontKind ts ≡ 2 → readOn end (wants b cs) ts ≡ readOn end (itemRead b cs (constantPolicy (constantOf (frontValue ts)))) (afterFront ts)
     unfolding readOn step
     at-constant ts e = ap (readOn end (wants b cs)) (front-at 2 ts e (λ q. omega arith))
 
@@ -190,7 +197,7 @@ module _ (end : ℕ) where
     unfolding readOn step
     at-comparison f ts e = ap (readOn end (named b cs f)) (front-at 5 ts e (λ q. omega arith))
 
-    pub at-number : (f : ℕ) (c : Comparison) (ts : List Placed) → frontKind ts ≡ 4 → readOn end (compared b cs f c) ts ≡ readOn end (has b cs (Tree.field (fieldAction c f (frontValue ts)))) (afterFront ts)
+    pub at-number : (f : ℕ) (c : Comparison) (ts : List Placed) → frontKind ts ≡ 4 → readOn end (compared b cs f c) ts ≡ readOn end (itemRead b cs (Tree.field (fieldAction c f (frontValue ts)))) (afterFront ts)
     unfolding readOn step
     at-number f c ts e = ap (readOn end (compared b cs f c)) (front-at 4 ts e (λ q. omega arith))
 
@@ -198,19 +205,23 @@ module _ (end : ℕ) where
     unfolding readOn step
     at-opening ts e = ap (readOn end (wants b cs)) (front-at 9 ts e (λ q. omega arith))
 
+    pub at-exclamation : (ts : List Placed) → frontKind ts ≡ 11 → readOn end (wants b cs) ts ≡ readOn end (wants (negating b) cs) (afterFront ts)
+    unfolding readOn step
+    at-exclamation ts e = ap (readOn end (wants b cs)) (front-at 11 ts e (λ q. omega arith))
+
     pub at-asterisk : (p : Policy) (ts : List Placed) → frontKind ts ≡ 8 → readOn end (has b cs p) ts ≡ readOn end (has b cs (star p)) (afterFront ts)
     unfolding readOn step
     at-asterisk p ts e = ap (readOn end (has b cs p)) (front-at 8 ts e (λ q. omega arith))
 
-    pub at-semicolon : (p : Policy) (ts : List Placed) → frontKind ts ≡ 7 → readOn end (has b cs p) ts ≡ readOn end (wants (record { summed = b .summed; sequenced = some (upTo b p) }) cs) (afterFront ts)
+    pub at-semicolon : (p : Policy) (ts : List Placed) → frontKind ts ≡ 7 → readOn end (has b cs p) ts ≡ readOn end (wants (record { summed = b .summed; sequenced = some (upTo b p); negations = 0 }) cs) (afterFront ts)
     unfolding readOn step
     at-semicolon p ts e = ap (readOn end (has b cs p)) (front-at 7 ts e (λ q. omega arith))
 
-    pub at-plus : (p : Policy) (ts : List Placed) → frontKind ts ≡ 6 → readOn end (has b cs p) ts ≡ readOn end (wants (record { summed = some (whole b p); sequenced = none }) cs) (afterFront ts)
+    pub at-plus : (p : Policy) (ts : List Placed) → frontKind ts ≡ 6 → readOn end (has b cs p) ts ≡ readOn end (wants (record { summed = some (whole b p); sequenced = none; negations = 0 }) cs) (afterFront ts)
     unfolding readOn step
     at-plus p ts e = ap (readOn end (has b cs p)) (front-at 6 ts e (λ q. omega arith))
 
-    pub at-closing : (p : Policy) (ts : List Placed) → frontKind ts ≡ 10 → readOn end (has nothing (b ∷ cs) p) ts ≡ readOn end (has b cs p) (afterFront ts)
+    pub at-closing : (p : Policy) (ts : List Placed) → frontKind ts ≡ 10 → readOn end (has nothing (b ∷ cs) p) ts ≡ readOn end (itemRead b cs p) (afterFront ts)
     unfolding readOn step close whole upTo joinSum joinSequence nothing
     at-closing p ts e = ap (readOn end (has nothing (b ∷ cs) p)) (front-at 10 ts e (λ q. omega arith))
 
@@ -226,6 +237,7 @@ module _ (end : ℕ) where
   has-none b cs p asterisk w x y z = absurd (x refl)
   has-none b cs p opening w x y z = refl
   has-none b cs p closing w x y z = absurd (w refl)
+  has-none b cs p exclamation w x y z = refl
 
   -- inside parentheses only ) can stand after a sum
   pub open-stops : (b c : Before) (cs : List Before) (p : Policy) (ts : List Placed) → (frontKind ts ≡ 10 → ⊥) → (frontKind ts ≡ 8 → ⊥) → (frontKind ts ≡ 7 → ⊥) → (frontKind ts ≡ 6 → ⊥)
@@ -251,6 +263,7 @@ module _ (end : ℕ) where
       never asterisk e = omega arith
       never opening e = omega arith
       never closing e = omega arith
+      never exclamation e = omega arith
 
   pub top-stops : (b : Before) (p : Policy) (ts : List Placed) → (frontKind ts ≡ 1 → ⊥) → (frontKind ts ≡ 8 → ⊥) → (frontKind ts ≡ 7 → ⊥) → (frontKind ts ≡ 6 → ⊥)
       → readOn end (has b [] p) ts ≡ stop (frontPlace end ts)
@@ -269,18 +282,19 @@ module _ (end : ℕ) where
       go asterisk x y z = absurd (x refl)
       go opening x y z = refl
       go closing x y z = refl
+      go exclamation x y z = refl
 
   -- where no * follows, an item after others is as good as the sequence up to it
   pub collapse-sequence : (s : Option Policy) (cs : List Before) (p q : Policy) (ts : List Placed) → (frontKind ts ≡ 8 → ⊥)
-      → readOn end (has (record { summed = s; sequenced = some p }) cs q) ts ≡ readOn end (has (record { summed = s; sequenced = none }) cs (seq p q)) ts
+      → readOn end (has (record { summed = s; sequenced = some p; negations = 0 }) cs q) ts ≡ readOn end (has (record { summed = s; sequenced = none; negations = 0 }) cs (seq p q)) ts
   unfolding readOn finish whole upTo joinSequence frontKind kindOf step close
   collapse-sequence s [] p q [] h = refl
   collapse-sequence s (c ∷ cs) p q [] h = refl
   collapse-sequence s cs p q (t ∷ ts) h = go (t .token) cs h
     where
       go : (k : Token) (cs : List Before) → (kindOf k ≡ 8 → ⊥)
-          → readOn end (has (record { summed = s; sequenced = some p }) cs q) (record { token = k; start = t .start } ∷ ts)
-          ≡ readOn end (has (record { summed = s; sequenced = none }) cs (seq p q)) (record { token = k; start = t .start } ∷ ts)
+          → readOn end (has (record { summed = s; sequenced = some p; negations = 0 }) cs q) (record { token = k; start = t .start } ∷ ts)
+          ≡ readOn end (has (record { summed = s; sequenced = none; negations = 0 }) cs (seq p q)) (record { token = k; start = t .start } ∷ ts)
       go bad cs h = refl
       go (constant c) cs h = refl
       go (field g) cs h = refl
@@ -292,17 +306,18 @@ module _ (end : ℕ) where
       go opening cs h = refl
       go closing [] h = refl
       go closing (c ∷ cs) h = refl
+      go exclamation cs h = refl
 
   -- where no * and no ; follows, a sequence after others is as good as the sum up to it
   pub collapse-sum : (cs : List Before) (p q : Policy) (ts : List Placed) → (frontKind ts ≡ 8 → ⊥) → (frontKind ts ≡ 7 → ⊥)
-      → readOn end (has (record { summed = some p; sequenced = none }) cs q) ts ≡ readOn end (has nothing cs (sum p q)) ts
+      → readOn end (has (record { summed = some p; sequenced = none; negations = 0 }) cs q) ts ≡ readOn end (has nothing cs (sum p q)) ts
   unfolding readOn finish whole upTo joinSequence joinSum nothing frontKind kindOf step close
   collapse-sum [] p q [] h g = refl
   collapse-sum (c ∷ cs) p q [] h g = refl
   collapse-sum cs p q (t ∷ ts) h g = go (t .token) cs h g
     where
       go : (k : Token) (cs : List Before) → (kindOf k ≡ 8 → ⊥) → (kindOf k ≡ 7 → ⊥)
-          → readOn end (has (record { summed = some p; sequenced = none }) cs q) (record { token = k; start = t .start } ∷ ts)
+          → readOn end (has (record { summed = some p; sequenced = none; negations = 0 }) cs q) (record { token = k; start = t .start } ∷ ts)
           ≡ readOn end (has nothing cs (sum p q)) (record { token = k; start = t .start } ∷ ts)
       go bad cs h g = refl
       go (constant c) cs h g = refl
@@ -315,3 +330,4 @@ module _ (end : ℕ) where
       go opening cs h g = refl
       go closing [] h g = refl
       go closing (c ∷ cs) h g = refl
+      go exclamation cs h g = refl

@@ -15,7 +15,7 @@ use Rattle.policy.specs.Tree
 use Rattle.policy.specs.NodesOfTree.{treeSize, nodesOf}
 use Rattle.grammar.specs.declared.Answer.{Answer}
 use Rattle.grammar.specs.declared.Answer.the-variants.{Nodes, Refused}
-use Rattle.grammar.specs.Tokens.{fieldNames, Token, Placed, constant, field, number, comparison, plus, semicolon, asterisk, opening, closing, bad, isBad, tokens}
+use Rattle.grammar.specs.Tokens.{fieldNames, Token, Placed, constant, field, number, comparison, plus, semicolon, asterisk, opening, closing, exclamation, bad, isBad, tokens}
 use Rattle.grammar.specs.Reading.{Outcome, tree, stop, start, readOn}
 
 -- cause 14: the first token that is bad
@@ -34,6 +34,7 @@ openAfter n (comparison c) = n
 openAfter n plus = n
 openAfter n semicolon = n
 openAfter n asterisk = n
+openAfter n exclamation = n
 openAfter n bad = n
 
 -- cause 15: the first token with which over 64 parentheses are open, n of them before the first of these tokens

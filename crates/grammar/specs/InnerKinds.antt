@@ -4,7 +4,7 @@ use mathlib.Core.Bool.{cond}
 use mathlib.Core.List.{List, [], _∷_}
 use lib.Dec.{eqb}
 use Rattle.grammar.specs.Bytes.{isBlank, isLetter, isDigit}
-use Rattle.grammar.specs.Tokens.{Token, Placed, Constant, Comparison, dropped, passed, recorded, equals, differs, assigned, constant, field, number, comparison, plus, semicolon, asterisk, opening, closing, bad, singleMark, beginsDouble}
+use Rattle.grammar.specs.Tokens.{Token, Placed, Constant, Comparison, dropped, passed, recorded, equals, differs, assigned, constant, field, number, comparison, plus, semicolon, asterisk, opening, closing, exclamation, bad, singleMark, beginsDouble}
 
 -- 1 is the end of the text
 unfoldable pub kindOf : Token → ℕ
@@ -18,6 +18,7 @@ kindOf semicolon = 7
 kindOf asterisk = 8
 kindOf opening = 9
 kindOf closing = 10
+kindOf exclamation = 11
 
 -- the kind of the node that a constant is
 unfoldable pub constantKind : Constant → ℕ
@@ -42,8 +43,9 @@ tokenValue semicolon = 0
 tokenValue asterisk = 0
 tokenValue opening = 0
 tokenValue closing = 0
+tokenValue exclamation = 0
 
--- the class of a byte: 0 starts no token, 1 blank, 2 letter, 3 digit, 4 begins a mark of two bytes, else the mark that it is
+-- the class of a byte: 0 starts no token, 1 blank, 2 letter, 3 digit, 4 may begin a mark of two bytes, else the mark that it is
 unfoldable pub classOf : ℕ → ℕ
 classOf b = cond (isBlank b) 1 (cond (isLetter b) 2 (cond (isDigit b) 3 (cond (beginsDouble b) 4 (kindOf (singleMark b)))))
 

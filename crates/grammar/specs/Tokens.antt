@@ -1,4 +1,4 @@
--- Tokens of a text (document 01, "Text"). The table of field names is a parameter.
+-- Tokens of a text (document 01, "Text", and document 02, A.1). The table of field names is a parameter.
 use Prim.Native.Nat.{ℕ, zero, suc, _+_, _-_, _*_}
 use mathlib.Core.Bool.{Bool, true, false, cond, not, _&&_, _||_}
 use mathlib.Core.List.{List, [], _∷_}
@@ -22,7 +22,7 @@ pub data Token : Type 0 where
   field : ℕ → Token
   number : ℕ → Token
   comparison : Comparison → Token
-  plus semicolon asterisk opening closing bad : Token
+  plus semicolon asterisk opening closing exclamation bad : Token
 
 -- two words are the same, byte for byte
 unfoldable pub sameWord : List ℕ → List ℕ → Bool
@@ -72,13 +72,17 @@ singleMark b =
     cond (eqb b 61) (comparison equals)
     (cond (eqb b 43) plus (cond (eqb b 59) semicolon (cond (eqb b 42) asterisk (cond (eqb b 40) opening (cond (eqb b 41) closing bad)))))
 
--- a first byte of a mark of two bytes: the byte after it, and the mark
-unfoldable pub doubleMark : ℕ → ℕ → Token
-doubleMark b after =
-    cond (eqb b 33 && eqb after 61) (comparison differs) (cond (eqb b 60 && eqb after 45) (comparison assigned) bad)
+-- != and <-
+unfoldable pub isDouble : ℕ → ℕ → Bool
+isDouble b after = (eqb b 33 && eqb after 61) || (eqb b 60 && eqb after 45)
 
 unfoldable pub beginsDouble : ℕ → Bool
 beginsDouble b = eqb b 33 || eqb b 60
+
+-- the mark at a byte that may begin one of two bytes; a ! without = is a mark of its own
+unfoldable pub doubleMark : ℕ → ℕ → Token
+doubleMark b after =
+    cond (eqb b 33) (cond (eqb after 61) (comparison differs) exclamation) (cond (eqb b 60 && eqb after 45) (comparison assigned) bad)
 
 -- the mark at a byte, which the next byte may be a part of
 unfoldable pub markToken : ℕ → ℕ → Token
@@ -103,11 +107,12 @@ isBad semicolon = false
 isBad asterisk = false
 isBad opening = false
 isBad closing = false
+isBad exclamation = false
 isBad bad = true
 
 -- how many bytes after its first the front token has
 unfoldable pub restOfToken : ℕ → List ℕ → ℕ
-restOfToken b bs = cond (inWord b) (length (wordOf bs)) (cond (not (isBad (doubleMark b (getD bs 0 0)))) 1 0)
+restOfToken b bs = cond (inWord b) (length (wordOf bs)) (cond (isDouble b (getD bs 0 0)) 1 0)
 
 -- a token and the byte at which it starts
 pub record Placed : Type 0 where

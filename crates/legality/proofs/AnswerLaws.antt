@@ -24,7 +24,7 @@ use Rattle.tree_causes.specs.declared.DupCount.{DupCount}
 use Rattle.policy.specs.AsLists.{asLists}
 use Rattle.policy.specs.InnerEach.{Each}
 use Rattle.policy.specs.NodeLists.{NodeLists, nodeCount, dupsBelow}
-use Rattle.policy.specs.Legality.{badLengths, badKind, badEntries, badChild, notOnce, Legal}
+use Rattle.policy.specs.Legality.{badLengths, badKind, badEntries, badChild, notOnce, badNegation, Legal}
 use Rattle.policy.specs.Order.{inOrder, Cause, causes, Sided, sided, cause, policiesStage, stagesOf, pairOf, policyTests, pairTests, oneOr, placeAmong, causePlace}
 use Rattle.node_causes.specs.Lengths.{SameLengths}
 use Rattle.tree_causes.specs.Counting.{CountableChildren, DupCountOf}
@@ -141,7 +141,7 @@ stage-together sizes ps = refl
 
 rising : (sizes : List ℕ) → Rising 0 (causes sizes)
 unfolding Rising causes causePlace placeAmong oneOr
-rising sizes = (omega arith, (omega arith, (omega arith, (omega arith, (omega arith, (omega arith, tt))))))
+rising sizes = (omega arith, (omega arith, (omega arith, (omega arith, (omega arith, (omega arith, (omega arith, tt)))))))
 
 stage-two : (sizes : List ℕ) (a b : ℕ) (L R : NodeLists)
     → policiesStage sizes (sided a L ∷ sided b R ∷ []) ≡ earlierOf (policiesStage sizes (sided a L ∷ [])) (policiesStage sizes (sided b R ∷ []))
@@ -176,10 +176,10 @@ pub place-of : (k n : ℕ) → n ≡ k → causePlace k ≡ causePlace n
 place-of k n e = sym (ap causePlace e)
 
 -- a number that is none of the list's
-pub no-place : (n : ℕ) → ((((((Unit {0} × (n ≡ 4 → ⊥)) × (n ≡ 5 → ⊥)) × (n ≡ 6 → ⊥)) × (n ≡ 7 → ⊥)) × (n ≡ 8 → ⊥)) × (n ≡ 9 → ⊥)) → 7 ≡ causePlace n
+pub no-place : (n : ℕ) → (((((((Unit {0} × (n ≡ 4 → ⊥)) × (n ≡ 5 → ⊥)) × (n ≡ 6 → ⊥)) × (n ≡ 7 → ⊥)) × (n ≡ 8 → ⊥)) × (n ≡ 19 → ⊥)) × (n ≡ 9 → ⊥)) → 8 ≡ causePlace n
 unfolding causePlace causes placeAmong oneOr
 no-place n h =
-    rw (ne-eqb n 4 (h .0 .0 .0 .0 .0 .1), ne-eqb n 5 (h .0 .0 .0 .0 .1), ne-eqb n 6 (h .0 .0 .0 .1), ne-eqb n 7 (h .0 .0 .1), ne-eqb n 8 (h .0 .1), ne-eqb n 9 (h .1)) refl
+    rw (ne-eqb n 4 (h .0 .0 .0 .0 .0 .0 .1), ne-eqb n 5 (h .0 .0 .0 .0 .0 .1), ne-eqb n 6 (h .0 .0 .0 .0 .1), ne-eqb n 7 (h .0 .0 .0 .1), ne-eqb n 8 (h .0 .0 .1), ne-eqb n 19 (h .0 .1), ne-eqb n 9 (h .1)) refl
 
 -- ---- one policy, by causes that need the ones before
 
@@ -253,22 +253,27 @@ nodes-joined sizes kind first second side {k} {e} {b} kinds kind-at entries entr
     ∙ ap₂ (λ (e b : Tested). firstOf (refusedAt 5 side (lowest (badKind (asLists kind first second)) (length kind)) ∷ e ∷ b ∷ []))
     (entries ∙ ap (refusedAt 6 side) entry-at) (below ∙ ap (refusedAt 7 side) below-at)
 
--- causes 8 and 9, with the number of dups
-module _ (kind first second : List ℕ) (side : ℕ) {o n t : Tested} {x : Option ℕ} (d : DupCount)
+-- causes 8, 19 and 9, with the number of dups
+module _ (kind first second : List ℕ) (side : ℕ) {o g n i t : Tested} {x y : Option ℕ} (d : DupCount)
     (once : o ≡ refusedAt 8 side x) (once-at : x ≡ lowest (notOnce (asLists kind first second)) (pred (length kind)))
-    (counted : DupCountOf kind d) (extra : n ≡ refusedAt 9 side (optionOf (d .extra))) (joined : t ≡ firstOf (o ∷ n ∷ [])) where
+    (negation : g ≡ refusedAt 19 side y) (negation-at : y ≡ lowest (badNegation (asLists kind first second)) (length kind))
+    (counted : DupCountOf kind d) (extra : n ≡ refusedAt 9 side (optionOf (d .extra))) (inner : i ≡ firstOf (g ∷ n ∷ [])) (outer : t ≡ firstOf (o ∷ i ∷ [])) where
+  joined : t ≡ firstOf (o ∷ g ∷ n ∷ [])
+  joined = outer ∙ ap (λ (i : Tested). firstOf (o ∷ i ∷ [])) inner ∙ firstOf-nested o (g ∷ n ∷ [])
+
   tree-joined : t ≡ treeStage side (asLists kind first second)
   unfolding treeStage nodeCount
   tree-joined =
       joined
-      ∙ ap₂ (λ (o n : Tested). firstOf (o ∷ n ∷ [])) (once ∙ ap (refusedAt 8 side) once-at) (extra ∙ ap (refusedAt 9 side) (counted .place first second))
+      ∙ ap (λ (o : Tested). firstOf (o ∷ g ∷ n ∷ [])) (once ∙ ap (refusedAt 8 side) once-at)
+      ∙ ap₂ (λ (g n : Tested). firstOf (refusedAt 8 side (lowest (notOnce (asLists kind first second)) (pred (length kind))) ∷ g ∷ n ∷ [])) (negation ∙ ap (refusedAt 19 side) negation-at) (extra ∙ ap (refusedAt 9 side) (counted .place first second))
 
   pub tree-as : TestedAs (treeStage side (asLists kind first second)) (dupsBelow (asLists kind first second) (length kind)) (record { tested = t; dups = d .count })
   tree-as = record {
     tested = tree-joined;
     counts = λ p.
         let passed = firstOf-passed _ _ (sym joined ∙ tree-joined ∙ p) in
-        counted .count (refusedAt-passed 9 side _ (sym extra ∙ firstOf-passed _ _ (passed .1) .0)) first second;
+        counted .count (refusedAt-passed 9 side _ (sym extra ∙ firstOf-passed _ _ (firstOf-passed _ _ (passed .1) .1) .0)) first second;
   }
 
 -- ---- the calls

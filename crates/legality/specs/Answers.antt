@@ -17,7 +17,7 @@ use Rattle.legality.specs.declared.PairAnswer.the-variants.{Legal as Leg
 use Rattle.legality.specs.declared.PolicyTested.{PolicyTested}
 use Rattle.legality.specs.declared.PairTested.{PairTested}
 use Rattle.policy.specs.NodeLists.{NodeLists, nodeCount, dupsBelow}
-use Rattle.policy.specs.Legality.{badKind, badEntries, badChild, notOnce, tooManyDups}
+use Rattle.policy.specs.Legality.{badKind, badEntries, badChild, notOnce, badNegation, tooManyDups}
 use Rattle.policy.specs.Order.{inOrder, sided, policiesStage, stagesOf, pairOf, policyTests, pairTests, causePlace}
 
 -- each answer's number and values: a refusal's are its own, a legal policy has its number of dups
@@ -48,11 +48,14 @@ nodesStage sizes side L =
     ∷ refusedAt 7 side (lowest (badChild L) (nodeCount L))
     ∷ [])
 
--- causes 8 and 9
+-- causes 8, 19 and 9
 unfoldable pub treeStage : ℕ → NodeLists → Tested
 treeStage side L =
     firstOf
-    (refusedAt 8 side (lowest (notOnce L) (pred (nodeCount L))) ∷ refusedAt 9 side (lowest (tooManyDups L) (nodeCount L)) ∷ [])
+    (refusedAt 8 side (lowest (notOnce L) (pred (nodeCount L)))
+    ∷ refusedAt 19 side (lowest (badNegation L) (nodeCount L))
+    ∷ refusedAt 9 side (lowest (tooManyDups L) (nodeCount L))
+    ∷ [])
 
 -- what the causes of one policy are found to say, with its dups where they pass
 pub record TestedAs (says : Tested) (dups : ℕ) (r : PolicyTested) : Type 0 where

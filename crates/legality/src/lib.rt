@@ -1,4 +1,4 @@
-// Which node lists are legal: the causes of document 01 in their order, and the public calls that say so.
+// Which node lists are legal: the causes of a policy in their order, and the public calls that say so.
 ghost use mathlib.Core.Path.{_≡_};
 ghost use lib.ListN.{length};
 ghost use Rattle.policy.specs.AsLists.{asLists, policyAtEntry};
@@ -52,16 +52,18 @@ fn nodes_tested(sizes: &[u16], side: u8, kind: &[u8], first: &[u16], second: &[u
     packet::first_of(kinds, packet::first_of(entries, below))
 }
 
-// Causes 8 and 9 of one policy, which count; with the number of dups.
+// Causes 8, 19 and 9 of one policy, which look at the tree; with the number of dups.
 fn tree_tested(side: u8, kind: &[u8], first: &[u16], second: &[u16]) -> PolicyTested
     requires { ⌜ CountableChildren (asLists (now kind) (now first) (now second)) ⌝ }
     ensures { λ r. ⌜ TestedAs (treeStage side (policyAtEntry kind first second)) (dupsBelow (policyAtEntry kind first second) (length (now (kind .entry)))) r ⌝ }
 {
     let once = packet::refused_at(8, side, tree_causes::not_once(kind, first, second));
+    let negations = packet::refused_at(19, side, tree_causes::bad_negation(kind, first, second));
     let counted = tree_causes::dups(kind);
     let dups = counted.count;
     let extra = counted.extra;
-    let tested = packet::first_of(once, packet::refused_at(9, side, extra));
+    let rest = packet::first_of(negations, packet::refused_at(9, side, extra));
+    let tested = packet::first_of(once, rest);
     PolicyTested { tested, dups }
 }
 
@@ -84,7 +86,7 @@ fn policy_stage(sizes: &[u16], side: u8, kind: &[u8], first: &[u16], second: &[u
     }
 }
 
-// Whether the lists are a legal policy over fields of these sizes: causes 1 to 9, side 0.
+// Whether the lists are a legal policy over fields of these sizes: causes 1 to 9 and 19, side 0.
 pub fn policy_legality(sizes: &[u16], kind: &[u8], first: &[u16], second: &[u16]) -> PolicyAnswer
     ensures { λ r. ⌜ r ≡ policyLegality (now (sizes .entry)) (policyAtEntry kind first second) ⌝ }
 {
@@ -117,8 +119,9 @@ fn cause_place(number: u8) -> u8
         6 => 3,
         7 => 4,
         8 => 5,
-        9 => 6,
-        _ => 7,
+        19 => 6,
+        9 => 7,
+        _ => 8,
     }
 }
 
@@ -178,7 +181,7 @@ pub fn front(
     }
 }
 
-// Whether the lists are two legal policies over fields of these sizes: causes 1 to 9, sides 1 and 2.
+// Whether the lists are two legal policies over fields of these sizes: causes 1 to 9 and 19, sides 1 and 2.
 pub fn pair_legality(
     sizes: &[u16],
     left_kind: &[u8],

@@ -1,4 +1,4 @@
--- Causes 1 to 10: the tests as they were made, and what holds where they pass. Assumes nothing.
+-- The causes up to 10: the tests as they were made, and what holds where they pass. Assumes nothing.
 use Prim.Native.Nat.{ℕ, _≤_}
 use mathlib.Core.Bool.{Bool, true, false, true≢false, _||_, not}
 use mathlib.Core.List.{List, [], _∷_}
@@ -28,7 +28,7 @@ another-list n first e f = e ∙ ap (λ (x : Bool). not (eqb n first) || x) f
 pub lists-stage : {t : Tested} {wrong b : Bool} (work : ℕ) → wrong ≡ b → t ≡ refusedAt 10 0 (atZero (wrong || ltb work 16384)) → t ≡ refusedAt 10 0 (atZero (b || ltb work 16384))
 lists-stage work e t = t ∙ ap (λ (w : Bool). refusedAt 10 0 (atZero (w || ltb work 16384))) e
 
--- ---- causes 1 to 10
+-- ---- the causes up to 10
 
 module _ (sizes : List ℕ) (L R : NodeLists) (lists : Tested) where
   -- the tests as they were made
@@ -36,7 +36,7 @@ module _ (sizes : List ℕ) (L R : NodeLists) (lists : Tested) where
   unfolding lentTests
   front-tests e f = f .tested ∙ ap (λ (l : Tested). inOrder (stagesOf sizes Passed (pairOf L R) l Passed)) e
 
-  -- what holds where causes 1 to 9 pass
+  -- what holds where the causes before 10 pass
   pub record LegalCall : Type 0 where
     pub legal-sizes : LegalSizes sizes
     pub left-legal : Legal sizes L
@@ -50,7 +50,7 @@ module _ (sizes : List ℕ) (L R : NodeLists) (lists : Tested) where
       let g = policies-legal _ _ _ _ _ h in
       record { legal-sizes = sizes-legal _ _ _ _ _ h; left-legal = g .0; right-legal = g .1 .0; passed = h .lists-pass }
 
-  -- two policies that causes 1 to 9 let pass, and lists that 10 lets pass
+  -- two policies that the causes before 10 let pass, and lists that 10 lets pass
   pub pair-lent : pairTests sizes L R ≡ Passed → lists ≡ Passed → lentTests sizes L R lists ≡ Passed
   unfolding pairTests lentTests
   pair-lent e h = still-passing sizes (pairOf L R) _ _ _ e refl h refl

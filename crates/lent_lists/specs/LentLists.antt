@@ -1,4 +1,4 @@
--- Causes 1 to 10 for two policies and what else is lent. Stage "lists": cause 10, "row lists (packet, left, right, parent) unequal or over 65,535, or work list under 16,384 32-bit numbers", over the lists' lengths.
+-- The causes up to 10 for two policies and what else is lent. Stage "lists": cause 10, "row lists (packet, left, right, parent) unequal or over 65,535, or work list under 16,384 32-bit numbers", over the lists' lengths.
 use mathlib.Core.Bool.{Bool, false, _||_, not}
 use mathlib.Core.List.{List, [], _∷_}
 use Prim.Native.Nat.{ℕ}
@@ -26,11 +26,11 @@ rowsMisfit (n ∷ ms) = misfit n ms
 unfoldable pub listsStage : List ℕ → ℕ → Tested
 listsStage rows work = refusedAt 10 0 (atZero (rowsMisfit rows || ltb work 16384))
 
--- causes 1 to 10 in the order tested; `lists` is what the stage of the lists says
+-- the causes up to 10 in the order tested; `lists` is what the stage of the lists says
 unfoldable pub lentTests : List ℕ → NodeLists → NodeLists → Tested → Tested
 lentTests sizes L R lists = inOrder (stagesOf sizes Passed (pairOf L R) lists Passed)
 
--- "past refusal 10 the work list is all 0 on return"; causes 1 to 10 leave it as it was
+-- "past refusal 10 the work list is all 0 on return"; causes up to 10 leave it as it was
 unfoldable pub workAfter : Tested → List ℕ → List ℕ
 workAfter Passed work = replicate (length work) 0
 workAfter (Refused r) work = work

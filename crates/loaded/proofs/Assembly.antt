@@ -12,19 +12,22 @@ use lib.ListN.{getD}
 use Rattle.packet.specs.Sizes.{product}
 use Rattle.policy.specs.declared.FieldAction.the-variants.{Equals, Differs, Set}
 use Rattle.policy.specs.declared.Node.{Node}
-use Rattle.policy.specs.declared.Node.the-variants.{Drop, Id, Field, Dup, Sum, Seq, Star}
+use Rattle.policy.specs.declared.Node.the-variants.{Drop, Id, Field, Dup, Sum, Seq, Star, Neg}
 use Rattle.policy.specs.InnerEach.{Each}
 use Rattle.policy.specs.Meaning.{numbered, Traces}
-use Rattle.policy.specs.NodeLists.{NodeLists, nodeCount, nodeAt, nodeOf, children, dupsBelow, grow, one}
+use Rattle.policy.specs.NodeLists.{NodeLists, nodeCount, nodeAt, nodeOf, children, dupsBelow, grow, one, treeOf}
 use Rattle.policy.specs.Tree.{Policy}
-use Rattle.policy.proofs.Trees.{each-child}
+use Rattle.policy.proofs.TestLaws.{test-traces}
+use Rattle.policy.proofs.Trees.{each-child, negated-test}
 use Rattle.automaton.proofs.Tests.{T-true, true-T, either}
 use Rattle.spans.specs.Spans.{slot}
-use Rattle.loaded.specs.Loaded.{treeOf, Linked, Moves, KeepsSlot, Rises, ends, rises, DupAt, Guarded, OnlyTests, Enterable, Enters, Loaded}
-use Rattle.loaded.specs.Loading.{Formed, Alone, wayFrom, Ways, Labels, Places, TestSets, guardOf, Guards, Flags, packed, Packed, Fitting, PackedAll, PlacedAll}
+use Rattle.loaded.specs.Loaded.{Linked, Moves, KeepsSlot, Rises, ends, rises, DupAt, Guarded, OnlyTests, Enterable, Enters, Loaded}
+use Rattle.loaded.specs.Loading.{Formed, wayFrom, Ways, Labels, Places, TestSets, guardOf, Guards, Flags, packed, Packed, Fitting, PackedAll, PlacedAll}
+use Rattle.tree_causes.specs.Alone.{Alone}
 use Rattle.loaded.specs.Nodes.{nodeIn, setIn, testsIn, labelIn, upIn, slotIn, readAt, testsAt, upAt, guardAt, placeAt}
-use Rattle.loaded.specs.Tests.{isTest, passes, passing}
-use Rattle.loaded.proofs.Meanings.{test-traces, test-dupless, Alive, has-trace, has-dup, first-alive, test-alive}
+use Rattle.loaded.specs.Passing.{passing}
+use Rattle.policy.specs.Tests.{passes, isTest}
+use Rattle.loaded.proofs.Meanings.{test-dupless, Alive, has-trace, has-dup, first-alive, test-alive}
 use Rattle.loaded.proofs.Packing.{kind-back, first-back, second-back, set-back, test-back, label-back, up-back, slot-back}
 use Rattle.loaded.proofs.Trees.{below, few, some, few-dups, small, tree-of}
 use Rattle.loaded.proofs.Writing.{kind-small}
@@ -75,6 +78,7 @@ module _ (L : NodeLists) (alone ups labels places : List ℕ) (p : Parts L alone
         node (Sum x y) h = omega arith
         node (Seq x y) h = h .0
         node (Star x) h = omega arith
+        node (Neg x) h = omega arith
 
         go : (b : Bool) → isTest (treeOf L n) ≡ b → Each (λ c. getD guards c 0 ≤ 256) (children (nodeAt L n)) → getD guards n 0 ≤ 256
         go true e h = let s = q .small n in omega (arith, flag-some n l e)
@@ -88,11 +92,11 @@ module _ (L : NodeLists) (alone ups labels places : List ℕ) (p : Parts L alone
     held k α = eqb k 0 || slot tests k α
 
     -- the set of a test
-    test-held : (n α : ℕ) → α < product sizes → 0 < getD sets n 0 → held (getD sets n 0) α ≡ passes sizes (treeOf L n) α
+    test-held : (n α : ℕ) → α < product sizes → 0 < getD sets n 0 → held (getD sets n 0) α ≡ passes (numbered sizes) (treeOf L n) α
     unfolding passing
     test-held n α b h =
         ap₂ _||_ (ne-eqb (getD sets n 0) 0 (omega arith)) (q .right n h α)
-        ∙ ap (λ (x : Bool). x && passes sizes (treeOf L n) α) (lt-ltb α (product sizes) b)
+        ∙ ap (λ (x : Bool). x && passes (numbered sizes) (treeOf L n) α) (lt-ltb α (product sizes) b)
 
     held-none : (k α : ℕ) → k ≡ 0 → T (held k α)
     held-none k α e = either (eqb k 0) (slot tests k α) .1 (inl (true-T (eq-eqb k 0 e)))
@@ -115,6 +119,7 @@ module _ (L : NodeLists) (alone ups labels places : List ℕ) (p : Parts L alone
         node (Sum x y) e c = held-none 0 α refl
         node (Seq x y) e c = c .0 (first-alive sizes (treeOf L x) (treeOf L y) α (subst (λ (t : Policy). Alive sizes t α) (tree-of L f n l (Seq x y) e) h))
         node (Star x) e c = held-none 0 α refl
+        node (Neg x) e c = held-none 0 α refl
 
         go : (t : Bool) → isTest (treeOf L n) ≡ t → Each (λ c. Alive sizes (treeOf L c) α → T (held (getD guards c 0) α)) (children (nodeAt L n)) → T (held (getD guards n 0) α)
         go true e c = subst (λ (x : ℕ). T (held x α)) (sym (flag-some n l e)) (test e)
@@ -216,11 +221,11 @@ module _ (L : NodeLists) (alone ups labels places : List ℕ) (p : Parts L alone
         -- a test with a set may be entered
         only-tests : isTest (treeOf L n) ≡ true → 0 < getD sets n 0 → OnlyTests sizes L nodes tests n
         only-tests e h = record {
-          traces = λ α b t. subst (λ (x : Bool). Traces (numbered sizes) (treeOf L n) α t ↔ (T x × (t ≡ α ∷ []))) (sym (same α b)) (test-traces sizes (treeOf L n) e α t);
+          traces = λ α b t. subst (λ (x : Bool). Traces (numbered sizes) (treeOf L n) α t ↔ (T x × (t ≡ α ∷ []))) (sym (same α b)) (test-traces (numbered sizes) (treeOf L n) e α t);
           dupless = test-dupless (treeOf L n) e;
         }
           where
-            same : (α : ℕ) → α < product sizes → guardAt nodes tests n α ≡ passes sizes (treeOf L n) α
+            same : (α : ℕ) → α < product sizes → guardAt nodes tests n α ≡ passes (numbered sizes) (treeOf L n) α
             same α b = guard-read α ∙ ap (λ (x : ℕ). held x α) (flag-some n l e) ∙ test-held n α b h
 
         enterable : (isTest (treeOf L n) ≡ true → 0 < getD sets n 0) → Enterable sizes L nodes tests n
@@ -258,6 +263,7 @@ module _ (L : NodeLists) (alone ups labels places : List ℕ) (p : Parts L alone
             go (Sum x y) e = tt
             go (Seq x y) e = tt
             go (Star x) e = tt
+            go (Neg x) e = never (Neg x) e (negated-test (f .legal .wellFormed) n x l e)
 
         linked-of : Linked (upAt nodes) n (nodeAt L n)
         unfolding Linked children Each
@@ -271,6 +277,7 @@ module _ (L : NodeLists) (alone ups labels places : List ℕ) (p : Parts L alone
             go (Sum x y) h e = (h .0 ∙ e .0 ∙ sym (up-read n l), h .1 .0 ∙ e .1 ∙ sym (up-read n l))
             go (Seq x y) h e = (h .0 ∙ e .0, h .1 .0 ∙ e .1 ∙ sym (up-read n l))
             go (Star x) h e = h .0 ∙ e
+            go (Neg x) h e = tt
 
         slotted-of : KeepsSlot nodes n (nodeAt L n)
         unfolding KeepsSlot
@@ -284,6 +291,7 @@ module _ (L : NodeLists) (alone ups labels places : List ℕ) (p : Parts L alone
             go (Sum x y) e = tt
             go (Seq x y) e = tt
             go (Star x) e = star-read n l x e
+            go (Neg x) e = tt
 
         enters-of : Enters sizes L nodes tests (nodeAt L n)
         unfolding Enters children Each
@@ -301,6 +309,7 @@ module _ (L : NodeLists) (alone ups labels places : List ℕ) (p : Parts L alone
             go (Sum x y) h = (h .0, h .1 .0)
             go (Seq x y) h = (h .0, h .1 .0)
             go (Star x) h = h .0
+            go (Neg x) h = tt
 
       pub loaded : Loaded sizes L nodes tests
       unfolding placeAt

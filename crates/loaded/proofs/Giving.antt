@@ -11,18 +11,19 @@ use lib.ListN.{length, getD, set, replicate, length-set}
 use lib.Seq.{getD-set-same, getD-set-other}
 use Rattle.packet.proofs.Tests.{lt-or-le, clash}
 use Rattle.policy.specs.declared.Node.{Node}
-use Rattle.policy.specs.declared.Node.the-variants.{Drop, Id, Field, Dup, Sum, Seq, Star}
+use Rattle.policy.specs.declared.Node.the-variants.{Drop, Id, Field, Dup, Sum, Seq, Star, Neg}
 use Rattle.policy.specs.InnerEach.{Each}
 use Rattle.policy.specs.Legality.{occurrences, timesChild}
-use Rattle.policy.specs.NodeLists.{NodeLists, nodeCount, nodeAt, children, grow, one}
+use Rattle.policy.specs.NodeLists.{NodeLists, nodeCount, nodeAt, children, grow, one, treeOf}
 use Rattle.policy.proofs.EachLaws.{each-map, one-same}
 use Rattle.policy.proofs.Trees.{two-below, one-below}
 use Rattle.policy.proofs.VisitLaws.{no-child}
 use Rattle.packet_set.specs.InnerMembers.{member}
 use Rattle.spans.specs.Spans.{slot}
-use Rattle.loaded.specs.Loaded.{treeOf}
-use Rattle.loaded.specs.Loading.{Formed, Alone, TestNode, pick, testUnder, HasMembers, SlotFilled, Gave, TestSets}
-use Rattle.loaded.specs.Tests.{isTest, passing}
+use Rattle.loaded.specs.Loading.{Formed, TestNode, pick, testUnder, HasMembers, SlotFilled, Gave, TestSets}
+use Rattle.tree_causes.specs.Alone.{Alone}
+use Rattle.loaded.specs.Passing.{passing}
+use Rattle.policy.specs.Tests.{isTest}
 use Rattle.loaded.proofs.Bounds.{replicate-le, set-le}
 use Rattle.loaded.proofs.Sums.{sumBelow, sum-le, sum-lt, sum-both, sum-more}
 use Rattle.loaded.proofs.Trees.{below, few, some, small, tree-of}
@@ -91,9 +92,10 @@ module _ (L : NodeLists) (f : Formed L) (alone : List ℕ) (a : Alone L alone) w
         go zero (Sum x y) e = two x y (ap children e)
         go zero (Seq x y) e = two x y (ap children e)
         go zero (Star x) e = let b = one-below L (below L f) n x l (ap children e) in picked x 512 (omega arith) (inl refl)
+        go zero (Neg x) e = inl refl
         go (suc z) d e = inl refl
 
-    -- only a node that is no tests alone has one, and it is a child
+    -- only a node that is not tests alone has one, and it is a child
     child-moves : child < 512 → isTest (treeOf L n) ≡ false
     child-moves h = go (isTest (treeOf L n)) refl
       where
@@ -131,9 +133,10 @@ module _ (L : NodeLists) (f : Formed L) (alone : List ℕ) (a : Alone L alone) w
         go zero (Sum x y) = two x y
         go zero (Seq x y) = two x y
         go zero (Star x) = pick-in x 512 (x ∷ []) (here x []) (inl refl)
+        go zero (Neg x) = inl refl
         go (suc z) d = inl refl
 
-    -- a node that is no tests alone has no other child that is
+    -- a node that is not tests alone has no other child that is
     child-all : isTest (treeOf L n) ≡ false → Each (λ c. isTest (treeOf L c) ≡ true → (c ≡ child) × (c < 512)) (children (nodeAt L n))
     unfolding testUnder children Each grow isTest
     child-all moves =
@@ -173,6 +176,7 @@ module _ (L : NodeLists) (f : Formed L) (alone : List ℕ) (a : Alone L alone) w
         go (Star x) e =
             let b = one-below L (below L f) n x l (ap children e) in
             (λ q. (pick-yes (getD alone x 0) x 512 (flag-yes x (omega arith) q), low x b), tt)
+        go (Neg x) e = (λ q. clash q (sym (ap isTest (tree-of L f n l (Neg x) e)) ∙ moves), tt)
 
 -- ---- 256 sets are enough: each goes to a test of its own, under a node of its own that is none
 

@@ -7,7 +7,7 @@ use native.Mathlib.Omega.{arith}
 use lib.ListN.{length, getD, set, replicate, length-set}
 use lib.Seq.{getD-set-same, getD-set-other}
 use Rattle.policy.specs.declared.Node.{Node}
-use Rattle.policy.specs.declared.Node.the-variants.{Drop, Id, Field, Dup, Sum, Seq, Star}
+use Rattle.policy.specs.declared.Node.the-variants.{Drop, Id, Field, Dup, Sum, Seq, Star, Neg}
 use Rattle.policy.specs.InnerEach.{Each}
 use Rattle.policy.specs.NodeLists.{NodeLists, nodeCount, nodeAt, children}
 use Rattle.policy.proofs.EachLaws.{each-map}
@@ -36,6 +36,7 @@ guard-kept guards n v zero k Dup h = refl
 guard-kept guards n v zero k (Sum x y) h = refl
 guard-kept guards n v zero k (Seq x y) h = getD-set-other guards n x v 0 (let b = h .0 in omega arith)
 guard-kept guards n v zero k (Star x) h = refl
+guard-kept guards n v zero k (Neg x) h = refl
 
 -- the guards of the first n nodes are known
 pub record Guarding (L : NodeLists) (alone sets guards : List ℕ) (n : ℕ) : Type 0 where
@@ -88,3 +89,4 @@ more-seconds parts node h parts′ e = subst (λ (x : List ℕ). (n : ℕ) → g
     go (Sum x y) = h
     go (Seq x y) = set-le parts y 1 1 (omega arith) h
     go (Star x) = h
+    go (Neg x) = h

@@ -9,7 +9,7 @@ use native.Mathlib.Omega.{arith}
 use lib.ListN.{length, getD, set, replicate, length-set, getD-replicate}
 use lib.Seq.{getD-set-same, getD-set-other}
 use Rattle.policy.specs.declared.Node.{Node}
-use Rattle.policy.specs.declared.Node.the-variants.{Drop, Id, Field, Dup, Sum, Seq, Star}
+use Rattle.policy.specs.declared.Node.the-variants.{Drop, Id, Field, Dup, Sum, Seq, Star, Neg}
 use Rattle.policy.specs.NodeLists.{NodeLists, nodeCount, nodeAt, isDup, one, dupsBelow}
 use Rattle.loaded.specs.Loaded.{DupAt}
 use Rattle.loaded.specs.Loading.{Formed, Labels, dupPlaced, Places}
@@ -81,6 +81,7 @@ placed-none label n places Dup h = absurd (true≢false h)
 placed-none label n places (Sum x y) h = refl
 placed-none label n places (Seq x y) h = refl
 placed-none label n places (Star x) h = refl
+placed-none label n places (Neg x) h = refl
 
 is-dup : (node : Node) → isDup node ≡ true → node ≡ Dup
 unfolding isDup
@@ -91,6 +92,7 @@ is-dup Dup h = refl
 is-dup (Sum x y) h = absurd (true≢false (sym h))
 is-dup (Seq x y) h = absurd (true≢false (sym h))
 is-dup (Star x) h = absurd (true≢false (sym h))
+is-dup (Neg x) h = absurd (true≢false (sym h))
 
 -- the dups among the first n nodes have their places
 pub record Placing (L : NodeLists) (places : List ℕ) (n : ℕ) : Type 0 where

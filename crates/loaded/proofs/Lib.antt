@@ -2,7 +2,6 @@ pub mod Packing
 pub mod Bounds
 pub mod Trees
 pub mod Children
-pub mod Flags
 pub mod Upward
 pub mod Labelling
 pub mod Runs

@@ -1,22 +1,24 @@
 -- The nodes of the lists of a legal policy: their trees and their children.
 use Prim.Native.Nat.{ℕ, suc, _≤_, _<_}
 use mathlib.Core.List.{List}
-use mathlib.Core.Path.{_≡_, refl, sym, ap, ap₂, _∙_, subst}
+use mathlib.Core.Path.{_≡_, sym, ap, _∙_, subst}
 use native.Mathlib.Omega.{arith}
 use lib.ListN.{length}
 use Rattle.policy.specs.declared.Node.{Node}
-use Rattle.policy.specs.declared.Node.the-variants.{Drop, Id, Field, Dup, Sum, Seq, Star}
 use Rattle.policy.specs.Legality.{Legal, maxDups}
-use Rattle.policy.specs.NodeLists.{NodeLists, nodeCount, nodeAt, children, dupsBelow, grow, treeAt}
-use Rattle.policy.specs.Tree.{sum, seq, star}
+use Rattle.policy.specs.NodeLists.{NodeLists, nodeCount, nodeAt, children, dupsBelow, grow, treeOf}
 use Rattle.policy.proofs.EachLaws.{each-map}
 use Rattle.policy.proofs.LabelLaws.{dups-more}
-use Rattle.policy.proofs.Trees.{ChildrenBelow, children-below, tree-fuel, two-below, one-below}
-use Rattle.loaded.specs.Loaded.{treeOf}
-use Rattle.loaded.specs.Loading.{Formed, ChildrenPlaced}
+use Rattle.policy.proofs.Trees.{ChildrenBelow, children-below, tree-grow}
+use Rattle.tree_causes.specs.Counting.{CountableChildren}
+use Rattle.loaded.specs.Loading.{Formed}
+use Rattle.tree_causes.specs.Alone.{ChildrenPlaced}
 
 pub legal-formed : (sizes : List ℕ) (L : NodeLists) → Legal sizes L → Formed L
 legal-formed sizes L g = record { sizes = sizes; legal = g }
+
+pub legal-countable : {sizes : List ℕ} {L : NodeLists} → Legal sizes L → CountableChildren L
+legal-countable g = record { firsts = g .wellFormed .firsts; seconds = g .wellFormed .seconds; few = g .wellFormed .few; below = g .wellFormed .below }
 
 module _ (L : NodeLists) (f : Formed L) where
   pub below : ChildrenBelow L
@@ -48,26 +50,9 @@ module _ (L : NodeLists) (f : Formed L) where
     unfolding ChildrenPlaced
     placed = let h = few in each-map (λ c. c < n) (λ c. c < 512) (children (nodeAt L n)) (λ c k. omega arith) (below n l)
 
-    -- a tree by the trees of the children
-    pub tree-grow : treeOf L n ≡ grow (treeOf L) (dupsBelow L (suc n)) (nodeAt L n)
-    unfolding treeOf treeAt grow children
-    tree-grow = go (nodeAt L n) refl
-      where
-        here : (c : ℕ) → c < n → treeAt L n c ≡ treeAt L (suc c) c
-        here c k = tree-fuel L below n (suc c) c k (omega arith) (omega arith)
-
-        go : (d : Node) → nodeAt L n ≡ d → grow (treeAt L n) (dupsBelow L (suc n)) d ≡ grow (treeOf L) (dupsBelow L (suc n)) d
-        go Drop e = refl
-        go Id e = refl
-        go (Field a) e = refl
-        go Dup e = refl
-        go (Sum x y) e = let k = two-below L below n x y l (ap children e) in ap₂ sum (here x (k .0)) (here y (k .1))
-        go (Seq x y) e = let k = two-below L below n x y l (ap children e) in ap₂ seq (here x (k .0)) (here y (k .1))
-        go (Star x) e = let k = one-below L below n x l (ap children e) in ap star (here x k)
-
-    -- the same where the node is known
+    -- a tree by the trees of the children, where the node is known
     pub tree-of : (d : Node) → nodeAt L n ≡ d → treeOf L n ≡ grow (treeOf L) (dupsBelow L (suc n)) d
-    tree-of d e = tree-grow ∙ ap (grow (treeOf L) (dupsBelow L (suc n))) e
+    tree-of d e = tree-grow L below n l ∙ ap (grow (treeOf L) (dupsBelow L (suc n))) e
 
     pub placed-read : (node : Node) → node ≡ nodeAt L n → ChildrenPlaced node
     placed-read node e = subst ChildrenPlaced (sym e) placed

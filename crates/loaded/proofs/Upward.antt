@@ -8,16 +8,17 @@ use native.Mathlib.Omega.{arith}
 use lib.ListN.{length, getD, set, replicate, length-set, getD-replicate}
 use lib.Seq.{getD-set-same, getD-set-other}
 use Rattle.policy.specs.declared.Node.{Node}
-use Rattle.policy.specs.declared.Node.the-variants.{Drop, Id, Field, Dup, Sum, Seq, Star}
+use Rattle.policy.specs.declared.Node.the-variants.{Drop, Id, Field, Dup, Sum, Seq, Star, Neg}
 use Rattle.policy.specs.InnerEach.{Each}
 use Rattle.policy.specs.Legality.{occurrences}
-use Rattle.policy.specs.NodeLists.{NodeLists, nodeCount, nodeAt, children, one}
+use Rattle.policy.specs.NodeLists.{NodeLists, nodeCount, nodeAt, children, one, treeOf}
 use Rattle.policy.proofs.EachLaws.{each-map}
 use Rattle.policy.proofs.Trees.{two-below, one-below}
 use Rattle.policy.proofs.VisitLaws.{no-child}
-use Rattle.loaded.specs.Loaded.{treeOf, Linked, Rises, ends, rises}
-use Rattle.loaded.specs.Loading.{Formed, Alone, waysTold, wayFrom, Ways}
-use Rattle.loaded.specs.Tests.{isTest}
+use Rattle.loaded.specs.Loaded.{Linked, Rises, ends, rises}
+use Rattle.loaded.specs.Loading.{Formed, waysTold, wayFrom, Ways}
+use Rattle.tree_causes.specs.Alone.{Alone}
+use Rattle.policy.specs.Tests.{isTest}
 use Rattle.loaded.proofs.Children.{apart, not-first, not-rest, two-differ}
 use Rattle.loaded.proofs.Trees.{below, few, some}
 
@@ -45,6 +46,7 @@ told-other n ups (Seq x y) c h =
     getD-set-other (set ups x n) y c (getD ups n 0) 0 (not-first c y [] (not-rest c x (y ∷ []) h))
     ∙ getD-set-other ups x c n 0 (not-first c x (y ∷ []) h)
 told-other n ups (Star x) c h = getD-set-other ups x c n 0 (not-first c x [] h)
+told-other n ups (Neg x) c h = refl
 
 told-length : (n : ℕ) (ups : List ℕ) (d : Node) → length (waysTold 0 n ups d) ≡ length ups
 unfolding waysTold
@@ -55,6 +57,7 @@ told-length n ups Dup = refl
 told-length n ups (Sum x y) = length-set (set ups x (getD ups n 0)) y (getD ups n 0) ∙ length-set ups x (getD ups n 0)
 told-length n ups (Seq x y) = length-set (set ups x n) y (getD ups n 0) ∙ length-set ups x n
 told-length n ups (Star x) = length-set ups x n
+told-length n ups (Neg x) = refl
 
 -- what a node hears: nothing new, the way of the node above, or that node itself
 data Heard (ups ups′ : List ℕ) (n j : ℕ) : Type 0 where
@@ -76,6 +79,7 @@ linked-kept ups ups′ m Dup h e j = tt
 linked-kept ups ups′ m (Sum x y) h e j = (h .0 ∙ j .0 ∙ sym e, h .1 .0 ∙ j .1 ∙ sym e)
 linked-kept ups ups′ m (Seq x y) h e j = (h .0 ∙ j .0, h .1 .0 ∙ j .1 ∙ sym e)
 linked-kept ups ups′ m (Star x) h e j = h .0 ∙ j
+linked-kept ups ups′ m (Neg x) h e j = tt
 
 -- ---- all nodes
 
@@ -140,6 +144,7 @@ module _ (L : NodeLists) (f : Formed L) where
                 getD-set-same (set ups x n) y (getD ups n 0) 0 (subst (λ (m : ℕ). y < m) (sym (length-set ups x n)) (short y (b .1))) ∙ sym (self (Seq x y) e),
               )
           go (Star x) e = getD-set-same ups x n 0 (short x (one-below L (below L f) n x within (ap children e)))
+          go (Neg x) e = tt
 
       heard : (j : ℕ) → Heard ups told-list n j
       unfolding waysTold children
@@ -182,6 +187,7 @@ module _ (L : NodeLists) (f : Formed L) where
               first : Dec (j ≡ x) → Heard ups (waysTold 0 n ups (Star x)) n j
               first (yes q) = itself (let h = b in omega arith) (set-at ups x j n q (short x b))
               first (no q) = nothing (getD-set-other ups x j n 0 q)
+          go (Neg x) e = nothing refl
 
       rise-told : (j : ℕ) → j < nodeCount L → Rises L (wayFrom told-list) (λ k. isTest (treeOf L k)) j
       rise-told j l = go (heard j)

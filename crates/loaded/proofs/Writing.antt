@@ -9,15 +9,15 @@ use lib.ListN.{length, getD, set, length-set}
 use lib.Seq.{getD-set-same, getD-set-other}
 use Rattle.policy.specs.declared.FieldAction.{FieldAction}
 use Rattle.policy.specs.declared.Node.{Node}
-use Rattle.policy.specs.declared.Node.the-variants.{Drop, Id, Field, Dup, Sum, Seq, Star}
+use Rattle.policy.specs.declared.Node.the-variants.{Drop, Id, Field, Dup, Sum, Seq, Star, Neg}
 use Rattle.policy.specs.Legality.{badKind}
 use Rattle.policy.specs.NodeLists.{NodeLists, nodeCount, nodeAt}
 use Rattle.loaded.specs.Loading.{Formed, packed, Packed, PackedAll, PlacedAll}
 use Rattle.loaded.proofs.Trees.{small}
 
-pub kind-small : (L : NodeLists) → Formed L → (n : ℕ) → n < nodeCount L → getD (L .kind) n 0 ≤ 8
+pub kind-small : (L : NodeLists) → Formed L → (n : ℕ) → n < nodeCount L → getD (L .kind) n 0 ≤ 9
 unfolding badKind
-kind-small L f n l = ltb-false 8 (getD (L .kind) n 0) (f .legal .wellFormed .kinds n l)
+kind-small L f n l = ltb-false 9 (getD (L .kind) n 0) (f .legal .wellFormed .kinds n l)
 
 -- a node of another kind is no star
 pub drop-no-star : (c : ℕ) → Drop ≡ Star c → ⊥
@@ -37,6 +37,9 @@ sum-no-star c h = let y : _≡_ {A = ℕ} 0 1 = cc in omega arith
 
 pub seq-no-star : {l r : ℕ} (c : ℕ) → Seq l r ≡ Star c → ⊥
 seq-no-star c h = let y : _≡_ {A = ℕ} 0 1 = cc in omega arith
+
+pub neg-no-star : {l : ℕ} (c : ℕ) → Neg l ≡ Star c → ⊥
+neg-no-star c h = let y : _≡_ {A = ℕ} 0 1 = cc in omega arith
 
 pub no-star : {node d : Node} {k : ℕ} → node ≡ d → ((c : ℕ) → d ≡ Star c → ⊥) → (c : ℕ) → node ≡ Star c → k ≡ 1
 no-star e none c q = absurd (none c (sym e ∙ q))

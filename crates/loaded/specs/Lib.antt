@@ -1,4 +1,4 @@
 pub mod Nodes
 pub mod Loaded
-pub mod Tests
+pub mod Passing
 pub mod Loading

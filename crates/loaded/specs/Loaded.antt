@@ -9,17 +9,12 @@ use lib.ListN.{getD}
 use Rattle.packet.specs.Sizes.{product}
 use Rattle.policy.specs.declared.FieldAction.the-variants.{Equals, Differs, Set}
 use Rattle.policy.specs.declared.Node.{Node}
-use Rattle.policy.specs.declared.Node.the-variants.{Drop, Id, Field, Dup, Sum, Seq, Star}
+use Rattle.policy.specs.declared.Node.the-variants.{Drop, Id, Field, Dup, Sum, Seq, Star, Neg}
 use Rattle.policy.specs.Meaning.{numbered, Traces}
-use Rattle.policy.specs.NodeLists.{NodeLists, nodeCount, nodeAt, dupsBelow, treeAt}
-use Rattle.policy.specs.Tree.{Policy}
+use Rattle.policy.specs.NodeLists.{NodeLists, nodeCount, nodeAt, dupsBelow, treeOf}
 use Rattle.policy.specs.Visits.{HasDup}
 use Rattle.automaton.specs.Reaches.{Reaches}
 use Rattle.loaded.specs.Nodes.{setIn, labelIn, slotIn, readAt, testsAt, upAt, guardAt, placeAt}
-
--- the tree of node n
-unfoldable pub treeOf : NodeLists → ℕ → Policy
-treeOf L n = treeAt L (suc n) n
 
 -- what comes out of the children of node n goes on where what comes out of n does, but: out of the first part of a sequence at the
 -- sequence, out of the body of a star at the star
@@ -31,8 +26,9 @@ Linked up n Dup = Unit
 Linked up n (Sum l r) = (up l ≡ up n) × (up r ≡ up n)
 Linked up n (Seq l r) = (up l ≡ n) × (up r ≡ up n)
 Linked up n (Star c) = up c ≡ n
+Linked up n (Neg c) = Unit
 
--- a node that is no tests alone: a change of a field, a dup, a sum, a sequence or a star
+-- a node that is not tests alone: a change of a field, a dup, a sum, a sequence or a star
 unfoldable pub Moves : Node → Type 0
 Moves Drop = ⊥
 Moves Id = ⊥
@@ -43,6 +39,7 @@ Moves Dup = Unit
 Moves (Sum l r) = Unit
 Moves (Seq l r) = Unit
 Moves (Star c) = Unit
+Moves (Neg c) = ⊥
 
 unfoldable pub KeepsSlot : List ℕ → ℕ → Node → Type 0
 KeepsSlot nodes n Drop = Unit
@@ -52,8 +49,9 @@ KeepsSlot nodes n Dup = Unit
 KeepsSlot nodes n (Sum l r) = Unit
 KeepsSlot nodes n (Seq l r) = Unit
 KeepsSlot nodes n (Star c) = T (slotIn (getD nodes n 0))
+KeepsSlot nodes n (Neg c) = Unit
 
--- the way up from node n ends, or leads to a node above that is no tests alone
+-- the way up from node n ends, or leads to a node above that is not tests alone
 pub data Rises (L : NodeLists) (up : ℕ → ℕ) (tests : ℕ → Bool) (n : ℕ) : Type 0 where
   ends : up n ≡ 512 → Rises L up tests n
   rises : n < up n → up n < nodeCount L → tests (up n) ≡ false → Rises L up tests n
@@ -89,8 +87,9 @@ module _ (sizes : List ℕ) (L : NodeLists) (nodes tests : List ℕ) where
   Enters (Sum l r) = Enterable l × Enterable r
   Enters (Seq l r) = Enterable l × Enterable r
   Enters (Star c) = Enterable c
+  Enters (Neg c) = Unit
 
-  -- what a visit asks of a node that is no tests alone
+  -- what a visit asks of a node that is not tests alone
   pub record Moving (n : ℕ) : Type 0 where
     pub moves : Moves (nodeAt L n)
     pub linked : Linked (upAt nodes) n (nodeAt L n)

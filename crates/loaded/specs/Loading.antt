@@ -8,53 +8,25 @@ use lib.ListN.{length, getD, set}
 use Rattle.packet.specs.Packets.{valueAt}
 use Rattle.packet.specs.Sizes.{product, LegalSizes}
 use Rattle.policy.specs.declared.FieldAction.{FieldAction}
-use Rattle.policy.specs.declared.FieldAction.the-variants.{Equals, Differs, Set}
 use Rattle.policy.specs.declared.Node.{Node}
-use Rattle.policy.specs.declared.Node.the-variants.{Drop, Id, Field, Dup, Sum, Seq, Star}
+use Rattle.policy.specs.declared.Node.the-variants.{Drop, Id, Field, Dup, Sum, Seq, Star, Neg}
 use Rattle.policy.specs.InnerEach.{Each}
 use Rattle.policy.specs.Legality.{Legal, badField, fieldOf, valueOf}
-use Rattle.policy.specs.NodeLists.{NodeLists, nodeCount, nodeAt, children, dupsBelow, one}
+use Rattle.policy.specs.NodeLists.{NodeLists, nodeCount, nodeAt, children, dupsBelow, treeOf}
 use Rattle.packet_set.specs.InnerMembers.{Members, member}
 use Rattle.spans.specs.Spans.{slot}
-use Rattle.loaded.specs.Loaded.{treeOf, Linked, Rises, DupAt}
-use Rattle.loaded.specs.Tests.{isTest, passing}
+use Rattle.loaded.specs.Loaded.{Linked, Rises, DupAt}
+use Rattle.loaded.specs.Passing.{passing}
+use Rattle.policy.specs.Tests.{isTest}
 
 -- the lists of a policy that is legal for some sizes
 pub record Formed (L : NodeLists) : Type 0 where
   pub sizes : List ℕ
   pub legal : Legal sizes L
 
--- the children of a node have a place in a list of 512
-unfoldable pub ChildrenPlaced : Node → Type 0
-ChildrenPlaced node = Each (λ c. c < 512) (children node)
-
--- ---- tests alone
-
--- 0 where the flag a is 0, and else b
-unfoldable pub andFlag : ℕ → ℕ → ℕ
-andFlag zero b = 0
-andFlag (suc a) b = b
-
--- whether the tree of a node is made of tests alone, from the flags of its children
-unfoldable pub aloneOf : List ℕ → Node → ℕ
-aloneOf alone Drop = 1
-aloneOf alone Id = 1
-aloneOf alone (Field (Equals f v)) = 1
-aloneOf alone (Field (Differs f v)) = 1
-aloneOf alone (Field (Set f v)) = 0
-aloneOf alone Dup = 0
-aloneOf alone (Sum l r) = andFlag (getD alone l 0) (getD alone r 0)
-aloneOf alone (Seq l r) = andFlag (getD alone l 0) (getD alone r 0)
-aloneOf alone (Star c) = 0
-
--- the nodes whose trees are made of tests alone
-pub record Alone (L : NodeLists) (alone : List ℕ) : Type 0 where
-  pub long : length alone ≡ 512
-  pub flags : (n : ℕ) → n < nodeCount L → getD alone n 0 ≡ one (isTest (treeOf L n))
-
 -- ---- the ways up
 
--- a node that is no tests alone tells its children where what comes out of them goes on
+-- a node that is not tests alone tells its children where what comes out of them goes on
 unfoldable pub waysTold : ℕ → ℕ → List ℕ → Node → List ℕ
 waysTold zero n ups Drop = ups
 waysTold zero n ups Id = ups
@@ -63,6 +35,7 @@ waysTold zero n ups Dup = ups
 waysTold zero n ups (Sum l r) = set (set ups l (getD ups n 0)) r (getD ups n 0)
 waysTold zero n ups (Seq l r) = set (set ups l n) r (getD ups n 0)
 waysTold zero n ups (Star c) = set ups c n
+waysTold zero n ups (Neg c) = ups
 waysTold (suc f) n ups node = ups
 
 -- the way up from a node
@@ -88,6 +61,7 @@ dupPlaced label n places Dup = set places label n
 dupPlaced label n places (Sum l r) = places
 dupPlaced label n places (Seq l r) = places
 dupPlaced label n places (Star c) = places
+dupPlaced label n places (Neg c) = places
 
 -- the nodes of the remainders; there is none: 512
 pub record Places (L : NodeLists) (places : List ℕ) : Type 0 where
@@ -160,6 +134,7 @@ testUnder alone zero Dup = 512
 testUnder alone zero (Sum l r) = pick (getD alone l 0) l (pick (getD alone r 0) r 512)
 testUnder alone zero (Seq l r) = pick (getD alone l 0) l (pick (getD alone r 0) r 512)
 testUnder alone zero (Star c) = pick (getD alone c 0) c 512
+testUnder alone zero (Neg c) = 512
 testUnder alone (suc f) node = 512
 
 -- node c, if it is one, gets the next set
@@ -167,7 +142,7 @@ pub record Gave (sizes : List ℕ) (L : NodeLists) (c k : ℕ) (sets tests : Lis
   pub none : 512 ≤ c → (k′ ≡ k) × (sets′ ≡ sets) × (tests′ ≡ tests)
   pub some : c < 512 → (k′ ≡ k + 1) × (sets′ ≡ set sets c (k + 1)) × SlotFilled (k + 1) (passing sizes (treeOf L c)) tests tests′
 
--- the sets of the tests that may be entered: those under nodes that are no tests alone, and the root
+-- the sets of the tests that may be entered: those under nodes that are not tests alone, and the root
 pub record TestSets (sizes : List ℕ) (L : NodeLists) (sets tests : List ℕ) : Type 0 where
   pub small : (n : ℕ) → getD sets n 0 ≤ 256
   pub right : (n : ℕ) → 0 < getD sets n 0 → (γ : ℕ) → slot tests (getD sets n 0) γ ≡ passing sizes (treeOf L n) γ
@@ -186,6 +161,7 @@ guardOf guards zero k Dup = 0
 guardOf guards zero k (Sum l r) = 0
 guardOf guards zero k (Seq l r) = getD guards l 0
 guardOf guards zero k (Star c) = 0
+guardOf guards zero k (Neg c) = 0
 
 pub record Guards (L : NodeLists) (alone sets guards : List ℕ) : Type 0 where
   pub guard : (n : ℕ) → n < nodeCount L → getD guards n 0 ≡ guardOf guards (getD alone n 0) (getD sets n 0) (nodeAt L n)
@@ -205,6 +181,7 @@ seconded parts Dup = parts
 seconded parts (Sum l r) = parts
 seconded parts (Seq l r) = set parts r 1
 seconded parts (Star c) = parts
+seconded parts (Neg c) = parts
 
 -- ---- packing
 

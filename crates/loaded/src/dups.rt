@@ -19,6 +19,7 @@ fn label_after(node: Node, d: u16) -> u16
         Node::Sum(_, _) => d,
         Node::Seq(_, _) => d,
         Node::Star(_) => d,
+        Node::Neg(_) => d,
     }
 }
 
@@ -53,6 +54,7 @@ fn put(node: Node, label: u16, n: usize, places: &mut [u16; 32])
         Node::Sum(_, _) => {}
         Node::Seq(_, _) => {}
         Node::Star(_) => {}
+        Node::Neg(_) => {}
     }
 }
 

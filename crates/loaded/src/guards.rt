@@ -1,7 +1,8 @@
 // The guard of a node: a packet set that holds every packet which the node lets through or leads to a dup.
 ghost use mathlib.Core.Path.{_≡_};
 ghost use Rattle.policy.specs.AsLists.{asLists, policyAtEntry};
-ghost use Rattle.loaded.specs.Loading.{Formed, ChildrenPlaced, guardOf, Guards};
+ghost use Rattle.loaded.specs.Loading.{Formed, guardOf, Guards};
+ghost use Rattle.tree_causes.specs.Alone.{ChildrenPlaced};
 use policy::Node;
 
 // Inner. The guard of a node with this flag and this set, from the guards of its children.
@@ -20,6 +21,7 @@ fn guard_of(node: Node, flag: u16, set: u16, guards: &[u16; 512]) -> u16
         Node::Sum(_, _) => 0,
         Node::Seq(l, _) => guards[l as usize],
         Node::Star(_) => 0,
+        Node::Neg(_) => 0,
     }
 }
 

@@ -8,7 +8,6 @@ ghost use Rattle.policy.specs.Legality.{Legal};
 ghost use Rattle.loaded.specs.Loaded.{Loaded};
 ghost use Rattle.loaded.specs.Nodes.{nodeIn, setIn, testsIn, labelIn, upIn, slotIn};
 
-mod alone;
 mod dups;
 mod guards;
 mod numbering;
@@ -42,6 +41,7 @@ pub fn node_in(x: u64) -> Node
         6 => Node::Sum(a, b),
         7 => Node::Seq(a, b),
         8 => Node::Star(a),
+        9 => Node::Neg(a),
         _ => Node::Drop,
     }
 }
@@ -94,7 +94,7 @@ pub fn load(
     requires { ⌜ LegalSizes (now sizes) × Legal (now sizes) (asLists (now kind) (now first) (now second)) × (count ≡ product (now sizes)) × (length (now nodes) ≡ 544) × (length (now tests) ≡ 8224) ⌝ }
     ensures { λ _. ⌜ Loaded (now (sizes .entry)) (policyAtEntry kind first second) (now (nodes .exit)) (now (tests .exit)) ⌝ }
 {
-    let alone = alone::tests_alone(kind, first, second);
+    let alone = tree_causes::alone::tests_alone(kind, first, second);
     let ups = ways::ways_up(kind, first, second, &alone);
     let labels = dups::labels_of(kind, first, second);
     let places = dups::places_of(kind, first, second, &labels);

@@ -3,7 +3,8 @@ ghost use Prim.Native.Nat.{_<_};
 ghost use mathlib.Core.Path.{_≡_};
 ghost use lib.ListN.{length, getD};
 ghost use Rattle.policy.specs.AsLists.{asLists, policyAtEntry};
-ghost use Rattle.loaded.specs.Loading.{ChildrenPlaced, Alone, Loading, TestNode, pick, testUnder, Gave, TestSets};
+ghost use Rattle.loaded.specs.Loading.{Loading, TestNode, pick, testUnder, Gave, TestSets};
+ghost use Rattle.tree_causes.specs.Alone.{Alone, ChildrenPlaced};
 use crate::Tests;
 use crate::sets;
 use packet_set::PacketWords;
@@ -42,6 +43,7 @@ fn test_under(node: Node, flag: u16, alone: &[u16; 512]) -> usize
             pick_test(alone, l as usize, rest)
         }
         Node::Star(c) => pick_test(alone, c as usize, 512),
+        Node::Neg(_) => 512,
     }
 }
 

@@ -8,9 +8,9 @@ ghost use Rattle.policy.specs.AsLists.{asLists, policyAtEntry};
 ghost use Rattle.policy.specs.Legality.{badField};
 ghost use Rattle.policy.specs.Tree.{field};
 ghost use Rattle.packet_set.specs.InnerMembers.{member};
-ghost use Rattle.loaded.specs.Loaded.{treeOf};
+ghost use Rattle.policy.specs.NodeLists.{treeOf};
 ghost use Rattle.loaded.specs.Loading.{RangeAdded, HasMembers, Met, everyPacket, withValue, Fielding, Loading, TestNode, SlotFilled};
-ghost use Rattle.loaded.specs.Tests.{passing};
+ghost use Rattle.loaded.specs.Passing.{passing};
 use crate::Tests;
 use packet_set::PacketWords;
 use policy::FieldAction;
@@ -114,6 +114,11 @@ pub fn test_set(
             set
         }
         Node::Star(_) => packet_set::empty(),
+        Node::Neg(c) => {
+            let mut rest = test_set(sizes, count, kind, first, second, all, c as usize);
+            packet_set::exclusive_or(&mut rest, all, 32);
+            rest
+        }
     }
 }
 

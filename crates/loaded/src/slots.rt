@@ -1,9 +1,10 @@
-// The nodes that keep a slot: stars, and second parts of sequences that are a sum or a sequence and no tests alone.
+// The nodes that keep a slot: stars, and second parts of sequences that are a sum or a sequence and not tests alone.
 ghost use Prim.Native.Nat.{ℕ, _≤_};
 ghost use mathlib.Core.Path.{_≡_};
 ghost use Rattle.policy.specs.AsLists.{asLists};
 ghost use Rattle.policy.specs.declared.Node.the-variants.{Star};
-ghost use Rattle.loaded.specs.Loading.{Formed, ChildrenPlaced, Flags, seconded};
+ghost use Rattle.loaded.specs.Loading.{Formed, Flags, seconded};
+ghost use Rattle.tree_causes.specs.Alone.{ChildrenPlaced};
 use policy::Node;
 
 // Inner. A sequence flags its second part.
@@ -21,6 +22,7 @@ fn flag_second(node: Node, parts: &mut [u16; 512])
             parts[r as usize] = 1;
         }
         Node::Star(_) => {}
+        Node::Neg(_) => {}
     }
 }
 
@@ -38,7 +40,7 @@ pub fn second_parts(kind: &[u8], first: &[u16], second: &[u16]) -> [u16; 512]
     parts
 }
 
-// Inner. A node that is no tests alone keeps a slot where it is a second part.
+// Inner. A node that is not tests alone keeps a slot where it is a second part.
 fn unless_alone(alone: u16, part: u16) -> u16
     requires { ⌜ part ≤ 1 ⌝ }
     ensures { λ r. ⌜ r ≤ 1 ⌝ }
@@ -62,5 +64,6 @@ pub fn keeps_slot(node: Node, alone: u16, part: u16) -> u16
         Node::Sum(_, _) => unless_alone(alone, part),
         Node::Seq(_, _) => unless_alone(alone, part),
         Node::Star(_) => 1,
+        Node::Neg(_) => 0,
     }
 }

@@ -2,7 +2,8 @@
 ghost use Prim.Native.Nat.{_<_};
 ghost use mathlib.Core.Path.{_≡_};
 ghost use Rattle.policy.specs.AsLists.{asLists, policyAtEntry};
-ghost use Rattle.loaded.specs.Loading.{Formed, ChildrenPlaced, Alone, waysTold, Ways};
+ghost use Rattle.loaded.specs.Loading.{Formed, waysTold, Ways};
+ghost use Rattle.tree_causes.specs.Alone.{Alone, ChildrenPlaced};
 use policy::Node;
 
 // Inner. Node n, with this flag, tells its children where what comes out of them goes on.
@@ -31,6 +32,7 @@ fn tell(node: Node, n: usize, flag: u16, ups: &mut [u16; 512])
         Node::Star(c) => {
             ups[c as usize] = here;
         }
+        Node::Neg(_) => {}
     }
 }
 

@@ -34,13 +34,13 @@ pub fn bad_lengths(kind: &[u8], first: &[u16], second: &[u16]) -> Place
     Place::Nowhere
 }
 
-// Inner: cause 5, the lowest node of a kind over 8; it is seen from the kinds alone.
+// Inner: cause 5, the lowest node of a kind over 9; it is seen from the kinds alone.
 pub fn bad_kind(kind: &[u8]) -> Place
     ensures { λ r. ⌜ optionOf r ≡ lowest (badKind (asLists (now (kind .entry)) [] [])) (length (now (kind .entry))) ⌝ }
 {
     let mut i = 0;
     while i < kind.len() {
-        if 8 < kind[i] {
+        if 9 < kind[i] {
             return Place::At(i as u64);
         }
         i += 1;
@@ -130,6 +130,7 @@ fn child_not_below(node: Node, i: usize) -> bool
             not_below(r, i)
         }
         Node::Star(c) => not_below(c, i),
+        Node::Neg(c) => not_below(c, i),
         Node::Drop => false,
         Node::Id => false,
         Node::Field(_) => false,

@@ -3,7 +3,7 @@
 use Prim.Native.Nat.{ℕ, suc, _<_, _≤_}
 use native.Mathlib.Omega.{arith}
 use mathlib.Core.Bool.{Bool, true, false, _&&_, _||_, xor, true≢false}
-use mathlib.Core.Logic.{_⊎_, inl, inr}
+use mathlib.Core.Logic.{_⊎_, inl, inr, _↔_}
 use mathlib.Core.Path.{_≡_, refl, sym, _∙_, subst}
 use lib.Dec.{T, ltb}
 use borrow.Author.Tests.{ltb-true, ltb-false}
@@ -46,6 +46,18 @@ true-T e = subst T (sym e) tt
 pub T-false : (b : Bool) → (T b → ⊥) → b ≡ false
 T-false true f = absurd (f tt)
 T-false false f = refl
+
+pub both : (a b : Bool) → T (a && b) ↔ (T a × T b)
+both true b = (λ t. (tt, t), λ t. t .1)
+both false b = (λ t. absurd t, λ t. absurd (t .0))
+
+pub either : (a b : Bool) → T (a || b) ↔ (T a ⊎ T b)
+either true b = (λ t. inl tt, λ t. tt)
+either false b = (λ t. inr t, back)
+  where
+    back : ⊥ ⊎ T b → T b
+    back (inl t) = absurd t
+    back (inr t) = t
 
 pub lt-or-le : (i n : ℕ) → (i < n) ⊎ (n ≤ i)
 lt-or-le i n = go (ltb i n) refl

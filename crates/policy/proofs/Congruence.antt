@@ -1,11 +1,11 @@
--- Sums, sequences and stars of policies with the same traces have the same traces; a dup's label means nothing.
+-- Sums, sequences, stars and negations of policies with the same traces have the same traces; a dup's label means nothing.
 use Prim.Native.Nat.{ℕ, zero, suc}
 use mathlib.Core.List.{[], _∷_, _++_}
 use mathlib.Core.Logic.{_⊎_, ⊎-map, _↔_, Iff·rfl, Iff·symm}
 use mathlib.Core.Path.{_≡_, refl, ap, ap₂}
-use Rattle.policy.specs.Tree.{Policy, drop, id, field, dup, sum, seq, star}
+use Rattle.policy.specs.Tree.{Policy, drop, id, field, dup, sum, seq, star, neg}
 use Rattle.policy.specs.NodesOfTree.{unlabelled}
-use Rattle.policy.specs.Meaning.{Packets, TraceSet, Seq, Power, Traces, SameTraces}
+use Rattle.policy.specs.Meaning.{Packets, TraceSet, Seq, Power, Drops, Traces, SameTraces}
 use Rattle.policy.specs.InnerTransport.{EachAction, Keeps}
 use Rattle.policy.proofs.TraceLaws.{Trace, in-turn, Stays, turn-declared, traces-stay}
 
@@ -48,6 +48,10 @@ module _ (P : Packets) (Declared : P .Packet → Type 0) where
       let power = power-alike (Traces P p) (Traces P p′) (traces-stay P Declared p keep) h in
       (λ s. (s .0, power (s .0) α d t .0 (s .1)), λ s. (s .0, power (s .0) α d t .1 (s .1)))
 
+  pub same-neg : (p p′ : Policy) → SameTraces P Declared p p′ → SameTraces P Declared (neg p) (neg p′)
+  unfolding SameTraces Traces Drops
+  same-neg p p′ h α d t = (λ s. (λ u k. s .0 u (h α d u .1 k), s .1), λ s. (λ u k. s .0 u (h α d u .0 k), s .1))
+
 -- the labels of dups mean nothing
 pub traces-unlabelled : (P : Packets) (p : Policy) → Traces P (unlabelled p) ≡ Traces P p
 unfolding Traces unlabelled
@@ -58,3 +62,4 @@ traces-unlabelled P (dup i) = refl
 traces-unlabelled P (sum p q) = ap₂ {C = TraceSet P} (λ (A B : TraceSet P) α t. A α t ⊎ B α t) (traces-unlabelled P p) (traces-unlabelled P q)
 traces-unlabelled P (seq p q) = ap₂ {C = TraceSet P} (λ (A B : TraceSet P). Seq P A B) (traces-unlabelled P p) (traces-unlabelled P q)
 traces-unlabelled P (star p) = ap {B = TraceSet P} (λ (A : TraceSet P) α t. (n : ℕ) × Power P A n α t) (traces-unlabelled P p)
+traces-unlabelled P (neg p) = ap {B = TraceSet P} (λ (A : TraceSet P) α t. Drops P A α × (t ≡ α ∷ [])) (traces-unlabelled P p)

@@ -9,7 +9,7 @@ use native.Mathlib.Decide.{ℕ-discrete}
 use native.Mathlib.Omega.{arith}
 use lib.Dec.{eqb}
 use Rattle.policy.specs.declared.Node.{Node}
-use Rattle.policy.specs.declared.Node.the-variants.{Drop, Id, Field, Dup, Sum, Seq, Star}
+use Rattle.policy.specs.declared.Node.the-variants.{Drop, Id, Field, Dup, Sum, Seq, Star, Neg}
 use Rattle.policy.specs.Tree.{Policy, dup, sum, seq, star}
 use Rattle.policy.specs.NodeLists.{NodeLists, nodeCount, nodeAt, children, one, isDup, dupsBelow, grow, treeAt, policyOf}
 use Rattle.policy.specs.Legality.{WellFormed, Legal, occurrences}
@@ -52,6 +52,7 @@ grow-labels i f label Dup = unfold joined occurrences in refl
 grow-labels i f label (Sum l r) = omega (arith, occurrences-append i (labels (f l)) (labels (f r)), joined-two i (λ c. labels (f c)) l r)
 grow-labels i f label (Seq l r) = omega (arith, occurrences-append i (labels (f l)) (labels (f r)), joined-two i (λ c. labels (f c)) l r)
 grow-labels i f label (Star c) = omega (arith, joined-one i (λ c. labels (f c)) c)
+grow-labels i f label (Neg c) = omega (arith, joined-one i (λ c. labels (f c)) c)
 
 -- what is found wherever a walk meets i is found where the walks joined meet it
 joined-some : (X : Type 0) (i : ℕ) (f : ℕ → List ℕ) (cs : List ℕ) → Each (λ c. 0 < occurrences i (f c) → X) cs

@@ -16,7 +16,7 @@ use Rattle.packet.specs.declared.Tested.the-variants.{Passed}
 use Rattle.packet.proofs.Lowest.{lowest-none, none-lowest}
 use Rattle.packet.proofs.Stages.{firstOf-next, firstOf-passed, refusedAt-passed, atPlace-none}
 use Rattle.policy.specs.NodeLists.{NodeLists, nodeCount, nodeAt, children, dupsBelow}
-use Rattle.policy.specs.Legality.{badLengths, badKind, badEntries, badChild, notOnce, tooManyDups, maxDups, timesChild, Legal}
+use Rattle.policy.specs.Legality.{badLengths, badKind, badEntries, badChild, notOnce, badNegation, tooManyDups, maxDups, timesChild, Legal}
 use Rattle.policy.specs.Order.{Cause, causes, Sided, cause, policiesStage}
 use Rattle.policy.specs.InnerEach.{Each}
 use Rattle.policy.proofs.EachLaws.{each-map, each-swap, or-false, below-each}
@@ -79,7 +79,7 @@ module _ (L : NodeLists) where
   last-no-child below j (suc k) h a =
       omega (arith, last-no-child below j k (omega arith) (omega arith), no-child L below j k h (omega arith))
 
--- none of causes 4 to 9 has a place
+-- none of causes 4 to 9 and 19 has a place
 NoCause : List ℕ → NodeLists → Type 0
 NoCause sizes L = Each (λ (c : Cause). c .1 L ≡ none) (causes sizes)
 
@@ -95,6 +95,7 @@ module _ (sizes : List ℕ) (L : NodeLists) where
       entries = lowest-none (badEntries sizes L) (nodeCount L) (c .1 .1 .0);
       below = lowest-none (badChild L) (nodeCount L) (c .1 .1 .1 .0);
       once = at-most;
+      negations = lowest-none (badNegation L) (nodeCount L) (c .1 .1 .1 .1 .1 .0);
       dups = subst (λ (m : ℕ). dupsBelow L m ≤ maxDups) last few-dups;
     };
     some = n .some;
@@ -120,7 +121,7 @@ module _ (sizes : List ℕ) (L : NodeLists) where
 
       few-dups : dupsBelow L (suc (pred (nodeCount L))) ≤ maxDups
       few-dups =
-          ltb-false maxDups _ (lowest-none (tooManyDups L) (nodeCount L) (c .1 .1 .1 .1 .1 .0) (pred (nodeCount L)) (omega (arith, n .some)))
+          ltb-false maxDups _ (lowest-none (tooManyDups L) (nodeCount L) (c .1 .1 .1 .1 .1 .1 .0) (pred (nodeCount L)) (omega (arith, n .some)))
 
   legal-no-cause : Legal sizes L → NoCause sizes L
   unfolding NoCause causes Each notOnce tooManyDups atPlace
@@ -137,9 +138,12 @@ module _ (sizes : List ℕ) (L : NodeLists) where
               (
                 none-lowest (notOnce L) (pred (nodeCount L)) (λ j l. rw (g .children j l)),
                 (
-                  none-lowest (tooManyDups L) (nodeCount L)
-                      (λ i l. le-ltb maxDups (dupsBelow L (suc i)) (omega (arith, dups-more L (suc i) (nodeCount L) l, w .dups))),
-                  tt,
+                  none-lowest (badNegation L) (nodeCount L) (w .negations),
+                  (
+                    none-lowest (tooManyDups L) (nodeCount L)
+                        (λ i l. le-ltb maxDups (dupsBelow L (suc i)) (omega (arith, dups-more L (suc i) (nodeCount L) l, w .dups))),
+                    tt,
+                  ),
                 ),
               ),
             ),

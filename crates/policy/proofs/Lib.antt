@@ -3,6 +3,8 @@ pub mod Trees
 pub mod VisitLaws
 pub mod LabelLaws
 pub mod TraceLaws
+pub mod TestLaws
+pub mod NegationLaws
 pub mod Congruence
 pub mod TransportLaws
 pub mod Numbered

@@ -1,6 +1,6 @@
--- The nodes of a tree: as many as the tree has, they read back as the tree up to labels, and only causes 6 and 9 may hold of them.
+-- The nodes of a tree: as many as the tree has, they read back as the tree up to labels, and only causes 6, 19 and 9 may hold of them.
 use Prim.Native.Nat.{ℕ, suc, pred, _+_, _<_, _≤_}
-use mathlib.Core.Bool.{false}
+use mathlib.Core.Bool.{true, false}
 use mathlib.Core.List.{List, [], _∷_, _++_}
 use mathlib.Core.Path.{_≡_, refl, ap, _∙_, subst, subst₂}
 use native.Mathlib.Nat.{zero-add}
@@ -13,10 +13,11 @@ use Rattle.policy.specs.declared.FieldAction.{FieldAction}
 use Rattle.policy.specs.declared.FieldAction.the-variants.{Equals, Differs, Set}
 use Rattle.policy.specs.declared.Node.{Node}
 use Rattle.policy.specs.declared.Node.the-variants.{Field}
-use Rattle.policy.specs.Tree.{Policy, drop, id, field, dup, sum, seq, star}
+use Rattle.policy.specs.Tree.{Policy, drop, id, field, dup, sum, seq, star, neg}
 use Rattle.policy.specs.NodeLists.{nodeCount, nodeOf, nodeAt, children, dupsBelow, policyOf}
 use Rattle.policy.specs.NodesOfTree.{NodeEntry, nodeEntry, actionEntry, treeSize, entriesFrom, listsOf, nodesOf, unlabelled}
-use Rattle.policy.specs.Legality.{badLengths, badKind, badChild, notOnce, timesChild, maxDups, Legal}
+use Rattle.policy.specs.Legality.{badLengths, badKind, badChild, notOnce, badNegation, timesChild, maxDups, Legal}
+use Rattle.policy.specs.Tests.{negatesTests}
 use Rattle.policy.specs.Legality.{InFields, badEntries, wrongEntries, used, badField, fieldOf, valueOf}
 use Rattle.policy.specs.InnerEach.{Each}
 use Rattle.policy.specs.Visits.{labels}
@@ -24,7 +25,7 @@ use Rattle.policy.specs.InnerTransport.{EachAction}
 use Rattle.policy.proofs.EachLaws.{each-append, each-at, below-each}
 use Rattle.policy.proofs.LegalityLaws.{Lengths, lengths}
 use Rattle.policy.proofs.Numbered.{each-action}
-use Rattle.policy.proofs.Postfix.{size-positive, Stands, here, reads-back, inside, inside-in, inside-le, counts, stands-below, stands-dups}
+use Rattle.policy.proofs.Postfix.{size-positive, Stands, here, reads-back, inside, inside-in, inside-le, counts, stands-below, stands-negations, stands-dups}
 
 one-more : (xs : List NodeEntry) (e : NodeEntry) → length (xs ++ e ∷ []) ≡ length xs + 1
 one-more xs e = length-append xs (e ∷ [])
@@ -42,6 +43,7 @@ entries-length base (dup i) = refl
 entries-length base (sum p q) = two-more (entriesFrom base p) _ _ (entries-length base p) (entries-length (base + treeSize p) q)
 entries-length base (seq p q) = two-more (entriesFrom base p) _ _ (entries-length base p) (entries-length (base + treeSize p) q)
 entries-length base (star p) = one-more (entriesFrom base p) _ ∙ ap (λ (n : ℕ). n + 1) (entries-length base p)
+entries-length base (neg p) = one-more (entriesFrom base p) _ ∙ ap (λ (n : ℕ). n + 1) (entries-length base p)
 
 -- what is read past the end of the entries
 absent : NodeEntry
@@ -116,6 +118,7 @@ module _ (es : List NodeEntry) where
   stands base (sum p q) h = let r = holds-two base p q _ h in (stands base p (r .0), stands (base + treeSize p) q (r .1), r .2)
   stands base (seq p q) h = let r = holds-two base p q _ h in (stands base p (r .0), stands (base + treeSize p) q (r .1), r .2)
   stands base (star p) h = let r = holds-one base p _ h in (stands base p (r .0), r .1)
+  stands base (neg p) h = let r = holds-one base p _ h in (stands base p (r .0), r .1)
 
 holds-all : (before es : List NodeEntry) → Holds (before ++ es) (length before) es
 unfolding Holds
@@ -161,6 +164,7 @@ record EachKind (P : NodeEntry → Type 0) : Type 0 where
   sum : (l r : ℕ) → P (nodeEntry 6 l r)
   seq : (l r : ℕ) → P (nodeEntry 7 l r)
   star : (c : ℕ) → P (nodeEntry 8 c 0)
+  neg : (c : ℕ) → P (nodeEntry 9 c 0)
 
 every-action : (H : FieldAction → Type 0) → ((a : FieldAction) → H a) → (p : Policy) → EachAction H p
 every-action H f drop = tt
@@ -170,6 +174,7 @@ every-action H f (dup i) = tt
 every-action H f (sum p q) = (every-action H f p, every-action H f q)
 every-action H f (seq p q) = (every-action H f p, every-action H f q)
 every-action H f (star p) = every-action H f p
+every-action H f (neg p) = every-action H f p
 
 each-two : (P : NodeEntry → Type 0) (xs ys : List NodeEntry) (x : NodeEntry) → Each P xs → Each P ys → P x → Each P (xs ++ ys ++ x ∷ [])
 unfolding Each
@@ -189,16 +194,17 @@ entries-each P k base (seq p q) h =
     each-two P (entriesFrom base p) (entriesFrom (base + treeSize p) q) _ (entries-each P k base p (h .0))
     (entries-each P k (base + treeSize p) q (h .1)) (k .seq _ _)
 entries-each P k base (star p) h = each-append P (entriesFrom base p) _ .1 (entries-each P k base p h, (k .star _, tt))
+entries-each P k base (neg p) h = each-append P (entriesFrom base p) _ .1 (entries-each P k base p h, (k .neg _, tt))
 
 -- nor cause 5
 pub nodes-kinds : (p : Policy) (i : ℕ) → badKind (nodesOf p) i ≡ false
 unfolding badKind nodesOf absent nodeEntry actionEntry
 nodes-kinds p i =
     let known = entries-each Known kinds 0 p (every-action _ actions p) in
-    read-at (entriesFrom 0 p) (λ k a b. ltb 8 k) i ∙ le-ltb 8 _ (each-at Known (entriesFrom 0 p) absent (omega arith) known i)
+    read-at (entriesFrom 0 p) (λ k a b. ltb 9 k) i ∙ le-ltb 9 _ (each-at Known (entriesFrom 0 p) absent (omega arith) known i)
   where
     Known : NodeEntry → Type 0
-    Known e = e .kind ≤ 8
+    Known e = e .kind ≤ 9
 
     kinds : EachKind Known
     kinds = omega arith
@@ -237,12 +243,17 @@ nodes-entries sizes p h i =
     Right e = wrongEntries sizes (e .kind) (e .first) (e .second) ≡ false
 
     kinds : EachKind Right
-    kinds = record { drop = refl; id = refl; dup = refl; sum = λ l r. refl; seq = λ l r. refl; star = λ c. refl }
+    kinds = record { drop = refl; id = refl; dup = refl; sum = λ l r. refl; seq = λ l r. refl; star = λ c. refl; neg = λ c. refl }
 
     actions : (a : FieldAction) → badField sizes (fieldOf a) (valueOf a) ≡ false → Right (actionEntry a)
     actions (Equals f v) e = e
     actions (Differs f v) e = e
     actions (Set f v) e = e
+
+-- nor cause 19 where negations stand over tests alone
+pub nodes-negations : (p : Policy) → negatesTests p ≡ true → (i : ℕ) → i < nodeCount (nodesOf p) → badNegation (nodesOf p) i ≡ false
+unfolding badNegation
+nodes-negations p h i l = stands-negations (nodesOf p) 0 p (nodes-stand p) h i (omega arith) (omega (arith, nodes-count p))
 
 -- there are as many dups among the nodes as in the tree
 pub nodes-dups : (p : Policy) → dupsBelow (nodesOf p) (nodeCount (nodesOf p)) ≡ length (labels p)
@@ -251,10 +262,10 @@ nodes-dups p =
     let e : 0 + treeSize p ≡ nodeCount (nodesOf p) = omega (arith, nodes-count p) in
     subst (λ (n : ℕ). dupsBelow (nodesOf p) n ≡ length (labels p)) e (stands-dups (nodesOf p) 0 p (nodes-stand p) ∙ zero-add _)
 
--- the nodes of a tree are legal where it has at most 512 nodes, its fields are declared and it has at most 31 dups
-pub nodes-legal : (sizes : List ℕ) (p : Policy) → treeSize p ≤ 512 → InFields sizes p → length (labels p) ≤ maxDups
+-- the nodes of a tree are legal where it has at most 512 nodes, its fields are declared, it negates tests alone and it has at most 31 dups
+pub nodes-legal : (sizes : List ℕ) (p : Policy) → treeSize p ≤ 512 → InFields sizes p → negatesTests p ≡ true → length (labels p) ≤ maxDups
     → Legal sizes (nodesOf p)
-nodes-legal sizes p few fields dups =
+nodes-legal sizes p few fields negates dups =
     record {
       wellFormed = record {
         firsts = n .first;
@@ -264,6 +275,7 @@ nodes-legal sizes p few fields dups =
         entries = λ i l. nodes-entries sizes p fields i;
         below = nodes-below p;
         once = λ j. omega (arith, nodes-times p j, inside-le 0 (pred (nodeCount (nodesOf p))) j);
+        negations = nodes-negations p negates;
         dups = omega (arith, nodes-dups p);
       };
       some = n .some;

@@ -12,14 +12,14 @@ use Rattle.packet.specs.Packets.{numberOf, valuesOf, valueAt, Declared}
 use Rattle.packet.proofs.Packets.{changed-below, values-changed, values-declared, values-of-number, number-of-values, number-below}
 use Rattle.policy.specs.declared.FieldAction.{FieldAction}
 use Rattle.policy.specs.declared.FieldAction.the-variants.{Equals, Differs, Set}
-use Rattle.policy.specs.Tree.{Policy, drop, id, field, dup, sum, seq, star}
+use Rattle.policy.specs.Tree.{Policy, drop, id, field, dup, sum, seq, star, neg}
 use Rattle.policy.specs.Meaning.{Traces, declared, numbered, SameTraces, SameTracesBelow}
 use Rattle.policy.specs.Legality.{InFields, badField, fieldOf, valueOf}
 use Rattle.policy.specs.InnerEach.{Each}
 use Rattle.policy.specs.InnerTransport.{EachAction, Keeps, Commutes, Respects}
 use Rattle.packet.proofs.Tests.{or-false}
 use Rattle.policy.proofs.TraceLaws.{traces-stay}
-use Rattle.policy.proofs.Congruence.{same-sum, same-seq, same-star}
+use Rattle.policy.proofs.Congruence.{same-sum, same-seq, same-star, same-neg}
 use Rattle.policy.proofs.TransportLaws.{same-image, same-source}
 
 module _ (sizes : List ℕ) where
@@ -41,6 +41,7 @@ module _ (sizes : List ℕ) where
   each-action H f (sum p q) i = (each-action H f p (i .0), each-action H f q (i .1))
   each-action H f (seq p q) i = (each-action H f p (i .0), each-action H f q (i .1))
   each-action H f (star p) i = each-action H f p i
+  each-action H f (neg p) i = each-action H f p i
 
   pub value-below : (f v : ℕ) → badField sizes f v ≡ false → v < getD sizes f 0
   unfolding badField
@@ -74,6 +75,10 @@ module _ (sizes : List ℕ) where
   pub same-star-below : (p p′ : Policy) → InFields sizes p → SameTracesBelow sizes p p′ → SameTracesBelow sizes (star p) (star p′)
   unfolding SameTracesBelow
   same-star-below p p′ i h = same-star (numbered sizes) Below p p′ (keeps-below p i) h
+
+  pub same-neg-below : (p p′ : Policy) → SameTracesBelow sizes p p′ → SameTracesBelow sizes (neg p) (neg p′)
+  unfolding SameTracesBelow
+  same-neg-below p p′ h = same-neg (numbered sizes) Below p p′ h
 
   commutes : (a : FieldAction) → Named a → Commutes (numbered sizes) declared Below (valuesOf sizes) a
   unfolding Commutes fieldOf valueOf valueAt

@@ -1,23 +1,27 @@
 -- A tree that stands in postfix order in node lists: it reads back, its children are below their parents, and each node but its last is a
 -- child once.
 use Prim.Native.Nat.{ℕ, zero, suc, pred, _+_, _-_, _<_, _≤_, min, max}
+use mathlib.Core.Bool.{true, false, not}
 use mathlib.Core.List.{[], _∷_}
 use mathlib.Core.Logic.{by-cases}
-use mathlib.Core.Path.{_≡_, refl, ap, ap₂, _∙_, subst}
+use mathlib.Core.Path.{_≡_, refl, sym, ap, ap₂, _∙_, subst}
 use native.Mathlib.Nat.{not-suc-le-zero}
 use native.Mathlib.Decide.{decLt, ℕ-discrete}
 use native.Mathlib.Omega.{arith}
 use lib.Dec.{eqb}
 use lib.ListN.{length, length-append}
 use Rattle.policy.specs.declared.Node.{Node}
-use Rattle.policy.specs.declared.Node.the-variants.{Drop, Id, Field, Dup, Sum, Seq, Star}
-use Rattle.policy.specs.Tree.{Policy, drop, id, field, dup, sum, seq, star}
-use Rattle.policy.specs.NodeLists.{NodeLists, nodeAt, children, one, isDup, dupsBelow, grow, treeAt}
+use Rattle.policy.specs.declared.Node.the-variants.{Drop, Id, Field, Dup, Sum, Seq, Star, Neg}
+use Rattle.policy.specs.Tree.{Policy, drop, id, field, dup, sum, seq, star, neg}
+use Rattle.policy.specs.NodeLists.{NodeLists, nodeAt, children, one, isDup, dupsBelow, grow, treeAt, treeOf}
 use Rattle.policy.specs.NodesOfTree.{treeSize, unlabelled}
-use Rattle.policy.specs.Legality.{occurrences, timesChild}
+use Rattle.packet.proofs.Tests.{and-true}
+use Rattle.policy.specs.Legality.{occurrences, timesChild, negatesOther}
+use Rattle.policy.specs.Tests.{isTest, negatesTests}
 use Rattle.policy.specs.InnerEach.{Each}
 use Rattle.policy.specs.Visits.{labels}
 use Rattle.policy.proofs.EachLaws.{one-same, one-other}
+use Rattle.policy.proofs.TestLaws.{test-negates, test-unlabelled}
 
 pub size-positive : (p : Policy) → 0 < treeSize p
 unfolding treeSize
@@ -28,6 +32,7 @@ size-positive (dup i) = omega arith
 size-positive (sum p q) = omega arith
 size-positive (seq p q) = omega arith
 size-positive (star p) = omega arith
+size-positive (neg p) = omega arith
 
 -- the nodes from base on are those of the tree, children first, left before right
 unfoldable pub Stands : NodeLists → ℕ → Policy → Type 0
@@ -44,6 +49,7 @@ Stands L base (seq p q) =
     let end = base + treeSize p + treeSize q in
     Stands L base p × Stands L mid q × (nodeAt L end ≡ Seq (pred mid) (pred end))
 Stands L base (star p) = let end = base + treeSize p in Stands L base p × (nodeAt L end ≡ Star (pred end))
+Stands L base (neg p) = let end = base + treeSize p in Stands L base p × (nodeAt L end ≡ Neg (pred end))
 
 -- 1 where lo ≤ j and j < hi, and else 0
 pub inside : ℕ → ℕ → ℕ → ℕ
@@ -122,6 +128,9 @@ module _ (L : NodeLists) where
   reads-back base (star p) h n (suc t) e l =
       let a = size-positive p in
       rw (here _ n _ (omega arith) (h .1)) (ap star (reads-back base p (h .0) _ t (omega arith) (omega arith)))
+  reads-back base (neg p) h n (suc t) e l =
+      let a = size-positive p in
+      rw (here _ n _ (omega arith) (h .1)) (ap neg (reads-back base p (h .0) _ t (omega arith) (omega arith)))
 
   count-next : (n m j : ℕ) (x : Node) → m ≡ suc n → nodeAt L n ≡ x → timesChild L j m ≡ timesChild L j n + occurrences j (children x)
   unfolding timesChild
@@ -176,6 +185,7 @@ module _ (L : NodeLists) where
       over-two base (treeSize p) (treeSize q) j _ (size-positive p) (size-positive q) refl (h .2) (counts base p (h .0) j)
       (counts (base + treeSize p) q (h .1) j)
   counts base (star p) h j = over-one base (treeSize p) j _ (size-positive p) refl (h .1) (counts base p (h .0) j)
+  counts base (neg p) h j = over-one base (treeSize p) j _ (size-positive p) refl (h .1) (counts base p (h .0) j)
 
   -- the children of each of these nodes are below it
   pub stands-below : (base : ℕ) (p : Policy) → Stands L base p → (i : ℕ) → base ≤ i → i < base + treeSize p
@@ -198,6 +208,39 @@ module _ (L : NodeLists) where
   stands-below base (star p) h i a b =
       by-cases (decLt i (base + treeSize p)) (stands-below base p (h .0) i a)
       (λ k. rw (here _ i _ (omega arith) (h .1)) (omega (arith, size-positive p), tt))
+  stands-below base (neg p) h i a b =
+      by-cases (decLt i (base + treeSize p)) (stands-below base p (h .0) i a)
+      (λ k. rw (here _ i _ (omega arith) (h .1)) (omega (arith, size-positive p), tt))
+
+  -- a negation among these nodes stands over tests alone
+  pub stands-negations : (base : ℕ) (p : Policy) → Stands L base p → negatesTests p ≡ true → (i : ℕ) → base ≤ i → i < base + treeSize p
+      → negatesOther L (nodeAt L i) ≡ false
+  unfolding Stands treeSize treeOf negatesOther negatesTests
+  stands-negations base drop h k i a b = rw (here base i Drop (omega arith) h)
+  stands-negations base id h k i a b = rw (here base i Id (omega arith) h)
+  stands-negations base (field x) h k i a b = rw (here base i (Field x) (omega arith) h)
+  stands-negations base (dup l) h k i a b = rw (here base i Dup (omega arith) h)
+  stands-negations base (sum p q) h k i a b =
+      let n = and-true (negatesTests p) (negatesTests q) k in
+      by-cases (decLt i (base + treeSize p)) (stands-negations base p (h .0) (n .0) i a)
+      (λ c.
+      by-cases (decLt i (base + treeSize p + treeSize q)) (stands-negations (base + treeSize p) q (h .1) (n .1) i (omega arith))
+      (λ d. rw (here _ i _ (omega arith) (h .2))))
+  stands-negations base (seq p q) h k i a b =
+      let n = and-true (negatesTests p) (negatesTests q) k in
+      by-cases (decLt i (base + treeSize p)) (stands-negations base p (h .0) (n .0) i a)
+      (λ c.
+      by-cases (decLt i (base + treeSize p + treeSize q)) (stands-negations (base + treeSize p) q (h .1) (n .1) i (omega arith))
+      (λ d. rw (here _ i _ (omega arith) (h .2))))
+  stands-negations base (star p) h k i a b =
+      by-cases (decLt i (base + treeSize p)) (stands-negations base p (h .0) k i a) (λ c. rw (here _ i _ (omega arith) (h .1)))
+  stands-negations base (neg p) h k i a b =
+      by-cases (decLt i (base + treeSize p)) (stands-negations base p (h .0) (test-negates p k) i a)
+      (λ c. rw (here _ i _ (omega arith) (h .1)) (ap not (over (pred (base + treeSize p)) (omega (arith, size-positive p)))))
+    where
+      over : (n : ℕ) → suc n ≡ base + treeSize p → isTest (treeAt L (suc n) n) ≡ true
+      over n e =
+          sym (test-unlabelled (treeAt L (suc n) n)) ∙ ap isTest (reads-back base p (h .0) n (suc n) e (omega arith)) ∙ test-unlabelled p ∙ k
 
   dups-next : (n m : ℕ) (x : Node) → m ≡ suc n → nodeAt L n ≡ x → dupsBelow L m ≡ dupsBelow L n + one (isDup x)
   unfolding dupsBelow
@@ -218,3 +261,5 @@ module _ (L : NodeLists) where
       omega (arith, stands-dups base p (h .0), stands-dups (base + treeSize p) q (h .1), length-append (labels p) (labels q))
   stands-dups base (star p) h =
       omega (arith, dups-next (base + treeSize p) (base + (treeSize p + 1)) (Star _) (omega arith) (h .1), stands-dups base p (h .0))
+  stands-dups base (neg p) h =
+      omega (arith, dups-next (base + treeSize p) (base + (treeSize p + 1)) (Neg _) (omega arith) (h .1), stands-dups base p (h .0))

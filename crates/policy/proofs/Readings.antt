@@ -2,7 +2,7 @@
 use Prim.Native.Nat.{ℕ, zero, suc}
 use mathlib.Core.Bool.{Bool, true, false, not, true≢false}
 use mathlib.Core.List.{List, [], _∷_, _++_}
-use mathlib.Core.Logic.{_⊎_, inl, inr, ⊎-elim, _↔_}
+use mathlib.Core.Logic.{_⊎_, inl, inr, ⊎-elim, _↔_, Iff·symm, Iff·trans}
 use mathlib.Core.Path.{_≡_, refl, ap, ap₂, _∙_}
 use borrow.Author.Tests.{eqb-true, eq-eqb}
 use lib.Dec.{T}
@@ -10,8 +10,10 @@ use lib.ListN.{getD, set}
 use Rattle.packet.specs.Packets.{valueAt, changed}
 use Rattle.packet.proofs.Tests.{T-true, true-T}
 use Rattle.policy.specs.declared.FieldAction.the-variants.{Equals, Differs, Set}
-use Rattle.policy.specs.Tree.{Policy, field, dup, seq, star}
-use Rattle.policy.specs.Meaning.{Packets, ActionTraces, Seq, Power, Traces, declared, numbered}
+use Rattle.policy.specs.Tests.{isTest, passes}
+use Rattle.policy.specs.Tree.{Policy, field, dup, seq, star, neg}
+use Rattle.policy.specs.Meaning.{Packets, ActionTraces, Seq, Power, Drops, Traces, declared, numbered}
+use Rattle.policy.proofs.TestLaws.{test-traces}
 use Rattle.policy.proofs.TraceLaws.{in-turn, snoc-injective}
 
 -- a test reads its own field, of declared packets and of numbers
@@ -42,6 +44,16 @@ module _ (P : Packets) (α : P .Packet) (t : List (P .Packet)) where
   pub differs-reads : (f v : ℕ) → Traces P (field (Differs f v)) α t ↔ ((P .has f v α ≡ false) × (t ≡ α ∷ []))
   unfolding Traces ActionTraces
   differs-reads f v = (λ h. (fails (P .has f v α) .0 (h .0), h .1), λ h. (fails (P .has f v α) .1 (h .0), h .1))
+
+  -- !p: the packet itself where p has no trace from it
+  pub neg-reads : (p : Policy) → Traces P (neg p) α t ↔ (((u : List (P .Packet)) → Traces P p α u → ⊥) × (t ≡ α ∷ []))
+  unfolding Traces Drops
+  neg-reads p = (λ h. h, λ h. h)
+
+  -- !f=v is f≠v
+  pub neg-equals : (f v : ℕ) → Traces P (neg (field (Equals f v))) α t ↔ Traces P (field (Differs f v)) α t
+  unfolding isTest passes
+  neg-equals f v = Iff·trans (test-traces P (neg (field (Equals f v))) refl α t) (Iff·symm (test-traces P (field (Differs f v)) refl α t))
 
   -- dup;f←v: the packet, and then the changed packet
   pub dup-then-set : (i f v : ℕ) → Traces P (seq (dup i) (field (Set f v))) α t ↔ (t ≡ α ∷ P .change f v α ∷ [])

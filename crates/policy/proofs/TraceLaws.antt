@@ -5,7 +5,7 @@ use mathlib.Core.Logic.{⊎-elim}
 use mathlib.Core.Path.{_≡_, refl, sym, ap, _∙_, subst}
 use Rattle.policy.specs.declared.FieldAction.{FieldAction}
 use Rattle.policy.specs.declared.FieldAction.the-variants.{Equals, Differs, Set}
-use Rattle.policy.specs.Tree.{Policy, drop, id, field, dup, sum, seq, star}
+use Rattle.policy.specs.Tree.{Policy, drop, id, field, dup, sum, seq, star, neg}
 use Rattle.policy.specs.Meaning.{Packets, TraceSet, ActionTraces, Seq, Power, Traces}
 use Rattle.policy.specs.InnerEach.{Each}
 use Rattle.policy.specs.InnerTransport.{EachAction, Keeps}
@@ -70,6 +70,7 @@ module _ (P : Packets) where
   traces-end (sum p q) α t h = ⊎-elim (traces-end p α t) (traces-end q α t) h
   traces-end (seq p q) α t h = seq-ends (Traces P p) (Traces P q) (traces-end q) α t h
   traces-end (star p) α t h = power-ends (Traces P p) (h .0) α t (h .1)
+  traces-end (neg p) α t h = single α t (h .1)
 
   pub traces-non-empty : (p : Policy) (α : P .Packet) → Traces P p α [] → ⊥
   traces-non-empty p α h = let e = traces-end p α [] h in concat-ne-nil (e .last) (e .before) (sym (e .whole))
@@ -115,3 +116,4 @@ module _ (P : Packets) (Declared : P .Packet → Type 0) where
   traces-stay (sum p q) k α d t h = ⊎-elim (traces-stay p (k .0) α d t) (traces-stay q (k .1) α d t) h
   traces-stay (seq p q) k α d t h = seq-stays (Traces P p) (Traces P q) (traces-stay p (k .0)) (traces-stay q (k .1)) α d t h
   traces-stay (star p) k α d t h = power-stays (Traces P p) (traces-stay p k) (h .0) α d t (h .1)
+  traces-stay (neg p) k α d t h = single-stays α d t (h .1)

@@ -5,8 +5,8 @@ use mathlib.Core.Logic.{_⊎_, inl, inr, ⊎-elim, _↔_}
 use mathlib.Core.Path.{_≡_, refl, sym, ap, ap₂, _∙_, subst}
 use Rattle.policy.specs.declared.FieldAction.{FieldAction}
 use Rattle.policy.specs.declared.FieldAction.the-variants.{Equals, Differs, Set}
-use Rattle.policy.specs.Tree.{Policy, drop, id, field, dup, sum, seq, star}
-use Rattle.policy.specs.Meaning.{Packets, TraceSet, ActionTraces, Seq, Power, Traces, SameTraces}
+use Rattle.policy.specs.Tree.{Policy, drop, id, field, dup, sum, seq, star, neg}
+use Rattle.policy.specs.Meaning.{Packets, TraceSet, ActionTraces, Seq, Power, Drops, Traces, SameTraces}
 use Rattle.policy.specs.InnerEach.{Each}
 use Rattle.policy.specs.InnerTransport.{EachAction, Keeps, Commutes, Respects}
 use Rattle.policy.proofs.TraceLaws.{Trace, in-turn, AllEnd, snoc-injective, seq-ends, traces-end, Stays, turn-declared, seq-stays, traces-stay, single-stays}
@@ -90,6 +90,17 @@ module _ (P Q : Packets) (Declared : P .Packet → Type 0) (r : P .Packet → Q 
         ⊎-elim (λ s. let i = h .from α d u s in (i .0, i .1, inl (i .2))) (λ s. let i = k .from α d u s in (i .0, i .1, inr (i .2)));
   }
 
+  -- from r α there is no trace exactly where there is none from α
+  carried-neg : (A : TraceSet P) (B : TraceSet Q) → Carried A B
+      → Carried (λ α t. Drops P A α × (t ≡ α ∷ [])) (λ α t. Drops Q B α × (t ≡ α ∷ []))
+  unfolding Drops
+  carried-neg A B h = record {
+    ends = λ α t s. record { before = []; last = α; whole = s .1 };
+    stays = λ α d t s. single-stays P Declared α d t (s .1);
+    to = λ α d t s. (λ u b. let i = h .from α d u b in s .0 (i .0) (i .2), ap (map r) (s .1));
+    from = λ α d u s. (α ∷ [], s .1, (λ t a. s .0 (map r t) (h .to α d t a), refl));
+  }
+
   action-to : (a : FieldAction) → Commutes P Q Declared r a → To (ActionTraces P a) (ActionTraces Q a)
   unfolding Commutes ActionTraces
   action-to (Equals f v) c α d t h = (rw (c α d) (h .0), ap (map r) (h .1))
@@ -117,6 +128,7 @@ module _ (P Q : Packets) (Declared : P .Packet → Type 0) (r : P .Packet → Q 
   carried (seq p q) k c =
       carried-seq (Traces P p) (Traces P q) (Traces Q p) (Traces Q q) (carried p (k .0) (c .0)) (carried q (k .1) (c .1))
   carried (star p) k c = carried-star (Traces P p) (Traces Q p) (carried p k c)
+  carried (neg p) k c = carried-neg (Traces P p) (Traces Q p) (carried p k c)
 
   -- u is a trace of p from r α exactly when it is the image of a trace of p from α
   pub transport : (p : Policy) → Respects P Q Declared r p → (α : P .Packet) → Declared α → (u : Trace Q)

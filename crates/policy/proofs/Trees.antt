@@ -1,17 +1,19 @@
 -- The tree of a node of well-formed lists: one tree whatever the fuel, each node in it at most once, its labels distinct, its fields declared.
 use Prim.Native.Nat.{ℕ, zero, suc, pred, _<_}
-use mathlib.Core.Bool.{false}
+use mathlib.Core.Bool.{true, false}
 use mathlib.Core.List.{List, [], _∷_}
 use mathlib.Core.Logic.{_↔_}
-use mathlib.Core.Path.{_≡_, refl, sym, ap, ap₂, subst}
+use mathlib.Core.Path.{_≡_, refl, sym, ap, ap₂, _∙_, subst}
 use native.Mathlib.Nat.{not-suc-le-zero}
 use native.Mathlib.Omega.{arith}
+use borrow.Author.Tests.{not-false}
 use Rattle.policy.specs.declared.Node.{Node}
-use Rattle.policy.specs.declared.Node.the-variants.{Drop, Id, Field, Dup, Sum, Seq, Star}
-use Rattle.policy.specs.Tree.{Policy, drop, id, field, dup, sum, seq, star}
-use Rattle.policy.specs.NodeLists.{NodeLists, nodeCount, nodeAt, nodeOf, children, dupsBelow, grow, treeAt, policyOf, TreeOf}
-use Rattle.policy.specs.Legality.{WellFormed, Legal, InFields, badEntries, wrongEntries, badChild, fieldOf, valueOf}
+use Rattle.policy.specs.declared.Node.the-variants.{Drop, Id, Field, Dup, Sum, Seq, Star, Neg}
+use Rattle.policy.specs.Tree.{Policy, drop, id, field, dup, sum, seq, star, neg}
+use Rattle.policy.specs.NodeLists.{NodeLists, nodeCount, nodeAt, nodeOf, children, dupsBelow, grow, treeAt, treeOf, policyOf, TreeOf}
+use Rattle.policy.specs.Legality.{WellFormed, Legal, InFields, badEntries, wrongEntries, badChild, negatesOther, badNegation, fieldOf, valueOf}
 use Rattle.policy.specs.InnerEach.{Each}
+use Rattle.policy.specs.Tests.{isTest, negatesTests}
 use Rattle.policy.proofs.EachLaws.{each-map, below-each}
 
 -- children stand below their parents: all that the laws on trees ask of the lists
@@ -31,6 +33,7 @@ grow-same f g label Dup e = refl
 grow-same f g label (Sum l r) e = ap₂ sum (e .0) (e .1 .0)
 grow-same f g label (Seq l r) e = ap₂ seq (e .0) (e .1 .0)
 grow-same f g label (Star c) e = ap star (e .0)
+grow-same f g label (Neg c) e = ap neg (e .0)
 
 grow-tree : (L : NodeLists) (n : ℕ) (f : ℕ → Policy) (x : Node) → nodeAt L n ≡ x → Each (λ c. TreeOf L c (f c)) (children x)
     → TreeOf L n (grow f (dupsBelow L (suc n)) x)
@@ -42,6 +45,7 @@ grow-tree L n f Dup e h = (e, refl)
 grow-tree L n f (Sum l r) e h = (l, r, e, h .0, h .1 .0)
 grow-tree L n f (Seq l r) e h = (l, r, e, h .0, h .1 .0)
 grow-tree L n f (Star c) e h = (c, e, h .0)
+grow-tree L n f (Neg c) e h = (c, e, h .0)
 
 grow-fields : (sizes : List ℕ) (f : ℕ → Policy) (label k a b : ℕ) → wrongEntries sizes k a b ≡ false
     → Each (λ c. InFields sizes (f c)) (children (nodeOf k a b)) → InFields sizes (grow f label (nodeOf k a b))
@@ -55,7 +59,8 @@ grow-fields sizes f label (suc (suc (suc (suc (suc zero))))) a b w h = tt
 grow-fields sizes f label (suc (suc (suc (suc (suc (suc zero)))))) a b w h = (h .0, h .1 .0)
 grow-fields sizes f label (suc (suc (suc (suc (suc (suc (suc zero))))))) a b w h = (h .0, h .1 .0)
 grow-fields sizes f label (suc (suc (suc (suc (suc (suc (suc (suc zero)))))))) a b w h = h .0
-grow-fields sizes f label (suc (suc (suc (suc (suc (suc (suc (suc (suc k))))))))) a b w h = tt
+grow-fields sizes f label (suc (suc (suc (suc (suc (suc (suc (suc (suc zero))))))))) a b w h = h .0
+grow-fields sizes f label (suc (suc (suc (suc (suc (suc (suc (suc (suc (suc k)))))))))) a b w h = tt
 
 module _ (L : NodeLists) (below : ChildrenBelow L) where
   -- what holds of each number below n holds of each child of n
@@ -70,6 +75,13 @@ module _ (L : NodeLists) (below : ChildrenBelow L) where
   tree-fuel (suc t) (suc u) n a b l =
       grow-same (treeAt L t) (treeAt L u) (dupsBelow L (suc n)) (nodeAt L n)
       (each-child (λ c. treeAt L t c ≡ treeAt L u c) n l (λ c k. tree-fuel t u c (omega arith) (omega arith) (omega arith)))
+
+  -- a tree by the trees of the children
+  pub tree-grow : (n : ℕ) → n < nodeCount L → treeOf L n ≡ grow (treeOf L) (dupsBelow L (suc n)) (nodeAt L n)
+  unfolding treeOf treeAt
+  tree-grow n l =
+      grow-same (treeAt L n) (treeOf L) (dupsBelow L (suc n)) (nodeAt L n)
+      (each-child (λ c. treeAt L n c ≡ treeOf L c) n l (λ c k. tree-fuel n (suc c) c k (omega arith) (omega arith)))
 
   tree-exists : (t n : ℕ) → n < t → n < nodeCount L → TreeOf L n (treeAt L t n)
   unfolding treeAt
@@ -101,6 +113,9 @@ module _ (L : NodeLists) (below : ChildrenBelow L) where
   tree-unique (star p) (suc t) n a l h =
       let k = one-below n (h .0) l (ap children (h .1)) in
       rw (h .1) (ap star (tree-unique p t (h .0) (omega arith) (omega arith) (h .2)))
+  tree-unique (neg p) (suc t) n a l h =
+      let k = one-below n (h .0) l (ap children (h .1)) in
+      rw (h .1) (ap neg (tree-unique p t (h .0) (omega arith) (omega arith) (h .2)))
 
   -- each node has exactly one tree
   pub tree-iff : (p : Policy) (t n : ℕ) → n < t → n < nodeCount L → TreeOf L n p ↔ (p ≡ treeAt L t n)
@@ -115,7 +130,38 @@ tree-fields {sizes} {L} w (suc t) n a l =
     grow-fields sizes (treeAt L t) (dupsBelow L (suc n)) _ _ _ (w .entries n l)
     (each-child L (children-below w) (λ c. InFields sizes (treeAt L t c)) n l (λ c k. tree-fields w t c (omega arith) (omega arith)))
 
--- legal lists have exactly one tree, and its fields are declared
+grow-negates : (f : ℕ → Policy) (label : ℕ) (x : Node) → ((c : ℕ) → x ≡ Neg c → isTest (f c) ≡ true)
+    → Each (λ c. negatesTests (f c) ≡ true) (children x) → negatesTests (grow f label x) ≡ true
+unfolding grow children Each negatesTests
+grow-negates f label Drop h e = refl
+grow-negates f label Id h e = refl
+grow-negates f label (Field a) h e = refl
+grow-negates f label Dup h e = refl
+grow-negates f label (Sum l r) h e = rw (e .0, e .1 .0)
+grow-negates f label (Seq l r) h e = rw (e .0, e .1 .0)
+grow-negates f label (Star c) h e = e .0
+grow-negates f label (Neg c) h e = h c refl
+
+-- what a node negates is made of tests alone
+pub negated-test : {sizes : List ℕ} {L : NodeLists} → WellFormed sizes L → (n c : ℕ) → n < nodeCount L → nodeAt L n ≡ Neg c → isTest (treeOf L c) ≡ true
+unfolding badNegation negatesOther
+negated-test {L} w n c l e = not-false _ (sym (ap (negatesOther L) e) ∙ w .negations n l)
+
+-- what stands under a negation in the tree is made of tests alone
+pub tree-negates : {sizes : List ℕ} {L : NodeLists} → WellFormed sizes L → (t n : ℕ) → n < t → n < nodeCount L
+    → negatesTests (treeAt L t n) ≡ true
+unfolding treeAt treeOf children
+tree-negates w zero n a l = absurd (not-suc-le-zero a)
+tree-negates {sizes} {L} w (suc t) n a l =
+    grow-negates (treeAt L t) (dupsBelow L (suc n)) (nodeAt L n) over
+    (each-child L (children-below w) (λ c. negatesTests (treeAt L t c) ≡ true) n l (λ c k. tree-negates w t c (omega arith) (omega arith)))
+  where
+    over : (c : ℕ) → nodeAt L n ≡ Neg c → isTest (treeAt L t c) ≡ true
+    over c e =
+        let k = one-below L (children-below w) n c l (ap children e) in
+        ap isTest (tree-fuel L (children-below w) t (suc c) c (omega arith) (omega arith) (omega arith)) ∙ negated-test w n c l e
+
+-- legal lists have exactly one tree, its fields are declared, and it negates tests alone
 module _ {sizes : List ℕ} {L : NodeLists} (g : Legal sizes L) where
   pub policy-iff : (p : Policy) → TreeOf L (pred (nodeCount L)) p ↔ (p ≡ policyOf L)
   unfolding policyOf
@@ -124,3 +170,7 @@ module _ {sizes : List ℕ} {L : NodeLists} (g : Legal sizes L) where
   pub policy-fields : InFields sizes (policyOf L)
   unfolding policyOf
   policy-fields = let some = g .some in tree-fields (g .wellFormed) (nodeCount L) (pred (nodeCount L)) (omega arith) (omega arith)
+
+  pub policy-negates : negatesTests (policyOf L) ≡ true
+  unfolding policyOf
+  policy-negates = let some = g .some in tree-negates (g .wellFormed) (nodeCount L) (pred (nodeCount L)) (omega arith) (omega arith)

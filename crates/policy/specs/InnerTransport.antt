@@ -2,7 +2,7 @@
 use mathlib.Core.Path.{_≡_}
 use Rattle.policy.specs.declared.FieldAction.{FieldAction}
 use Rattle.policy.specs.declared.FieldAction.the-variants.{Equals, Differs, Set}
-use Rattle.policy.specs.Tree.{Policy, drop, id, field, dup, sum, seq, star}
+use Rattle.policy.specs.Tree.{Policy, drop, id, field, dup, sum, seq, star, neg}
 use Rattle.policy.specs.Meaning.{Packets}
 
 -- something holds of each test and change that a policy makes
@@ -14,6 +14,7 @@ EachAction H (dup i) = Unit
 EachAction H (sum p q) = EachAction H p × EachAction H q
 EachAction H (seq p q) = EachAction H p × EachAction H q
 EachAction H (star p) = EachAction H p
+EachAction H (neg p) = EachAction H p
 
 -- the action leads from declared packets to declared packets
 unfoldable pub Keeps : (P : Packets) → (P .Packet → Type 0) → FieldAction → Type 0

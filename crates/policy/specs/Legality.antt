@@ -1,4 +1,4 @@
--- Causes 4 to 9 of document 01, each by itself; their order is in `Order`.
+-- Causes 4 to 9 of document 01 and 19 of document 02, each by itself; their order is in `Order`.
 use Prim.Native.Nat.{ℕ, zero, suc, pred, _+_, _≤_, _<_}
 use mathlib.Core.Bool.{Bool, false, not, _||_}
 use mathlib.Core.List.{List, [], _∷_}
@@ -7,18 +7,21 @@ use lib.Dec.{leb, ltb, eqb}
 use lib.ListN.{length, getD}
 use Rattle.policy.specs.declared.FieldAction.{FieldAction}
 use Rattle.policy.specs.declared.FieldAction.the-variants.{Equals, Differs, Set}
+use Rattle.policy.specs.declared.Node.{Node}
+use Rattle.policy.specs.declared.Node.the-variants.{Drop, Id, Field, Dup, Sum, Seq, Star, Neg}
 use Rattle.policy.specs.Tree.{Policy}
+use Rattle.policy.specs.Tests.{isTest}
 use Rattle.policy.specs.InnerTransport.{EachAction}
-use Rattle.policy.specs.NodeLists.{NodeLists, nodeCount, nodeAt, children, one, dupsBelow}
+use Rattle.policy.specs.NodeLists.{NodeLists, nodeCount, nodeAt, children, one, dupsBelow, treeOf}
 
 -- cause 4: lists unequal, empty or over 512
 unfoldable pub badLengths : NodeLists → Bool
 badLengths L =
     not (eqb (length (L .first)) (nodeCount L)) || not (eqb (length (L .second)) (nodeCount L)) || eqb (nodeCount L) 0 || ltb 512 (nodeCount L)
 
--- cause 5: kind over 8
+-- cause 5: kind over 9
 unfoldable pub badKind : NodeLists → ℕ → Bool
-badKind L i = ltb 8 (getD (L .kind) i 0)
+badKind L i = ltb 9 (getD (L .kind) i 0)
 
 -- there is no field f, or v is no value of it
 unfoldable pub badField : List ℕ → ℕ → ℕ → Bool
@@ -28,7 +31,7 @@ badField sizes f v = leb (length sizes) f || leb (getD sizes f 0) v
 unfoldable pub used : ℕ → Bool
 used a = not (eqb a 0)
 
--- cause 6: field, value or unused entry wrong; kinds 6 and 7 use both entries, kind 8 the first
+-- cause 6: field, value or unused entry wrong; kinds 6 and 7 use both entries, kinds 8 and 9 the first
 unfoldable pub wrongEntries : List ℕ → ℕ → ℕ → ℕ → Bool
 wrongEntries sizes zero a b = used a || used b
 wrongEntries sizes (suc zero) a b = used a || used b
@@ -65,6 +68,21 @@ timesChild L j (suc n) = timesChild L j n + occurrences j (children (nodeAt L n)
 unfoldable pub notOnce : NodeLists → ℕ → Bool
 notOnce L j = not (eqb (timesChild L j (nodeCount L)) 1)
 
+-- a node that negates a policy not built from kinds 0 to 3, 6, 7 and 9 only
+unfoldable pub negatesOther : NodeLists → Node → Bool
+negatesOther L Drop = false
+negatesOther L Id = false
+negatesOther L (Field a) = false
+negatesOther L Dup = false
+negatesOther L (Sum l r) = false
+negatesOther L (Seq l r) = false
+negatesOther L (Star c) = false
+negatesOther L (Neg c) = not (isTest (treeOf L c))
+
+-- cause 19: node i is a kind 9 that stands over any other kind
+unfoldable pub badNegation : NodeLists → ℕ → Bool
+badNegation L i = negatesOther L (nodeAt L i)
+
 -- the most dups that a policy may have
 unfoldable pub maxDups : ℕ
 maxDups = 31
@@ -82,9 +100,10 @@ pub record WellFormed (sizes : List ℕ) (L : NodeLists) : Type 0 where
   pub entries : (i : ℕ) → i < nodeCount L → badEntries sizes L i ≡ false
   pub below : (i : ℕ) → i < nodeCount L → badChild L i ≡ false
   pub once : (j : ℕ) → timesChild L j (nodeCount L) ≤ 1
+  pub negations : (i : ℕ) → i < nodeCount L → badNegation L i ≡ false
   pub dups : dupsBelow L (nodeCount L) ≤ maxDups
 
--- legal lists: none of causes 4 to 9 holds
+-- legal lists: none of causes 4 to 9 and 19 holds
 pub record Legal (sizes : List ℕ) (L : NodeLists) : Type 0 where
   pub wellFormed : WellFormed sizes L
   pub some : 0 < nodeCount L

@@ -1,5 +1,6 @@
 pub mod Tree
 pub mod Meaning
+pub mod Tests
 pub mod NodeLists
 pub mod Legality
 pub mod Order

@@ -1,4 +1,4 @@
--- The meaning of a policy: document 000, Figure 1. From an entering packet a policy has a set of traces. A trace is a non-empty
+-- The meaning of a policy: document 000, Figure 1, and document 02's negation. From an entering packet a policy has a set of traces. A trace is a non-empty
 -- list of packets, oldest first; the entering packet is not in it unless recorded.
 use Prim.Native.Nat.{ℕ, zero, suc, _<_}
 use mathlib.Core.Bool.{Bool, not}
@@ -11,7 +11,7 @@ use Rattle.packet.specs.Packets.{valueAt, changed}
 use Rattle.packet.specs.Sizes.{product}
 use Rattle.policy.specs.declared.FieldAction.{FieldAction}
 use Rattle.policy.specs.declared.FieldAction.the-variants.{Equals, Differs, Set}
-use Rattle.policy.specs.Tree.{Policy, drop, id, field, dup, sum, seq, star}
+use Rattle.policy.specs.Tree.{Policy, drop, id, field, dup, sum, seq, star, neg}
 
 -- what Figure 1 asks of packets: to test whether field f has value v, and to change field f to v
 pub record Packets : Type 1 where
@@ -44,6 +44,10 @@ module _ (P : Packets) where
   Power A zero α t = t ≡ α ∷ []
   Power A (suc n) α t = Seq A (Power A n) α t
 
+  -- a policy drops α: it has no trace from α
+  unfoldable pub Drops : TraceSet P → P .Packet → Type 0
+  Drops A α = (t : List (P .Packet)) → A α t → ⊥
+
   -- ⟦p⟧(α): t is a trace of p from α
   unfoldable pub Traces : Policy → TraceSet P
   Traces drop α t = ⊥
@@ -53,6 +57,7 @@ module _ (P : Packets) where
   Traces (sum p q) α t = Traces p α t ⊎ Traces q α t
   Traces (seq p q) α t = Seq (Traces p) (Traces q) α t
   Traces (star p) α t = (n : ℕ) × Power (Traces p) n α t
+  Traces (neg p) α t = Drops (Traces p) α × (t ≡ α ∷ [])
 
 -- declared packets: a value for each field
 abbrev pub declared : Packets

@@ -6,8 +6,8 @@ use mathlib.Core.Path.{_≡_}
 use lib.ListN.{length, getD}
 use Rattle.policy.specs.declared.FieldAction.the-variants.{Equals, Differs, Set}
 use Rattle.policy.specs.declared.Node.{Node}
-use Rattle.policy.specs.declared.Node.the-variants.{Drop, Id, Field, Dup, Sum, Seq, Star}
-use Rattle.policy.specs.Tree.{Policy, drop, id, field, dup, sum, seq, star}
+use Rattle.policy.specs.declared.Node.the-variants.{Drop, Id, Field, Dup, Sum, Seq, Star, Neg}
+use Rattle.policy.specs.Tree.{Policy, drop, id, field, dup, sum, seq, star, neg}
 
 pub record NodeLists : Type 0 where
   pub kind : List ℕ
@@ -17,7 +17,7 @@ pub record NodeLists : Type 0 where
 unfoldable pub nodeCount : NodeLists → ℕ
 nodeCount L = length (L .kind)
 
--- a node from its kind and its two entries; a kind over 8, which no legal policy has, reads as ⊥
+-- a node from its kind and its two entries; a kind over 9, which no legal policy has, reads as ⊥
 unfoldable pub nodeOf : ℕ → ℕ → ℕ → Node
 nodeOf zero a b = Drop
 nodeOf (suc zero) a b = Id
@@ -28,7 +28,8 @@ nodeOf (suc (suc (suc (suc (suc zero))))) a b = Dup
 nodeOf (suc (suc (suc (suc (suc (suc zero)))))) a b = Sum a b
 nodeOf (suc (suc (suc (suc (suc (suc (suc zero))))))) a b = Seq a b
 nodeOf (suc (suc (suc (suc (suc (suc (suc (suc zero)))))))) a b = Star a
-nodeOf (suc (suc (suc (suc (suc (suc (suc (suc (suc k))))))))) a b = Drop
+nodeOf (suc (suc (suc (suc (suc (suc (suc (suc (suc zero))))))))) a b = Neg a
+nodeOf (suc (suc (suc (suc (suc (suc (suc (suc (suc (suc k)))))))))) a b = Drop
 
 unfoldable pub nodeAt : NodeLists → ℕ → Node
 nodeAt L i = nodeOf (getD (L .kind) i 0) (getD (L .first) i 0) (getD (L .second) i 0)
@@ -41,6 +42,7 @@ children Dup = []
 children (Sum l r) = l ∷ r ∷ []
 children (Seq l r) = l ∷ r ∷ []
 children (Star c) = c ∷ []
+children (Neg c) = c ∷ []
 
 unfoldable pub one : Bool → ℕ
 one true = 1
@@ -54,6 +56,7 @@ isDup Dup = true
 isDup (Sum l r) = false
 isDup (Seq l r) = false
 isDup (Star c) = false
+isDup (Neg c) = false
 
 -- how many of the first n nodes are dup
 unfoldable pub dupsBelow : NodeLists → ℕ → ℕ
@@ -69,11 +72,16 @@ grow tree label Dup = dup label
 grow tree label (Sum l r) = sum (tree l) (tree r)
 grow tree label (Seq l r) = seq (tree l) (tree r)
 grow tree label (Star c) = star (tree c)
+grow tree label (Neg c) = neg (tree c)
 
 -- the tree of node n, going down at most as many levels as the fuel says: any fuel above n will do
 unfoldable pub treeAt : NodeLists → ℕ → ℕ → Policy
 treeAt L zero n = drop
 treeAt L (suc fuel) n = grow (treeAt L fuel) (dupsBelow L (suc n)) (nodeAt L n)
+
+-- the tree of node n
+unfoldable pub treeOf : NodeLists → ℕ → Policy
+treeOf L n = treeAt L (suc n) n
 
 -- the policy of the lists: the last node is the policy
 unfoldable pub policyOf : NodeLists → Policy
@@ -88,3 +96,4 @@ TreeOf L n (dup i) = (nodeAt L n ≡ Dup) × (i ≡ dupsBelow L (suc n))
 TreeOf L n (sum p q) = (l : ℕ) × (r : ℕ) × (nodeAt L n ≡ Sum l r) × TreeOf L l p × TreeOf L r q
 TreeOf L n (seq p q) = (l : ℕ) × (r : ℕ) × (nodeAt L n ≡ Seq l r) × TreeOf L l p × TreeOf L r q
 TreeOf L n (star p) = (c : ℕ) × (nodeAt L n ≡ Star c) × TreeOf L c p
+TreeOf L n (neg p) = (c : ℕ) × (nodeAt L n ≡ Neg c) × TreeOf L c p

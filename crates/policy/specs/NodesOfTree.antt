@@ -3,7 +3,7 @@ use Prim.Native.Nat.{ℕ, pred, _+_}
 use mathlib.Core.List.{List, [], _∷_, _++_, map}
 use Rattle.policy.specs.declared.FieldAction.{FieldAction}
 use Rattle.policy.specs.declared.FieldAction.the-variants.{Equals, Differs, Set}
-use Rattle.policy.specs.Tree.{Policy, drop, id, field, dup, sum, seq, star}
+use Rattle.policy.specs.Tree.{Policy, drop, id, field, dup, sum, seq, star, neg}
 use Rattle.policy.specs.NodeLists.{NodeLists}
 
 -- one node as its numbers
@@ -29,6 +29,7 @@ treeSize (dup i) = 1
 treeSize (sum p q) = treeSize p + treeSize q + 1
 treeSize (seq p q) = treeSize p + treeSize q + 1
 treeSize (star p) = treeSize p + 1
+treeSize (neg p) = treeSize p + 1
 
 -- the nodes of a tree whose first node has the number base
 unfoldable pub entriesFrom : ℕ → Policy → List NodeEntry
@@ -41,6 +42,7 @@ entriesFrom base (sum p q) =
 entriesFrom base (seq p q) =
     entriesFrom base p ++ entriesFrom (base + treeSize p) q ++ nodeEntry 7 (pred (base + treeSize p)) (pred (base + treeSize p + treeSize q)) ∷ []
 entriesFrom base (star p) = entriesFrom base p ++ nodeEntry 8 (pred (base + treeSize p)) 0 ∷ []
+entriesFrom base (neg p) = entriesFrom base p ++ nodeEntry 9 (pred (base + treeSize p)) 0 ∷ []
 
 unfoldable pub listsOf : List NodeEntry → NodeLists
 listsOf es =
@@ -58,3 +60,4 @@ unlabelled (dup i) = dup 0
 unlabelled (sum p q) = sum (unlabelled p) (unlabelled q)
 unlabelled (seq p q) = seq (unlabelled p) (unlabelled q)
 unlabelled (star p) = star (unlabelled p)
+unlabelled (neg p) = neg (unlabelled p)

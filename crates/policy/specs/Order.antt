@@ -12,7 +12,7 @@ use Rattle.packet.specs.declared.Tested.{Tested}
 use Rattle.packet.specs.declared.Tested.the-variants.{Passed}
 use Rattle.policy.specs.declared.order.Stages.{Stages}
 use Rattle.policy.specs.NodeLists.{NodeLists, nodeCount}
-use Rattle.policy.specs.Legality.{badLengths, badKind, badEntries, badChild, notOnce, tooManyDups}
+use Rattle.policy.specs.Legality.{badLengths, badKind, badEntries, badChild, notOnce, badNegation, tooManyDups}
 
 -- The stages of a call, in the order tested: a stage that comes elsewhere is a line that moves, here and in `in_order`. 18 comes before them
 -- all, 11 and 12 after. The search on two texts reads them only where the stages before `texts` pass.
@@ -21,7 +21,7 @@ order stages =
     stages .fields  -- 1, 2
     ∷ stages .product  -- 3
     ∷ stages .texts  -- 14 to 17 on the left text, then on the right
-    ∷ stages .policies  -- 4 to 9
+    ∷ stages .policies  -- 4 to 9 and 19
     ∷ stages .lists  -- 10
     ∷ stages .packets  -- 13
     ∷ []
@@ -42,6 +42,7 @@ causes sizes =
     ∷ (6, λ L. lowest (badEntries sizes L) (nodeCount L))
     ∷ (7, λ L. lowest (badChild L) (nodeCount L))
     ∷ (8, λ L. lowest (notOnce L) (pred (nodeCount L)))
+    ∷ (19, λ L. lowest (badNegation L) (nodeCount L))
     ∷ (9, λ L. lowest (tooManyDups L) (nodeCount L))
     ∷ []
 

@@ -7,4 +7,4 @@ pub data Policy : Type 0 where
   field : FieldAction → Policy
   dup : ℕ → Policy
   sum seq : Policy → Policy → Policy
-  star : Policy → Policy
+  star neg : Policy → Policy

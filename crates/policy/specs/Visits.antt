@@ -1,7 +1,7 @@
 -- The nodes that stand in the tree of a node, and the labels of a tree's dups.
 use Prim.Native.Nat.{ℕ, zero, suc, _<_, _≤_}
 use mathlib.Core.List.{List, [], _∷_, _++_}
-use Rattle.policy.specs.Tree.{Policy, drop, id, field, dup, sum, seq, star}
+use Rattle.policy.specs.Tree.{Policy, drop, id, field, dup, sum, seq, star, neg}
 use Rattle.policy.specs.NodeLists.{NodeLists, nodeAt, children}
 use Rattle.policy.specs.Legality.{occurrences}
 
@@ -32,6 +32,7 @@ labels (dup i) = i ∷ []
 labels (sum p q) = labels p ++ labels q
 labels (seq p q) = labels p ++ labels q
 labels (star p) = labels p
+labels (neg p) = labels p
 
 -- dup i stands in the policy
 abbrev pub HasDup : Policy → ℕ → Type 0

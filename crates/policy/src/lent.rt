@@ -24,6 +24,7 @@ pub fn node_at(kind: &[u8], first: &[u16], second: &[u16], i: usize) -> Node
         6 => Node::Sum(a, b),
         7 => Node::Seq(a, b),
         8 => Node::Star(a),
+        9 => Node::Neg(a),
         _ => Node::Drop,
     }
 }

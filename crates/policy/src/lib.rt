@@ -10,7 +10,7 @@ pub enum FieldAction {
     Set(u16, u16),
 }
 
-// A node of a policy; sum, sequence and star carry the numbers of their children.
+// A node of a policy; sum, sequence, star and negation carry the numbers of their children.
 pub enum Node {
     Drop,
     Id,
@@ -19,4 +19,5 @@ pub enum Node {
     Sum(u16, u16),
     Seq(u16, u16),
     Star(u16),
+    Neg(u16),
 }

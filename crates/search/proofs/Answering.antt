@@ -97,7 +97,7 @@ module _ (sizes : List ℕ) (L R : NodeLists) (x : SearchLists) {said : Tested} 
   tests-pass e = (sym tests-are ∙ e, f .packets e)
 
 module _ {sizes : List ℕ} {L R : NodeLists} {x : SearchLists} where
-  -- ---- where no cause of 1 to 10 holds
+  -- ---- where no cause up to 10 holds
 
   module _ {count : ℕ} (A : Accepted sizes L R count x) where
     pub load-ready : LoadReady sizes L R count (replicate 2 (replicate 544 0)) (replicate 2 (replicate 8224 0))

@@ -43,7 +43,7 @@ lentAtEntry P L R Q trace work = lent (P .entry .now) (L .entry .now) (R .entry 
 abbrev pub lentAtExit : (P L R Q trace work : Both (RefT (List ℕ)) (RefT (List ℕ))) → SearchLists
 lentAtExit P L R Q trace work = lent (P .exit .now) (L .exit .now) (R .exit .now) (Q .exit .now) (trace .exit .now) (work .exit .now)
 
--- the lists that a search leaves where no cause of 1 to 10 holds: the rows listed first, entries beyond as they were; the work list all 0
+-- the lists that a search leaves where no cause up to 10 holds: the rows listed first, entries beyond as they were; the work list all 0
 unfoldable pub filled : Columns → SearchAnswer → SearchLists → SearchLists
 filled rows a x =
     record {
@@ -64,7 +64,7 @@ lentAfter Passed rows a x = filled rows a x
 lentAfter (Stopped r) rows a x = x
 
 module _ (sizes : List ℕ) (L R : NodeLists) (x : SearchLists) where
-  -- causes 1 to 10 in the order tested
+  -- the causes up to 10 in the order tested
   unfoldable pub searchTests : Tested
   searchTests = lentTests sizes L R (listsStage (length (x .packets) ∷ length (x .lefts) ∷ length (x .rights) ∷ length (x .parents) ∷ []) (length (x .work)))
 
@@ -100,7 +100,7 @@ module _ (sizes : List ℕ) (L R : NodeLists) (x : SearchLists) where
     -- and it names the rows lent
     pub full-place : (r : Refusal) → verdict ≡ Full r → r ≡ refusal 11 0 (length (x .packets))
 
--- what is known of the lent lists where no cause of 1 to 10 holds, and N = count
+-- what is known of the lent lists where no cause up to 10 holds, and N = count
 pub record Accepted (sizes : List ℕ) (L R : NodeLists) (count : ℕ) (x : SearchLists) : Type 0 where
   pub legal : LegalSizes sizes
   pub left-legal : Legal sizes L
@@ -112,7 +112,7 @@ pub record Accepted (sizes : List ℕ) (L R : NodeLists) (count : ℕ) (x : Sear
   pub few : length (x .packets) ≤ 65535
   pub long : 16384 ≤ length (x .work)
 
--- the verdict and the lists after a search where no cause of 1 to 10 holds
+-- the verdict and the lists after a search where no cause up to 10 holds
 pub record SearchDone (sizes : List ℕ) (L R : NodeLists) (x : SearchLists) (verdict : Verdict) (y : SearchLists) : Type 0 where
   pub answers : verdict ≡ verdictOf (answerHere sizes L R x)
   pub leaves : y ≡ filled (rowsHere sizes L R x) (answerHere sizes L R x) x

@@ -199,7 +199,7 @@ fn run(
     }
 }
 
-// Inner: the search where no cause of 1 to 10 holds.
+// Inner: the search where no cause up to 10 holds.
 fn search_accepted(
     sizes: &[u16],
     count: u16,
@@ -249,7 +249,7 @@ fn search_accepted(
 }
 
 // Whether two policies have the same traces from every packet: equal, or a shortest trace that one of them alone has, written to the trace list.
-// The row lists hold the rows of the row order listed so far, the work list is 0; refusals 1 to 10 leave all lists as they were.
+// The row lists hold the rows of the row order listed so far, the work list is 0; refusals up to 10 leave all lists as they were.
 pub fn search(
     sizes: &[u16],
     left_kind: &[u8],

@@ -40,7 +40,7 @@ abbrev pub textPolicies : List ℕ → List ℕ → Pair NumberedPolicy
 textPolicies left right = record { left = textPolicy left; right = textPolicy right }
 
 module _ (sizes left right : List ℕ) (x : SearchLists) where
-  -- causes 1 to 3; 14 to 17 on the left text, then on the right; 4 to 9; 10
+  -- causes 1 to 3; 14 to 17 on the left text, then on the right; 4 to 9 and 19; 10
   unfoldable pub textsTests : Tested
   textsTests =
       inOrder

@@ -9,16 +9,65 @@ use lib.ListN.{length}
 use Rattle.policy.specs.AsLists.{asLists}
 use Rattle.policy.specs.NodeLists.{NodeLists}
 use Rattle.policy.specs.NodesOfTree.{nodeEntry}
+use Rattle.policy.proofs.Postfix.{size-positive}
 use Rattle.grammar.specs.Tokens.{tokensFrom, fieldNames}
 use Rattle.grammar.specs.InnerKinds.{frontKind}
+use Rattle.grammar.specs.Reading.{Before, nothing, wants, readOn}
 use Rattle.tokens.specs.Inner.{TokenFrom}
-use Rattle.text.specs.Inner.{ReaderLevel, item, starred, joined, sequence, added, sum, Entered, putEntry, ReaderReady, LeafDone, NodeJoined, Got, Done}
+use Rattle.text.specs.Inner.{ReaderLevel, bare, item, starred, joined, sequence, added, sum, Entered, putEntry, putNegations, moreNegations, ReaderReady, Scanned, LeafDone, NodeJoined, Got, Done}
 use Rattle.tokens.specs.declared.Token as Found
+use Rattle.text.specs.declared.NegationRun as Scan
 use Rattle.text.specs.declared.Step as Stepped
 use Rattle.text.specs.declared.Leaf as Leaves
 use Rattle.tokens.proofs.TokensLeft.{no-more, fewer-next}
-use Rattle.text.proofs.PutLaws.{size-pos}
-use Rattle.text.proofs.StepLaws.{leaf-item, star-turn, star-ends, sequence-starts, sequence-ends, sum-starts, sum-ends, done-got, done-stopped, done-as}
+use Rattle.text.proofs.PutLaws.{negations-more}
+use Rattle.text.proofs.StepLaws.{leaf-item, scanned-none, scanned-more, star-turn, star-ends, sequence-starts, sequence-ends, sum-starts, sum-ends, done-got, done-stopped, done-as}
+
+-- so many ! stand between the bytes at and i
+pub record Marked (text : List ℕ) (at count i : ℕ) : Type 0 where
+  pub moves : (b : Before) (cs : List Before)
+      → readOn (length text) (wants b cs) (tokensFrom fieldNames text at) ≡ readOn (length text) (wants (moreNegations count b) cs) (tokensFrom fieldNames text i)
+  pub few : at + count ≤ i
+  pub within : i ≤ length text
+
+pub marked-none : (text : List ℕ) (at : ℕ) → at ≤ length text → Marked text at 0 at
+marked-none text at h = record { moves = scanned-none text 0 at; few = omega arith; within = h }
+
+pub marked-more : (text : List ℕ) {at count i : ℕ} {t : Found.Token} → Marked text at count i → TokenFrom text i t → t .kind ≡ 11 → Marked text at (count + 1) (t .next)
+marked-more text {count = count} {t = t} m f e =
+    let l : t .start < t .next = f .onward (λ q. omega (arith, e, q)) in
+    record {
+      moves = λ b cs. m .moves b cs ∙ scanned-more text 0 count f e b cs;
+      few = omega (arith, m .few, f .low);
+      within = f .within;
+    }
+
+pub marked-over : (text : List ℕ) {at count i : ℕ} {t : Found.Token} → Marked text at count i → TokenFrom text i t → (t .kind ≡ 11 → ⊥)
+    → Scanned text at (record { count = count; at = i; token = t })
+marked-over text m f h = record { moves = m .moves; token-is = f; over = h; few = m .few; within = m .within }
+
+-- i of the nodes that negate have been written, from where the loop begins
+pub record Negating (count room base : ℕ) (K₀ F₀ S₀ K F S : List ℕ) (i : ℕ) : Type 0 where
+  pub kinds : length K ≡ length K₀
+  pub firsts : length F ≡ length F₀
+  pub seconds : length S ≡ length S₀
+  pub few : i ≤ count
+  pub lists-are : asLists K F S ≡ putNegations room base i (asLists K₀ F₀ S₀)
+
+module _ {count room base i : ℕ} {K₀ F₀ S₀ K F S : List ℕ} (n : Negating count room base K₀ F₀ S₀ K F S i) where
+  pub negating-more : {K′ F′ S′ : List ℕ} → i < count → length K′ ≡ length K → length F′ ≡ length F → length S′ ≡ length S
+      → asLists K′ F′ S′ ≡ putEntry room (base + i) (nodeEntry 9 (base + i - 1) 0) (asLists K F S) → Negating count room base K₀ F₀ S₀ K′ F′ S′ (i + 1)
+  negating-more h k f s e =
+      record {
+        kinds = k ∙ n .kinds;
+        firsts = f ∙ n .firsts;
+        seconds = s ∙ n .seconds;
+        few = omega arith;
+        lists-are = negations-more room base i (asLists K₀ F₀ S₀) (n .lists-are) e;
+      }
+
+  pub negating-all : count ≤ i → asLists K F S ≡ putNegations room base count (asLists K₀ F₀ S₀)
+  negating-all h = let e : i ≡ count = omega (arith, n .few) in n .lists-are ∙ ap (λ (k : ℕ). putNegations room base k (asLists K₀ F₀ S₀)) e
 
 -- from where the loop begins to where it is: the lengths, and what has been done since the reader began at the lists E
 pub record Kept (l : ReaderLevel) (text : List ℕ) (at nodes room : ℕ) (K₀ F₀ S₀ : List ℕ) (s₀ : Stepped.Step) (K F S : List ℕ) (s : Stepped.Step) : Type 0 where
@@ -39,7 +88,15 @@ module _ (text : List ℕ) (room : ℕ) where
   onward {t = t} f e h = let l : t .start < t .next = f .onward (λ q. h (sym e ∙ q)) in omega (arith, f .low)
 
   pub nodes-pos : {l : ReaderLevel} {at nodes : ℕ} {L L′ : NodeLists} {s : Stepped.Step} → Got l text at nodes room L s L′ → 0 < s .nodes
-  nodes-pos g = omega (arith, g .nodes-is, size-pos (g .policy))
+  nodes-pos g = omega (arith, g .nodes-is, size-positive (g .policy))
+
+  pub scanned-low : {at : ℕ} {x : Scan.NegationRun} → Scanned text at x → at ≤ x .at
+  scanned-low x = omega (arith, x .few)
+
+  -- the token after a run of !
+  pub ready-scanned : {at nodes : ℕ} {L : NodeLists} {x : Scan.NegationRun} → ReaderReady text at nodes room L → Scanned text at x → ReaderReady text (x .at) nodes room L
+  ready-scanned r x =
+      record { within = x .within; few = omega (arith, r .few, x .few); small = r .small; kinds = r .kinds; firsts = r .firsts; seconds = r .seconds }
 
   -- the token after the present one
   pub ready-open : {at nodes k : ℕ} {L : NodeLists} {t : Found.Token} → ReaderReady text at nodes room L → TokenFrom text at t → t .kind ≡ k → (k ≡ 1 → ⊥) → ReaderReady text (t .next) nodes room L
@@ -61,12 +118,13 @@ module _ (text : List ℕ) (room : ℕ) where
 
   -- an item that is one node
   pub item-leaf : {at nodes : ℕ} {L L′ : NodeLists} {w : Leaves.Leaf} → LeafDone text at w → w .ok ≡ true → L′ ≡ putEntry room nodes (nodeEntry (w .kind) (w .first) (w .second)) L
-      → Done item text at nodes room L (record { ok = true; at = w .at; nodes = nodes + 1 }) L′
+      → Done bare text at nodes room L (record { ok = true; at = w .at; nodes = nodes + 1 }) L′
   item-leaf d o l =
       done-got text room refl (leaf-item text room (d .got o) l)
 
-  pub item-stops : {at nodes : ℕ} {L : NodeLists} {w : Leaves.Leaf} → LeafDone text at w → w .ok ≡ false → Done item text at nodes room L (record { ok = false; at = w .at; nodes = nodes }) L
-  item-stops d o = done-stopped text room refl (λ b h cs. d .stopped o b cs)
+  pub item-stops : {at nodes : ℕ} {L : NodeLists} {x : Scan.NegationRun} {w : Leaves.Leaf} → Scanned text at x → LeafDone text (x .at) w → w .ok ≡ false
+      → Done item text at nodes room L (record { ok = false; at = w .at; nodes = nodes }) L
+  item-stops {x = x} s d o = done-stopped text room refl (λ b h cs. s .moves b cs ∙ d .stopped o (moreNegations (x .count) b) cs)
 
   -- one more *
   pub star-next : {at nodes : ℕ} {L L₁ L₂ : NodeLists} {s : Stepped.Step} {t : Found.Token} → s .ok ≡ true → TokenFrom text (s .at) t → t .kind ≡ 8
@@ -84,7 +142,7 @@ module _ (text : List ℕ) (room : ℕ) where
 
   pub sequence-entry : {at nodes : ℕ} {L L₁ : NodeLists} {s : Stepped.Step} → Done starred text at nodes room L s L₁ → Done joined text at nodes room L s L₁
   unfolding Entered
-  sequence-entry d = done-as text room d (λ g. sequence-starts text room g) (λ b h. tt)
+  sequence-entry d = done-as text room d (λ g. sequence-starts text room g) (λ b h. h .1)
 
   pub sequence-exit : {at nodes : ℕ} {L L₁ : NodeLists} {s : Stepped.Step} → s .ok ≡ true → (frontKind (tokensFrom fieldNames text (s .at)) ≡ 7 → ⊥) → Done joined text at nodes room L s L₁ → Done sequence text at nodes room L s L₁
   sequence-exit o h d = done-got text room o (sequence-ends text room (d .got o) h)
@@ -94,8 +152,8 @@ module _ (text : List ℕ) (room : ℕ) where
   sequence-fails o d = done-stopped text room o (d .stopped o)
 
   pub sum-entry : {at nodes : ℕ} {L L₁ : NodeLists} {s : Stepped.Step} → Done sequence text at nodes room L s L₁ → Done added text at nodes room L s L₁
-  unfolding Entered Rattle.grammar.specs.Reading.nothing
-  sum-entry d = done-as text room d (λ g. sum-starts text room g) (λ b h. ap (λ (x : Rattle.grammar.specs.Reading.Before). x .sequenced) h)
+  unfolding Entered nothing
+  sum-entry d = done-as text room d (λ g. sum-starts text room g) (λ b h. (ap (λ (x : Before). x .sequenced) h, ap (λ (x : Before). x .negations) h))
 
   pub sum-exit : {at nodes : ℕ} {L L₁ : NodeLists} {s : Stepped.Step} → s .ok ≡ true → (frontKind (tokensFrom fieldNames text (s .at)) ≡ 6 → ⊥) → Done added text at nodes room L s L₁ → Done sum text at nodes room L s L₁
   sum-exit o h d = done-got text room o (sum-ends text room (d .got o) h)
@@ -116,6 +174,18 @@ module _ (text : List ℕ) (room : ℕ) where
       go : (b : Bool) → r .ok ≡ b → left text s′ < left text s
       go true q = rw (j .made q .0, o) (omega (arith, fewer-next text (le-refl (s .at)) f e h, no-more fieldNames text (t .next) (r .at) (le-of-lt (d .got q .onward))))
       go false q = rw (j .failed q .0, q, o) (omega arith)
+
+  -- what negating asks
+  pub negate-ready : {at nodes a b c : ℕ} {K F S : List ℕ} {L₁ L₂ : NodeLists} {x : Scan.NegationRun} {r : Stepped.Step} → length text < 2 ^ 63 → ReaderReady text at nodes room (asLists K F S)
+      → a ≡ length K → b ≡ length F → c ≡ length S → Scanned text at x → Done bare text (x .at) nodes room L₁ r L₂
+      → (room ≤ a) × (room ≤ b) × (room ≤ c) × (room ≤ 512) × (r .ok ≡ true → (0 < r .nodes) × (r .nodes + x .count < 2 ^ 63))
+  negate-ready big y p q s x d = (
+    omega (arith, y .kinds, p),
+    omega (arith, y .firsts, q),
+    omega (arith, y .seconds, s),
+    y .small,
+    λ o. (nodes-pos (d .got o), omega (arith, d .got o .few, d .got o .within, x .few, y .few)),
+  )
 
   -- what joining asks
   pub join-ready : {l : ReaderLevel} {next n a b c : ℕ} {K F S : List ℕ} {L₁ L₂ : NodeLists} {r : Stepped.Step} → length text < 2 ^ 63 → ReaderReady text next n room (asLists K F S)

@@ -1,7 +1,7 @@
 -- Writing entries one after the other, as far as there is room.
-use Prim.Native.Nat.{ℕ, suc, pred, _+_, _-_, _≤_, _<_}
+use Prim.Native.Nat.{ℕ, zero, suc, pred, _+_, _-_, _≤_, _<_}
 use native.Mathlib.Nat.{add-zero, zero-add}
-use native.Mathlib.Numerals.{sub-one}
+use native.Mathlib.Numerals.{add-one, sub-one}
 use native.Mathlib.Omega.{arith}
 use mathlib.Core.Bool.{Bool, true, false}
 use mathlib.Core.List.{List, [], _∷_, _++_}
@@ -11,23 +11,13 @@ use lib.ListN.{length, set, drop, length-append, length-map}
 use lib.Seq.{sets, sets-eq}
 use borrow.Author.Tests.{lt-ltb, le-ltb, ltb-true}
 use Rattle.policy.specs.AsLists.{asLists}
-use Rattle.policy.specs.Tree.{Policy, drop as ⊥ₚ, id, field, dup, sum, seq, star}
+use Rattle.policy.specs.Tree.{Policy, star}
 use Rattle.policy.specs.NodeLists.{NodeLists}
 use Rattle.policy.specs.NodesOfTree.{NodeEntry, nodeEntry, treeSize, entriesFrom, listsOf}
 use Rattle.policy.proofs.Nodes.{entries-length}
+use Rattle.grammar.specs.Reading.{negated}
 use Rattle.packet.specs.Written.{written}
-use Rattle.text.specs.Inner.{putAt, putEntry, putAll}
-
--- a tree has at least one node
-pub size-pos : (p : Policy) → 0 < treeSize p
-unfolding treeSize
-size-pos ⊥ₚ = omega arith
-size-pos id = omega arith
-size-pos (field a) = omega arith
-size-pos (dup i) = omega arith
-size-pos (sum p q) = omega arith
-size-pos (seq p q) = omega arith
-size-pos (star p) = omega arith
+use Rattle.text.specs.Inner.{putAt, putEntry, putAll, putNegations}
 
 pub put-append : (room n : ℕ) (xs ys : List NodeEntry) (L : NodeLists) → putAll room n (xs ++ ys) L ≡ putAll room (n + length xs) ys (putAll room n xs L)
 unfolding putAll
@@ -40,12 +30,37 @@ put-last : (room n : ℕ) (xs : List NodeEntry) (e : NodeEntry) (m : ℕ) (L : N
 unfolding putAll
 put-last room n xs e m L q = ap (λ (k : ℕ). putEntry room k e (putAll room n xs L)) q ∙ sym (put-append room n xs (e ∷ []) L)
 
+-- a node over the last one
+put-over : (k room n m : ℕ) (p : Policy) (L : NodeLists) → m ≡ n + treeSize p
+    → putEntry room m (nodeEntry k (m - 1) 0) (putAll room n (entriesFrom n p) L) ≡ putAll room n (entriesFrom n p ++ nodeEntry k (pred (n + treeSize p)) 0 ∷ []) L
+put-over k room n m p L q =
+    ap (λ (x : ℕ). putEntry room m (nodeEntry k x 0) (putAll room n (entriesFrom n p) L)) (sub-one m ∙ ap pred q)
+    ∙ put-last room n (entriesFrom n p) (nodeEntry k (pred (n + treeSize p)) 0) m L (q ∙ ap (λ (x : ℕ). n + x) (sym (entries-length n p)))
+
 pub put-star : (room n m : ℕ) (p : Policy) (L : NodeLists) → m ≡ n + treeSize p
     → putEntry room m (nodeEntry 8 (m - 1) 0) (putAll room n (entriesFrom n p) L) ≡ putAll room n (entriesFrom n (star p)) L
 unfolding entriesFrom
-put-star room n m p L q =
-    ap (λ (k : ℕ). putEntry room m (nodeEntry 8 k 0) (putAll room n (entriesFrom n p) L)) (sub-one m ∙ ap pred q)
-    ∙ put-last room n (entriesFrom n p) (nodeEntry 8 (pred (n + treeSize p)) 0) m L (q ∙ ap (λ (k : ℕ). n + k) (sym (entries-length n p)))
+put-star room n m p L q = put-over 8 room n m p L q
+
+-- each negation is a node
+pub negated-size : (k : ℕ) (p : Policy) → treeSize (negated k p) ≡ treeSize p + k
+unfolding treeSize negated
+negated-size zero p = omega arith
+negated-size (suc k) p = omega (arith, negated-size k p)
+
+pub negations-more : (room n k : ℕ) (L : NodeLists) {L₁ L₂ : NodeLists} → L₁ ≡ putNegations room n k L → L₂ ≡ putEntry room (n + k) (nodeEntry 9 (n + k - 1) 0) L₁
+    → L₂ ≡ putNegations room n (k + 1) L
+unfolding putNegations
+negations-more room n k L e f =
+    f ∙ ap (putEntry room (n + k) (nodeEntry 9 (n + k - 1) 0)) e ∙ ap (λ (m : ℕ). putNegations room n m L) (sym (add-one k))
+
+pub put-negated : (room n m k : ℕ) (p : Policy) (L : NodeLists) → m ≡ n + treeSize p
+    → putNegations room m k (putAll room n (entriesFrom n p) L) ≡ putAll room n (entriesFrom n (negated k p)) L
+unfolding putNegations negated entriesFrom
+put-negated room n m zero p L q = refl
+put-negated room n m (suc k) p L q =
+    ap (putEntry room (m + k) (nodeEntry 9 (m + k - 1) 0)) (put-negated room n m k p L q)
+    ∙ put-over 9 room n (m + k) (negated k p) L (omega (arith, q, negated-size k p))
 
 -- the entries of two trees and of the node that joins them
 unfoldable pub joinedEntries : ℕ → ℕ → Policy → Policy → List NodeEntry

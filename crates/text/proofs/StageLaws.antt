@@ -24,7 +24,7 @@ use Rattle.packet.specs.Written.{written}
 use Rattle.grammar.proofs.ReadLaws.{top-ends, top-stops}
 use Rattle.grammar.proofs.AnswerLaws.{parts, nodes-few, answer-is}
 use Rattle.tokens.specs.Inner.{TokenFrom}
-use Rattle.text.specs.Inner.{EndRead, WholeRead, Entered, Past, sum, ReaderReady, Got, Done}
+use Rattle.text.specs.Inner.{EndRead, WholeRead, Entered, After, Past, sum, ReaderReady, Got, Done}
 use Rattle.tokens.specs.declared.Token as Found
 use Rattle.text.specs.declared.Step as Stepped
 use Rattle.text.proofs.StepLaws.{kind-not}
@@ -51,7 +51,7 @@ module _ (text : List ℕ) where
   ended-failed o = record { failed = λ _. refl; over = λ x. absurd (true≢false (sym x ∙ o)); more = λ x. absurd (true≢false (sym x ∙ o)) }
 
   whole-is : {nodes room : ℕ} {L L′ : NodeLists} {s : Stepped.Step} (g : Got sum text 0 nodes room L s L′) → outcome fieldNames text ≡ readOn (length text) (has nothing [] (g .policy)) (tokensFrom fieldNames text (s .at))
-  unfolding outcome tokens start Entered
+  unfolding outcome tokens start Entered After
   whole-is g = g .moves nothing refl []
 
   whole-tree : (p : Policy) → whole nothing p ≡ p

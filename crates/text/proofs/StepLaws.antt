@@ -13,14 +13,15 @@ use Rattle.policy.specs.NodesOfTree.{NodeEntry, nodeEntry, actionEntry, treeSiz
 use Rattle.grammar.specs.Tokens.{Placed, Constant, Comparison, dropped, passed, recorded, equals, differs, assigned, tokensFrom, fieldNames}
 use Rattle.grammar.specs.InnerKinds.{frontKind, constantKind, comparisonKind}
 use Rattle.grammar.specs.Grammar.{constantPolicy, fieldAction}
-use Rattle.grammar.specs.Reading.{Before, nothing, joinSequence, joinSum, upTo, whole, wants, named, compared, has, stop, readOn}
+use Rattle.grammar.specs.Reading.{Before, nothing, joinSequence, joinSum, upTo, whole, negated, State, wants, named, compared, has, negating, itemRead, stop, readOn}
 use Rattle.tokens.specs.Inner.{TokenFrom}
-use Rattle.text.specs.Inner.{ReaderLevel, item, starred, joined, sequence, added, sum, Entered, Past, putEntry, putAll, GotLeaf, LeafDone, ClosingRead, NodeJoined, Got, Done}
+use Rattle.text.specs.Inner.{ReaderLevel, bare, item, starred, joined, sequence, added, sum, Entered, After, Past, putEntry, putAll, putNegations, moreNegations, Scanned, GotLeaf, LeafDone, ClosingRead, NodeJoined, Negated, Got, Done}
 use Rattle.tokens.specs.declared.Token as Found
+use Rattle.text.specs.declared.NegationRun as Scan
 use Rattle.text.specs.declared.Step as Stepped
 use Rattle.text.specs.declared.Leaf as Leaves
-use Rattle.grammar.proofs.ReadLaws.{constant-at, comparison-at, constant-small, comparison-small, wants-stops, named-stops, compared-stops, at-constant, at-field, at-comparison, at-number, at-opening, at-asterisk, at-semicolon, at-plus, at-closing, open-stops, collapse-sequence, collapse-sum}
-use Rattle.text.proofs.PutLaws.{put-star, put-join, joinedEntries}
+use Rattle.grammar.proofs.ReadLaws.{constant-at, comparison-at, constant-small, comparison-small, wants-stops, named-stops, compared-stops, at-constant, at-field, at-comparison, at-number, at-opening, at-exclamation, at-asterisk, at-semicolon, at-plus, at-closing, open-stops, collapse-sequence, collapse-sum}
+use Rattle.text.proofs.PutLaws.{put-star, negated-size, put-negated, put-join, joinedEntries}
 
 constant-size : (c : Constant) → treeSize (constantPolicy c) ≡ 1
 unfolding constantPolicy treeSize
@@ -69,7 +70,7 @@ module _ (text : List ℕ) (room : ℕ) where
         got = λ _.
             record {
               policy = constantPolicy (c .0);
-              moves = λ b cs. at-constant end b cs (toks at) (kind-at f e) ∙ ap₂ (λ (x : Constant) (l : List Placed). readOn end (has b cs (constantPolicy x)) l) (c .2) (sym (f .rest));
+              moves = λ b cs. at-constant end b cs (toks at) (kind-at f e) ∙ ap₂ (λ (x : Constant) (l : List Placed). readOn end (itemRead b cs (constantPolicy x)) l) (c .2) (sym (f .rest));
               one = constant-size (c .0);
               entries = λ n. constant-entries n (c .0) ∙ ap (λ (x : ℕ). nodeEntry x 0 0 ∷ []) (sym q);
               onward = onward-of f e (λ z. omega arith);
@@ -81,9 +82,9 @@ module _ (text : List ℕ) (room : ℕ) where
   leaf-stopped : {at place : ℕ} → ((b : Before) (cs : List Before) → readOn end (wants b cs) (toks at) ≡ stop place) → LeafDone text at (record { ok = false; at = place; kind = 0; first = 0; second = 0 })
   leaf-stopped h = record { got = λ x. absurd (true≢false (sym x)); stopped = λ _. h }
 
-  pub leaf-none : {at : ℕ} {t : Found.Token} → TokenFrom text at t → (t .kind ≡ 2 → ⊥) → (t .kind ≡ 3 → ⊥) → (frontKind (toks at) ≡ 9 → ⊥)
+  pub leaf-none : {at : ℕ} {t : Found.Token} → TokenFrom text at t → (t .kind ≡ 2 → ⊥) → (t .kind ≡ 3 → ⊥) → (frontKind (toks at) ≡ 9 → ⊥) → (frontKind (toks at) ≡ 11 → ⊥)
       → LeafDone text at (record { ok = false; at = t .start; kind = 0; first = 0; second = 0 })
-  leaf-none {at} f x y z = leaf-stopped (λ b cs. wants-stops end b cs (toks at) (kind-not f x) (kind-not f y) z ∙ ap stop (sym (f .start-is)))
+  leaf-none {at} f x y z w = leaf-stopped (λ b cs. wants-stops end b cs (toks at) (kind-not f x) (kind-not f y) z w ∙ ap stop (sym (f .start-is)))
 
   module _ {at : ℕ} {t : Found.Token} (f : TokenFrom text at t) (e : t .kind ≡ 3) {c : Found.Token} (g : TokenFrom text (t .next) c) where
     past-name : (b : Before) (cs : List Before) → readOn end (wants b cs) (toks at) ≡ readOn end (named b cs (t .value)) (toks (t .next))
@@ -115,7 +116,7 @@ module _ (text : List ℕ) (room : ℕ) where
                   policy = Tree.field (fieldAction (m .0) (t .value) (v .value));
                   moves = λ b cs.
                       past-comparison b cs ∙ at-number end b cs (t .value) (m .0) (toks (c .next)) (kind-at w x)
-                      ∙ ap₂ (λ (z : ℕ) (l : List Placed). readOn end (has b cs (Tree.field (fieldAction (m .0) (t .value) z))) l) (sym (w .value-is)) (sym (w .rest));
+                      ∙ ap₂ (λ (z : ℕ) (l : List Placed). readOn end (itemRead b cs (Tree.field (fieldAction (m .0) (t .value) z))) l) (sym (w .value-is)) (sym (w .rest));
                   one = refl;
                   entries = λ n. action-entries n (m .0) (t .value) (v .value) ∙ ap (λ (z : ℕ). nodeEntry z (t .value) (v .value) ∷ []) (sym q);
                   onward =
@@ -130,8 +131,8 @@ module _ (text : List ℕ) (room : ℕ) where
 
   pub leaf-item : {at nodes : ℕ} {L L′ : NodeLists} {w : Leaves.Leaf} → GotLeaf text at w
       → L′ ≡ putEntry room nodes (nodeEntry (w .kind) (w .first) (w .second)) L
-      → Got item text at nodes room L (record { ok = true; at = w .at; nodes = nodes + 1 }) L′
-  unfolding Past putAll
+      → Got bare text at nodes room L (record { ok = true; at = w .at; nodes = nodes + 1 }) L′
+  unfolding Past After putAll
   leaf-item {nodes = n} {L = L} g l =
       record {
         policy = g .policy;
@@ -147,8 +148,8 @@ module _ (text : List ℕ) (room : ℕ) where
   -- ---- a sum in parentheses
 
   pub opened : {at nodes : ℕ} {L L′ : NodeLists} {t : Found.Token} {s r : Stepped.Step} → TokenFrom text at t → t .kind ≡ 9 → Done sum text (t .next) nodes room L s L′ → ClosingRead text s r
-      → Done item text at nodes room L r L′
-  unfolding Entered Past
+      → Done bare text at nodes room L r L′
+  unfolding Entered After Past
   opened {at} {nodes} {L} {L′} {t} {s} {r} k e d c = go (s .ok) refl
     where
       inner : (b : Before) (cs : List Before) → readOn end (wants b cs) (toks at) ≡ readOn end (wants nothing (b ∷ cs)) (toks (t .next))
@@ -157,7 +158,7 @@ module _ (text : List ℕ) (room : ℕ) where
       low : at < t .next
       low = let h : t .start < t .next = k .onward (λ q. omega (arith, e, q)) in omega (arith, k .low)
 
-      go : (o : Bool) → s .ok ≡ o → Done item text at nodes room L r L′
+      go : (o : Bool) → s .ok ≡ o → Done bare text at nodes room L r L′
       go false q =
           record {
             got = λ x. absurd (true≢false (sym x ∙ ap (λ (z : Stepped.Step). z .ok) (c .failed q) ∙ q));
@@ -170,7 +171,7 @@ module _ (text : List ℕ) (room : ℕ) where
                 let y = c .shut q x in
                 record {
                   policy = g .policy;
-                  moves = λ b h cs. inner b cs ∙ g .moves nothing refl (b ∷ cs) ∙ at-closing end b cs (g .policy) (toks (s .at)) (y .0) ∙ ap (readOn end (has b cs (g .policy))) (sym (y .1));
+                  moves = λ b h cs. inner b cs ∙ g .moves nothing refl (b ∷ cs) ∙ at-closing end b cs (g .policy) (toks (s .at)) (y .0) ∙ ap (readOn end (itemRead b cs (g .policy))) (sym (y .1));
                   past = tt;
                   nodes-is = y .4 ∙ g .nodes-is;
                   lists-are = g .lists-are;
@@ -185,12 +186,48 @@ module _ (text : List ℕ) (room : ℕ) where
                 ∙ ap stop (sym (y .1));
           }
 
+  -- ---- a run of !
+
+  pub scanned-none : (at : ℕ) (b : Before) (cs : List Before) → readOn end (wants b cs) (toks at) ≡ readOn end (wants (moreNegations 0 b) cs) (toks at)
+  unfolding moreNegations
+  scanned-none at b cs = ap (λ (n : ℕ). readOn end (wants (record { summed = b .summed; sequenced = b .sequenced; negations = n }) cs) (toks at)) (omega arith)
+
+  pub scanned-more : (count : ℕ) {at : ℕ} {t : Found.Token} → TokenFrom text at t → t .kind ≡ 11 → (b : Before) (cs : List Before)
+      → readOn end (wants (moreNegations count b) cs) (toks at) ≡ readOn end (wants (moreNegations (count + 1) b) cs) (toks (t .next))
+  unfolding moreNegations negating
+  scanned-more count {at} f e b cs =
+      at-exclamation end (moreNegations count b) cs (toks at) (kind-at f e)
+      ∙ ap₂ (λ (n : ℕ) (l : List Placed). readOn end (wants (record { summed = b .summed; sequenced = b .sequenced; negations = n }) cs) l) (omega arith) (sym (f .rest))
+
+  -- what stands after a run of ! is negated by each of them
+  read-negated : (n : ℕ) (b : Before) (cs : List Before) (p : Policy) → b .negations ≡ 0 → itemRead (moreNegations n b) cs p ≡ has b cs (negated n p)
+  unfolding itemRead moreNegations
+  read-negated n b cs p h =
+      ap₂ (λ (m k : ℕ). has (record { summed = b .summed; sequenced = b .sequenced; negations = m }) cs (negated k p)) (sym h) (omega arith)
+
+  item-turn : {at nodes : ℕ} {L L₁ L₂ : NodeLists} {x : Scan.NegationRun} {r : Stepped.Step} → Scanned text at x → Got bare text (x .at) nodes room L r L₁
+      → L₂ ≡ putNegations room (r .nodes) (x .count) L₁ → Got item text at nodes room L (record { ok = true; at = r .at; nodes = r .nodes + x .count }) L₂
+  unfolding Entered After Past
+  item-turn {nodes = nodes} {L = L} {x = x} {r = r} s g l =
+      record {
+        policy = negated (x .count) (g .policy);
+        moves = λ b h cs.
+            s .moves b cs ∙ g .moves (moreNegations (x .count) b) tt cs
+            ∙ ap (λ (z : State). readOn end z (toks (r .at))) (read-negated (x .count) b cs (g .policy) h);
+        past = tt;
+        nodes-is = omega (arith, g .nodes-is, negated-size (x .count) (g .policy));
+        lists-are = l ∙ ap (putNegations room (r .nodes) (x .count)) (g .lists-are) ∙ put-negated room nodes (r .nodes) (x .count) (g .policy) L (g .nodes-is);
+        onward = omega (arith, s .few, g .onward);
+        within = g .within;
+        few = omega (arith, s .few, g .few);
+      }
+
   -- ---- one more *
 
   pub star-turn : {at nodes : ℕ} {L L₁ L₂ : NodeLists} {s : Stepped.Step} {t : Found.Token} → Got item text at nodes room L s L₁ → TokenFrom text (s .at) t → t .kind ≡ 8
       → L₂ ≡ putEntry room (s .nodes) (nodeEntry 8 (s .nodes - 1) 0) L₁
       → Got item text at nodes room L (record { ok = true; at = t .next; nodes = s .nodes + 1 }) L₂
-  unfolding Past treeSize
+  unfolding Past After treeSize
   star-turn {at} {nodes} {L} {s = s} {t = t} g k e l =
       let h : t .start < t .next = k .onward (λ q. omega (arith, e, q)) in
       record {
@@ -205,45 +242,45 @@ module _ (text : List ℕ) (room : ℕ) where
       }
 
   pub star-ends : {at nodes : ℕ} {L L₁ : NodeLists} {s : Stepped.Step} → Got item text at nodes room L s L₁ → (frontKind (toks (s .at)) ≡ 8 → ⊥) → Got starred text at nodes room L s L₁
-  unfolding Past Entered
+  unfolding Past Entered After
   star-ends g h =
       record { policy = g .policy; moves = g .moves; past = h; nodes-is = g .nodes-is; lists-are = g .lists-are; onward = g .onward; within = g .within; few = g .few }
 
   -- ---- one more starred item
 
   pub sequence-starts : {at nodes : ℕ} {L L₁ : NodeLists} {s : Stepped.Step} → Got starred text at nodes room L s L₁ → Got joined text at nodes room L s L₁
-  unfolding Past Entered
+  unfolding Past Entered After
   sequence-starts g =
-      record { policy = g .policy; moves = λ b h cs. g .moves b tt cs; past = g .past; nodes-is = g .nodes-is; lists-are = g .lists-are; onward = g .onward; within = g .within; few = g .few }
+      record { policy = g .policy; moves = λ b h cs. g .moves b (h .1) cs; past = g .past; nodes-is = g .nodes-is; lists-are = g .lists-are; onward = g .onward; within = g .within; few = g .few }
 
   pub sequence-ends : {at nodes : ℕ} {L L₁ : NodeLists} {s : Stepped.Step} → Got joined text at nodes room L s L₁ → (frontKind (toks (s .at)) ≡ 7 → ⊥) → Got sequence text at nodes room L s L₁
-  unfolding Past Entered
+  unfolding Past Entered After
   sequence-ends g h =
       record { policy = g .policy; moves = g .moves; past = (g .past, h); nodes-is = g .nodes-is; lists-are = g .lists-are; onward = g .onward; within = g .within; few = g .few }
 
   -- up to the ; and past it
   past-semicolon : {at nodes : ℕ} {L L₁ : NodeLists} {s : Stepped.Step} {t : Found.Token} (g : Got joined text at nodes room L s L₁) → TokenFrom text (s .at) t → t .kind ≡ 7 → (m : Option Policy) (cs : List Before)
-      → readOn end (wants (record { summed = m; sequenced = none }) cs) (toks at) ≡ readOn end (wants (record { summed = m; sequenced = some (g .policy) }) cs) (toks (t .next))
-  unfolding Entered upTo joinSequence
+      → readOn end (wants (record { summed = m; sequenced = none; negations = 0 }) cs) (toks at) ≡ readOn end (wants (record { summed = m; sequenced = some (g .policy); negations = 0 }) cs) (toks (t .next))
+  unfolding Entered After upTo joinSequence
   past-semicolon {s = s} g k e m cs =
-      g .moves (record { summed = m; sequenced = none }) refl cs ∙ at-semicolon end (record { summed = m; sequenced = none }) cs (g .policy) (toks (s .at)) (kind-at k e)
-      ∙ ap (readOn end (wants (record { summed = m; sequenced = some (g .policy) }) cs)) (sym (k .rest))
+      g .moves (record { summed = m; sequenced = none; negations = 0 }) (refl, refl) cs ∙ at-semicolon end (record { summed = m; sequenced = none; negations = 0 }) cs (g .policy) (toks (s .at)) (kind-at k e)
+      ∙ ap (readOn end (wants (record { summed = m; sequenced = some (g .policy); negations = 0 }) cs)) (sym (k .rest))
 
   -- what holds where nothing is sequenced before holds as the level asks
-  as-joined : (P : Before → Type 0) → ((m : Option Policy) → P (record { summed = m; sequenced = none })) → (b : Before) → b .sequenced ≡ none → P b
-  as-joined P f b h = subst P (λ i. record { summed = b .summed; sequenced = sym h i }) (f (b .summed))
+  as-joined : (P : Before → Type 0) → ((m : Option Policy) → P (record { summed = m; sequenced = none; negations = 0 })) → (b : Before) → (b .sequenced ≡ none) × (b .negations ≡ 0) → P b
+  as-joined P f b h = subst P (λ i. record { summed = b .summed; sequenced = sym (h .0) i; negations = sym (h .1) i }) (f (b .summed))
 
   pub sequence-turn : {at nodes : ℕ} {L L₁ L₂ L₃ : NodeLists} {s r : Stepped.Step} {t : Found.Token} → Got joined text at nodes room L s L₁ → TokenFrom text (s .at) t → t .kind ≡ 7
       → Got starred text (t .next) (s .nodes) room L₁ r L₂ → L₃ ≡ putEntry room (r .nodes) (nodeEntry 7 (s .nodes - 1) (r .nodes - 1)) L₂
       → Got joined text at nodes room L (record { ok = true; at = r .at; nodes = r .nodes + 1 }) L₃
-  unfolding Past Entered treeSize entriesFrom joinedEntries
+  unfolding Past Entered After treeSize entriesFrom joinedEntries
   sequence-turn {at} {nodes} {L} {L₁} {L₂} {s = s} {r = r} {t = t} g k e y l =
       let h : t .start < t .next = k .onward (λ q. omega (arith, e, q)) in
       record {
         policy = Tree.seq (g .policy) (y .policy);
         moves = λ b h cs.
             as-joined (λ x. readOn end (wants x cs) (toks at) ≡ readOn end (has x cs (Tree.seq (g .policy) (y .policy))) (toks (r .at)))
-            (λ m. past-semicolon g k e m cs ∙ y .moves (record { summed = m; sequenced = some (g .policy) }) tt cs ∙ collapse-sequence end m cs (g .policy) (y .policy) (toks (r .at)) (y .past)) b h;
+            (λ m. past-semicolon g k e m cs ∙ y .moves (record { summed = m; sequenced = some (g .policy); negations = 0 }) refl cs ∙ collapse-sequence end m cs (g .policy) (y .policy) (toks (r .at)) (y .past)) b h;
         past = y .past;
         nodes-is = omega (arith, g .nodes-is, y .nodes-is);
         lists-are = l ∙ ap (putEntry room (r .nodes) (nodeEntry 7 (s .nodes - 1) (r .nodes - 1))) (y .lists-are ∙ ap (putAll room (s .nodes) (entriesFrom (s .nodes) (y .policy))) (g .lists-are)) ∙ put-join 7 room nodes (s .nodes) (r .nodes) (g .policy) (y .policy) L (g .nodes-is) (y .nodes-is);
@@ -255,34 +292,34 @@ module _ (text : List ℕ) (room : ℕ) where
   -- ---- one more sequence
 
   pub sum-starts : {at nodes : ℕ} {L L₁ : NodeLists} {s : Stepped.Step} → Got sequence text at nodes room L s L₁ → Got added text at nodes room L s L₁
-  unfolding Past Entered nothing
+  unfolding Past Entered After nothing
   sum-starts g =
-      record { policy = g .policy; moves = λ b h cs. g .moves b (ap (λ (x : Before). x .sequenced) h) cs; past = g .past; nodes-is = g .nodes-is; lists-are = g .lists-are; onward = g .onward; within = g .within; few = g .few }
+      record { policy = g .policy; moves = λ b h cs. g .moves b (ap (λ (x : Before). x .sequenced) h, ap (λ (x : Before). x .negations) h) cs; past = g .past; nodes-is = g .nodes-is; lists-are = g .lists-are; onward = g .onward; within = g .within; few = g .few }
 
   pub sum-ends : {at nodes : ℕ} {L L₁ : NodeLists} {s : Stepped.Step} → Got added text at nodes room L s L₁ → (frontKind (toks (s .at)) ≡ 6 → ⊥) → Got sum text at nodes room L s L₁
-  unfolding Past Entered
+  unfolding Past Entered After
   sum-ends g h =
       record { policy = g .policy; moves = g .moves; past = (g .past .0, g .past .1, h); nodes-is = g .nodes-is; lists-are = g .lists-are; onward = g .onward; within = g .within; few = g .few }
 
   -- up to the + and past it
   past-plus : {at nodes : ℕ} {L L₁ : NodeLists} {s : Stepped.Step} {t : Found.Token} (g : Got added text at nodes room L s L₁) → TokenFrom text (s .at) t → t .kind ≡ 6 → (cs : List Before)
-      → readOn end (wants nothing cs) (toks at) ≡ readOn end (wants (record { summed = some (g .policy); sequenced = none }) cs) (toks (t .next))
-  unfolding Entered whole upTo joinSequence joinSum nothing
+      → readOn end (wants nothing cs) (toks at) ≡ readOn end (wants (record { summed = some (g .policy); sequenced = none; negations = 0 }) cs) (toks (t .next))
+  unfolding Entered After whole upTo joinSequence joinSum nothing
   past-plus {s = s} g k e cs =
       g .moves nothing refl cs ∙ at-plus end nothing cs (g .policy) (toks (s .at)) (kind-at k e)
-      ∙ ap (readOn end (wants (record { summed = some (g .policy); sequenced = none }) cs)) (sym (k .rest))
+      ∙ ap (readOn end (wants (record { summed = some (g .policy); sequenced = none; negations = 0 }) cs)) (sym (k .rest))
 
   pub sum-turn : {at nodes : ℕ} {L L₁ L₂ L₃ : NodeLists} {s r : Stepped.Step} {t : Found.Token} → Got added text at nodes room L s L₁ → TokenFrom text (s .at) t → t .kind ≡ 6
       → Got sequence text (t .next) (s .nodes) room L₁ r L₂ → L₃ ≡ putEntry room (r .nodes) (nodeEntry 6 (s .nodes - 1) (r .nodes - 1)) L₂
       → Got added text at nodes room L (record { ok = true; at = r .at; nodes = r .nodes + 1 }) L₃
-  unfolding Past Entered treeSize entriesFrom joinedEntries
+  unfolding Past Entered After treeSize entriesFrom joinedEntries
   sum-turn {at} {nodes} {L} {L₁} {L₂} {s = s} {r = r} {t = t} g k e y l =
       let h : t .start < t .next = k .onward (λ q. omega (arith, e, q)) in
       record {
         policy = Tree.sum (g .policy) (y .policy);
         moves = λ b h cs.
             subst (λ (x : Before). readOn end (wants x cs) (toks at) ≡ readOn end (has x cs (Tree.sum (g .policy) (y .policy))) (toks (r .at))) (sym h)
-            (past-plus g k e cs ∙ y .moves (record { summed = some (g .policy); sequenced = none }) refl cs ∙ collapse-sum end cs (g .policy) (y .policy) (toks (r .at)) (y .past .0) (y .past .1));
+            (past-plus g k e cs ∙ y .moves (record { summed = some (g .policy); sequenced = none; negations = 0 }) (refl, refl) cs ∙ collapse-sum end cs (g .policy) (y .policy) (toks (r .at)) (y .past .0) (y .past .1));
         past = y .past;
         nodes-is = omega (arith, g .nodes-is, y .nodes-is);
         lists-are = l ∙ ap (putEntry room (r .nodes) (nodeEntry 6 (s .nodes - 1) (r .nodes - 1))) (y .lists-are ∙ ap (putAll room (s .nodes) (entriesFrom (s .nodes) (y .policy))) (g .lists-are)) ∙ put-join 6 room nodes (s .nodes) (r .nodes) (g .policy) (y .policy) L (g .nodes-is) (y .nodes-is);
@@ -306,6 +343,19 @@ module _ (text : List ℕ) (room : ℕ) where
       → (Got l text at nodes room L s L₁ → Got m text at nodes room L s L₁) → ((b : Before) → Entered m b → Entered l b) → Done m text at nodes room L s L₁
   done-as d f h = record { got = λ o. f (d .got o); stopped = λ o b x. d .stopped o b (h b x) }
 
+  -- an item with its !
+  pub item-negated : {at nodes : ℕ} {L L₁ L₂ : NodeLists} {x : Scan.NegationRun} {r r′ : Stepped.Step} → Scanned text at x → Done bare text (x .at) nodes room L r L₁
+      → Negated (x .count) room r L₁ r′ L₂ → Done item text at nodes room L r′ L₂
+  unfolding Entered
+  item-negated {at} {nodes} {L} {L₁} {L₂} {x} {r} {r′} s d n = go (r .ok) refl
+    where
+      go : (b : Bool) → r .ok ≡ b → Done item text at nodes room L r′ L₂
+      go true q =
+          subst (λ (z : Stepped.Step). Done item text at nodes room L z L₂) (sym (n .made q .0)) (done-got refl (item-turn s (d .got q) (n .made q .1)))
+      go false q =
+          subst (λ (z : Stepped.Step). Done item text at nodes room L z L₂) (sym (n .failed q .0))
+          (done-stopped q (λ b h cs. s .moves b cs ∙ d .stopped q (moreNegations (x .count) b) tt cs))
+
   -- one more operand: s has read, the mark stands there, r has read or stopped after it, and j joins the two
   pub sequence-next : {at nodes : ℕ} {L L₁ L₂ L₃ : NodeLists} {s r s′ : Stepped.Step} {t : Found.Token} → s .ok ≡ true → Done joined text at nodes room L s L₁ → TokenFrom text (s .at) t → t .kind ≡ 7
       → Done starred text (t .next) (s .nodes) room L₁ r L₂ → NodeJoined 7 (s .nodes - 1) room r L₂ s′ L₃ → Done joined text at nodes room L s′ L₃
@@ -320,7 +370,7 @@ module _ (text : List ℕ) (room : ℕ) where
           subst (λ (x : Stepped.Step). Done joined text at nodes room L x L₃) (sym (j .failed q .0))
           (done-stopped q
           (λ b h cs. as-joined (λ x. readOn end (wants x cs) (toks at) ≡ stop (r .at))
-          (λ m. past-semicolon (d .got o) k e m cs ∙ y .stopped q (record { summed = m; sequenced = some (d .got o .policy) }) tt cs) b h))
+          (λ m. past-semicolon (d .got o) k e m cs ∙ y .stopped q (record { summed = m; sequenced = some (d .got o .policy); negations = 0 }) refl cs) b h))
 
   pub sum-next : {at nodes : ℕ} {L L₁ L₂ L₃ : NodeLists} {s r s′ : Stepped.Step} {t : Found.Token} → s .ok ≡ true → Done added text at nodes room L s L₁ → TokenFrom text (s .at) t → t .kind ≡ 6
       → Done sequence text (t .next) (s .nodes) room L₁ r L₂ → NodeJoined 6 (s .nodes - 1) room r L₂ s′ L₃ → Done added text at nodes room L s′ L₃
@@ -335,7 +385,7 @@ module _ (text : List ℕ) (room : ℕ) where
           subst (λ (x : Stepped.Step). Done added text at nodes room L x L₃) (sym (j .failed q .0))
           (done-stopped q
           (λ b h cs. subst (λ (x : Before). readOn end (wants x cs) (toks at) ≡ stop (r .at)) (sym h)
-          (past-plus (d .got o) k e cs ∙ y .stopped q (record { summed = some (d .got o .policy); sequenced = none }) refl cs)))
+          (past-plus (d .got o) k e cs ∙ y .stopped q (record { summed = some (d .got o .policy); sequenced = none; negations = 0 }) (refl, refl) cs)))
 
   -- ---- the closing parenthesis
 
@@ -365,3 +415,10 @@ module _ (text : List ℕ) (room : ℕ) where
 
   pub joined-failed : {k left : ℕ} {L : NodeLists} {r : Stepped.Step} → r .ok ≡ false → NodeJoined k left room r L r L
   joined-failed o = record { failed = λ _. (refl, refl); made = λ x. absurd (true≢false (sym x ∙ o)) }
+
+  pub negated-made : {count : ℕ} {L L′ : NodeLists} {r : Stepped.Step} → r .ok ≡ true → L′ ≡ putNegations room (r .nodes) count L
+      → Negated count room r L (record { ok = true; at = r .at; nodes = r .nodes + count }) L′
+  negated-made o l = record { failed = λ x. absurd (true≢false (sym o ∙ x)); made = λ _. (refl, l) }
+
+  pub negated-failed : {count : ℕ} {L : NodeLists} {r : Stepped.Step} → r .ok ≡ false → Negated count room r L r L
+  negated-failed o = record { failed = λ _. (refl, refl); made = λ x. absurd (true≢false (sym x ∙ o)) }

@@ -1,5 +1,5 @@
 -- What the inner functions of the reader promise.
-use Prim.Native.Nat.{ℕ, suc, _+_, _-_, _≤_, _<_}
+use Prim.Native.Nat.{ℕ, zero, suc, _+_, _-_, _≤_, _<_}
 use mathlib.Core.Bool.{true, false, cond}
 use mathlib.Core.List.{List, [], _∷_}
 use mathlib.Core.Option.{none, some}
@@ -11,26 +11,40 @@ use Rattle.policy.specs.NodeLists.{NodeLists}
 use Rattle.policy.specs.NodesOfTree.{NodeEntry, nodeEntry, treeSize, entriesFrom}
 use Rattle.grammar.specs.Tokens.{tokensFrom, fieldNames}
 use Rattle.grammar.specs.InnerKinds.{frontKind, frontPlace, afterFront}
-use Rattle.grammar.specs.Reading.{Before, nothing, wants, has, stop, readOn}
+use Rattle.grammar.specs.Reading.{Before, nothing, State, wants, has, itemRead, stop, readOn}
 use Rattle.grammar.specs.Answer.{stopPlace, outcome, textTree}
+use Rattle.tokens.specs.Inner.{TokenFrom}
+use Rattle.text.specs.declared.NegationRun as Scan
 use Rattle.text.specs.declared.Step as Stepped
 use Rattle.text.specs.declared.Leaf as Leaves
 
--- levels of readers. A joined sequence may go on with `;`, an added sum with `+`.
+-- levels of readers. A bare item is one after its `!`. A joined sequence may go on with `;`, an added sum with `+`.
 pub data ReaderLevel : Type 0 where
-  item starred joined sequence added sum : ReaderLevel
+  bare item starred joined sequence added sum : ReaderLevel
 
 -- what stands before what a reader of the level reads
 unfoldable pub Entered : ReaderLevel → Before → Type 0
-Entered item b = Unit
-Entered starred b = Unit
-Entered joined b = b .sequenced ≡ none
-Entered sequence b = b .sequenced ≡ none
+Entered bare b = Unit
+Entered item b = b .negations ≡ 0
+Entered starred b = b .negations ≡ 0
+Entered joined b = (b .sequenced ≡ none) × (b .negations ≡ 0)
+Entered sequence b = (b .sequenced ≡ none) × (b .negations ≡ 0)
 Entered added b = b ≡ nothing
 Entered sum b = b ≡ nothing
 
+-- the state after p, which a reader of the level has read: each ! negates a bare item
+unfoldable pub After : ReaderLevel → Before → List Before → Policy → State
+After bare b cs p = itemRead b cs p
+After item b cs p = has b cs p
+After starred b cs p = has b cs p
+After joined b cs p = has b cs p
+After sequence b cs p = has b cs p
+After added b cs p = has b cs p
+After sum b cs p = has b cs p
+
 -- the kinds of tokens that can stand where a reader of the level has stopped
 unfoldable pub Past : ReaderLevel → ℕ → Type 0
+Past bare k = Unit
 Past item k = Unit
 Past starred k = k ≡ 8 → ⊥
 Past joined k = k ≡ 8 → ⊥
@@ -50,6 +64,11 @@ unfoldable pub putAll : ℕ → ℕ → List NodeEntry → NodeLists → NodeLis
 putAll room n [] L = L
 putAll room n (e ∷ es) L = putAll room (suc n) es (putEntry room n e L)
 
+-- writes the nodes that negate the node before n, so many times
+unfoldable pub putNegations : ℕ → ℕ → ℕ → NodeLists → NodeLists
+putNegations room n zero L = L
+putNegations room n (suc k) L = putEntry room (n + k) (nodeEntry 9 (n + k - 1) 0) (putNegations room n k L)
+
 -- what a reader asks: nodes so far are no more than bytes so far, and no more are written than there is room for
 pub record ReaderReady (text : List ℕ) (at nodes room : ℕ) (L : NodeLists) : Type 0 where
   pub within : at ≤ length text
@@ -59,11 +78,25 @@ pub record ReaderReady (text : List ℕ) (at nodes room : ℕ) (L : NodeLists) :
   pub firsts : room ≤ length (L .first)
   pub seconds : room ≤ length (L .second)
 
+-- so many ! more before an item
+unfoldable pub moreNegations : ℕ → Before → Before
+moreNegations n b = record { summed = b .summed; sequenced = b .sequenced; negations = n + b .negations }
+
+-- a run of ! from a byte on, and the token after it, which is none
+pub record Scanned (text : List ℕ) (at : ℕ) (r : Scan.NegationRun) : Type 0 where
+  pub moves : (b : Before) (cs : List Before)
+      → readOn (length text) (wants b cs) (tokensFrom fieldNames text at)
+      ≡ readOn (length text) (wants (moreNegations (r .count) b) cs) (tokensFrom fieldNames text (r .at))
+  pub token-is : TokenFrom text (r .at) (r .token)
+  pub over : r .token .kind ≡ 11 → ⊥
+  pub few : at + r .count ≤ r .at
+  pub within : r .at ≤ length text
+
 -- an item that is no sum in parentheses: one node, whatever its number
 pub record GotLeaf (text : List ℕ) (at : ℕ) (r : Leaves.Leaf) : Type 0 where
   pub policy : Policy
   pub moves : (b : Before) (cs : List Before)
-      → readOn (length text) (wants b cs) (tokensFrom fieldNames text at) ≡ readOn (length text) (has b cs policy) (tokensFrom fieldNames text (r .at))
+      → readOn (length text) (wants b cs) (tokensFrom fieldNames text at) ≡ readOn (length text) (itemRead b cs policy) (tokensFrom fieldNames text (r .at))
   pub one : treeSize policy ≡ 1
   pub entries : (n : ℕ) → entriesFrom n policy ≡ nodeEntry (r .kind) (r .first) (r .second) ∷ []
   pub onward : at < r .at
@@ -84,11 +117,16 @@ pub record NodeJoined (k left room : ℕ) (r : Stepped.Step) (L : NodeLists) (r�
   pub failed : r .ok ≡ false → (r′ ≡ r) × (L′ ≡ L)
   pub made : r .ok ≡ true → (r′ ≡ record { ok = true; at = r .at; nodes = r .nodes + 1 }) × (L′ ≡ putEntry room (r .nodes) (nodeEntry k left (r .nodes - 1)) L)
 
+-- the nodes that negate what r has read
+pub record Negated (count room : ℕ) (r : Stepped.Step) (L : NodeLists) (r′ : Stepped.Step) (L′ : NodeLists) : Type 0 where
+  pub failed : r .ok ≡ false → (r′ ≡ r) × (L′ ≡ L)
+  pub made : r .ok ≡ true → (r′ ≡ record { ok = true; at = r .at; nodes = r .nodes + count }) × (L′ ≡ putNegations room (r .nodes) count L)
+
 -- a reader has read a policy, whose nodes are those after the first so many
 pub record Got (l : ReaderLevel) (text : List ℕ) (at nodes room : ℕ) (L : NodeLists) (r : Stepped.Step) (L′ : NodeLists) : Type 0 where
   pub policy : Policy
   pub moves : (b : Before) → Entered l b → (cs : List Before)
-      → readOn (length text) (wants b cs) (tokensFrom fieldNames text at) ≡ readOn (length text) (has b cs policy) (tokensFrom fieldNames text (r .at))
+      → readOn (length text) (wants b cs) (tokensFrom fieldNames text at) ≡ readOn (length text) (After l b cs policy) (tokensFrom fieldNames text (r .at))
   pub past : Past l (frontKind (tokensFrom fieldNames text (r .at)))
   pub nodes-is : r .nodes ≡ nodes + treeSize policy
   pub lists-are : L′ ≡ putAll room nodes (entriesFrom nodes policy) L

@@ -1,7 +1,8 @@
-// The text reader (document 01, "Text"). Its tokens and their kinds are those of `tokens`.
+// The text reader (document 01, "Text", and document 02, A.1). Its tokens and their kinds are those of `tokens`.
 use grammar::Answer;
 use packet::Refusal;
 use packet::Tested;
+use tokens::Token;
 ghost use mathlib.Core.Path.{_≡_};
 ghost use mathlib.Core.Bool.{true, false};
 ghost use Prim.Native.Nat.{_+_, _^_, _≤_, _<_, min};
@@ -14,13 +15,20 @@ ghost use Rattle.grammar.specs.Tokens.{tokens, tokensFrom, fieldNames};
 ghost use Rattle.grammar.specs.Answer.{badPlace, deepPlace, stopPlace, tooMany, answerAfter, outcome, textTree, answerTo, TextRead};
 ghost use Rattle.grammar.specs.InnerKinds.{frontKind, openAfterKind};
 ghost use Rattle.text.specs.Inner;
-ghost use Rattle.text.specs.Inner.{LeafDone, ClosingRead, NodeJoined, putEntry, ReaderReady, Done, EndRead, WholeRead};
+ghost use Rattle.text.specs.Inner.{Scanned, LeafDone, ClosingRead, NodeJoined, Negated, putEntry, ReaderReady, Done, EndRead, WholeRead};
 
 // Where a reader stands: whether it has read what it reads, the byte up to which, or at which it stopped, and the nodes so far.
 struct Step {
     ok: bool,
     at: usize,
     nodes: usize,
+}
+
+// A run of !: how many there are, the byte after them, and the token that follows.
+struct NegationRun {
+    count: usize,
+    at: usize,
+    token: Token,
 }
 
 // An item that is no sum in parentheses: whether it has been read, the byte after it, or at which it stopped, and its node.
@@ -30,6 +38,27 @@ struct Leaf {
     kind: u8,
     first: u16,
     second: u16,
+}
+
+// The run of ! from a byte on, empty where there is none. A loop: a run may be as long as the text.
+fn negations(text: &[u8], at: usize) -> NegationRun
+    requires { ⌜ at ≤ length (now text) ⌝ }
+    ensures { λ r. ⌜ Scanned (now (text .entry)) at r ⌝ }
+{
+    let mut count = 0;
+    let mut i = at;
+    loop {
+        let token = tokens::token_from(text, i);
+        if token.kind != 11 {
+            return NegationRun {
+                count,
+                at: i,
+                token,
+            };
+        }
+        count += 1;
+        i = token.next;
+    }
 }
 
 // No item: the reading stops at the byte.
@@ -55,9 +84,10 @@ fn small(k: u16) -> u8
     0
 }
 
-// The item at a byte, where no parenthesis opens.
+// The item at a byte, where no parenthesis opens and no ! stands.
 fn leaf_item(text: &[u8], at: usize) -> Leaf
-    requires { ⌜ (at ≤ length (now text)) × (frontKind (tokensFrom fieldNames (now text) at) ≡ 9 → ⊥) ⌝ }
+    requires { ⌜ (at ≤ length (now text)) × (frontKind (tokensFrom fieldNames (now text) at) ≡ 9 → ⊥)
+        × (frontKind (tokensFrom fieldNames (now text) at) ≡ 11 → ⊥) ⌝ }
     ensures { λ r. ⌜ LeafDone (now (text .entry)) at r ⌝ }
 {
     let t = tokens::token_from(text, at);
@@ -167,6 +197,37 @@ fn join(
     r
 }
 
+// The nodes that negate what r has read, so many times: each has the one before it as its child.
+fn negate(
+    count: usize,
+    r: Step,
+    room: usize,
+    kind: &mut [u8],
+    first: &mut [u16],
+    second: &mut [u16],
+) -> Step
+    requires { ⌜ (room ≤ length (now kind)) × (room ≤ length (now first)) × (room ≤ length (now second)) × (room ≤ 512)
+        × (r .ok ≡ true → (0 < r .nodes) × (r .nodes + count < 2 ^ 63)) ⌝ }
+    ensures { λ s. ⌜ Negated count room r (asLists (now (kind .entry)) (now (first .entry)) (now (second .entry))) s
+        (asLists (now (kind .exit)) (now (first .exit)) (now (second .exit))) ⌝ }
+{
+    if r.ok {
+        let base = r.nodes;
+        let mut i = 0;
+        while i < count {
+            let n = base + i;
+            put_parent(n, room, 9, n - 1, 0, kind, first, second);
+            i += 1;
+        }
+        return Step {
+            ok: true,
+            at: r.at,
+            nodes: base + count,
+        };
+    }
+    r
+}
+
 // The closing parenthesis after what s has read.
 fn closed(text: &[u8], s: Step) -> Step
     requires { ⌜ (s .ok ≡ true → s .at ≤ length (now text)) ⌝ }
@@ -190,7 +251,7 @@ fn closed(text: &[u8], s: Step) -> Step
     s
 }
 
-// An item: drop, id, dup, a field with a comparison and a number, or a sum in parentheses.
+// An item: any number of !, then drop, id, dup, a field with a comparison and a number, or a sum in parentheses. Each ! negates it.
 fn item(
     text: &[u8],
     at: usize,
@@ -204,19 +265,21 @@ fn item(
     ensures { λ r. ⌜ Done Inner.item (now (text .entry)) at nodes room (asLists (now (kind .entry)) (now (first .entry)) (now (second .entry))) r
         (asLists (now (kind .exit)) (now (first .exit)) (now (second .exit))) ⌝ }
 {
-    let t = tokens::token_from(text, at);
-    if t.kind == 9 {
-        let s = sum(text, t.next, nodes, room, kind, first, second);
-        return closed(text, s);
+    let run = negations(text, at);
+    if run.token.kind == 9 {
+        let s = sum(text, run.token.next, nodes, room, kind, first, second);
+        let r = closed(text, s);
+        return negate(run.count, r, room, kind, first, second);
     }
-    let w = leaf_item(text, at);
+    let w = leaf_item(text, run.at);
     if w.ok {
         put(nodes, room, w.kind, w.first, w.second, kind, first, second);
-        return Step {
+        let r = Step {
             ok: true,
             at: w.at,
             nodes: nodes + 1,
         };
+        return negate(run.count, r, room, kind, first, second);
     }
     Step {
         ok: false,

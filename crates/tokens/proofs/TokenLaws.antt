@@ -2,7 +2,7 @@
 use Prim.Native.Nat.{ℕ, zero, suc, _+_, _-_, _≤_, _<_}
 use native.Mathlib.Nat.{zero-add, le-refl}
 use native.Mathlib.Omega.{arith}
-use mathlib.Core.Bool.{Bool, true, false, not, _&&_, cond, Bool·beq}
+use mathlib.Core.Bool.{Bool, true, false, _&&_, _||_, cond, Bool·beq, true≢false}
 use mathlib.Core.List.{List, [], _∷_}
 use mathlib.Core.Logic.{_⊎_, inl, inr, ⊎-elim}
 use mathlib.Core.Path.{_≡_, refl, sym, _∙_, ap, ap₂, subst}
@@ -11,7 +11,7 @@ use lib.ListN.{length, getD, take, drop, length-drop, drop-of-length-le, List·g
 use lib.Seq.{drop-cons, drop-drop, getD-drop}
 use borrow.Author.Tests.{ne-eqb, eqb-true}
 use Rattle.grammar.specs.Bytes.{isBlank, isLetter, isDigit, inWord}
-use Rattle.grammar.specs.Tokens.{Token, Placed, bad, isBad, wordToken, singleMark, doubleMark, beginsDouble, markToken, wordOf, frontToken, restOfToken, placedFrom, tokensFrom, fieldNames}
+use Rattle.grammar.specs.Tokens.{Token, Placed, Comparison, equals, differs, assigned, comparison, exclamation, bad, wordToken, singleMark, isDouble, doubleMark, beginsDouble, markToken, wordOf, frontToken, restOfToken, placedFrom, tokensFrom, fieldNames}
 use Rattle.grammar.specs.InnerKinds.{kindOf, tokenValue, comparisonKind, classOf, frontKind, frontValue, frontPlace, afterFront}
 use Rattle.tokens.specs.Inner.{NumbersOf, FrontAt, Skipped, TokenFrom}
 use Rattle.tokens.specs.declared.Token as Found
@@ -116,7 +116,7 @@ after-is text at = getD-drop (suc at) text 0 0 ∙ ap (λ (k : ℕ). getD text k
 -- the token of a mark, which has one byte more or not
 pub front-mark : (text : List ℕ) (at kind value next : ℕ) → at < length text → inWord (getD text at 0) ≡ false
     → NumbersOf (markToken (getD text at 0) (getD text (at + 1) 0)) kind value
-    → next ≡ at + 1 + cond (not (isBad (doubleMark (getD text at 0) (getD text (at + 1) 0)))) 1 0
+    → next ≡ at + 1 + cond (isDouble (getD text at 0) (getD text (at + 1) 0)) 1 0
     → next ≤ length text
     → FrontAt text at (record { kind = kind; value = value; start = at; next = next })
 unfolding frontToken restOfToken
@@ -124,16 +124,16 @@ front-mark text at kind value next h e n q w =
     record {
       is = rw (e, after-is text at) n;
       starts = refl;
-      ends = q ∙ rw (e, after-is text at) (ap (λ (k : ℕ). k + cond (not (isBad (doubleMark (getD text at 0) (getD text (at + 1) 0)))) 1 0) (omega arith));
+      ends = q ∙ rw (e, after-is text at) (ap (λ (k : ℕ). k + cond (isDouble (getD text at 0) (getD text (at + 1) 0)) 1 0) (omega arith));
       within = w;
     }
 
--- a mark of two bytes
+-- what two bytes are by the first of them
 pub double-33 : (a : ℕ) → tokenValue (doubleMark 33 a) ≡ cond (eqb a 61) 3 0
 unfolding doubleMark tokenValue comparisonKind
 double-33 a = go (eqb a 61)
   where
-    go : (t : Bool) → tokenValue (cond t (Rattle.grammar.specs.Tokens.comparison Rattle.grammar.specs.Tokens.differs) bad) ≡ cond t 3 0
+    go : (t : Bool) → tokenValue (cond t (comparison differs) exclamation) ≡ cond t 3 0
     go true = refl
     go false = refl
 
@@ -141,7 +141,7 @@ pub double-60 : (a : ℕ) → tokenValue (doubleMark 60 a) ≡ cond (eqb a 45) 4
 unfolding doubleMark tokenValue comparisonKind
 double-60 a = go (eqb a 45)
   where
-    go : (t : Bool) → tokenValue (cond t (Rattle.grammar.specs.Tokens.comparison Rattle.grammar.specs.Tokens.assigned) bad) ≡ cond t 4 0
+    go : (t : Bool) → tokenValue (cond t (comparison assigned) bad) ≡ cond t 4 0
     go true = refl
     go false = refl
 
@@ -149,22 +149,43 @@ pub double-other : (b a : ℕ) → eqb b 33 ≡ false → eqb b 60 ≡ false →
 unfolding doubleMark
 double-other b a e f = rw (e, f)
 
-pub double-alone : (b : ℕ) → doubleMark b 0 ≡ bad
-unfolding doubleMark
-double-alone b = rw (and-false (eqb b 33), and-false (eqb b 60))
+-- a byte with none after it
+pub lone-33 : kindOf (doubleMark 33 0) ≡ 11
+unfolding doubleMark kindOf
+lone-33 = refl
 
--- a mark of two bytes is bad or a comparison
-pub double-cases : (b a : ℕ) → (doubleMark b a ≡ bad) ⊎ ((kindOf (doubleMark b a) ≡ 5) × (isBad (doubleMark b a) ≡ false) × (tokenValue (doubleMark b a) ≡ 0 → ⊥))
-unfolding doubleMark kindOf isBad tokenValue comparisonKind
-double-cases b a = go (eqb b 33 && eqb a 61) (eqb b 60 && eqb a 45)
+pub lone-other : (b : ℕ) → eqb b 33 ≡ false → kindOf (doubleMark b 0) ≡ 0
+unfolding doubleMark kindOf
+lone-other b e = rw (e, and-false (eqb b 60))
+
+-- two bytes are a comparison, or the first is the mark that it is alone
+Either : Bool → Token → Token → Type 0
+Either both mark lone = ((both ≡ false) × (mark ≡ lone) × (tokenValue mark ≡ 0)) ⊎ ((both ≡ true) × (kindOf mark ≡ 5) × (tokenValue mark ≡ 0 → ⊥))
+
+either : (t : Bool) (c : Comparison) (m : Token) → tokenValue m ≡ 0 → Either t (cond t (comparison c) m) m
+unfolding Either kindOf tokenValue comparisonKind
+either false c m e = inl (refl, refl, e)
+either true equals m e = inr (refl, refl, λ z. omega arith)
+either true differs m e = inr (refl, refl, λ z. omega arith)
+either true assigned m e = inr (refl, refl, λ z. omega arith)
+
+or-none : (t : Bool) → t || false ≡ t
+or-none true = refl
+or-none false = refl
+
+double-either : (b a : ℕ) → Either (isDouble b a) (doubleMark b a) (doubleMark b 0)
+unfolding isDouble doubleMark tokenValue
+double-either b a = go (eqb b 33) refl
   where
-    mark : Bool → Bool → Token
-    mark s t = cond s (Rattle.grammar.specs.Tokens.comparison Rattle.grammar.specs.Tokens.differs) (cond t (Rattle.grammar.specs.Tokens.comparison Rattle.grammar.specs.Tokens.assigned) bad)
+    go : (t : Bool) → eqb b 33 ≡ t → Either (isDouble b a) (doubleMark b a) (doubleMark b 0)
+    go true e =
+        subst (λ (x : ℕ). Either (isDouble x a) (doubleMark x a) (doubleMark x 0)) (sym (eqb-true b 33 e))
+        (rw (or-none (eqb a 61)) (either (eqb a 61) differs exclamation refl))
+    go false e = rw (e, and-false (eqb b 60)) (either (eqb b 60 && eqb a 45) assigned bad refl)
 
-    go : (s t : Bool) → (mark s t ≡ bad) ⊎ ((kindOf (mark s t) ≡ 5) × (isBad (mark s t) ≡ false) × (tokenValue (mark s t) ≡ 0 → ⊥))
-    go true t = inr (refl, refl, λ e. omega arith)
-    go false true = inr (refl, refl, λ e. omega arith)
-    go false false = inl refl
+lone-not : (b : ℕ) → isDouble b 0 ≡ false
+unfolding isDouble
+lone-not b = rw (and-false (eqb b 33), and-false (eqb b 60))
 
 pub class-double : (b : ℕ) → b < 256 → eqb (classOf b) 4 ≡ beginsDouble b
 unfolding classOf isBlank isLetter isDigit beginsDouble singleMark kindOf
@@ -176,38 +197,48 @@ single-value b h = eqb-true _ _ (T-true _ (below (λ b. eqb (tokenValue (singleM
 
 -- a mark of one byte, by its class
 pub single-class : (b a : ℕ) → b < 256 → isBlank b ≡ false → inWord b ≡ false → beginsDouble b ≡ false
-    → (markToken b a ≡ singleMark b) × (kindOf (singleMark b) ≡ classOf b) × (tokenValue (singleMark b) ≡ cond (eqb (classOf b) 5) 2 0) × (doubleMark b a ≡ bad)
-unfolding markToken classOf inWord beginsDouble
+    → (markToken b a ≡ singleMark b) × (kindOf (singleMark b) ≡ classOf b) × (tokenValue (singleMark b) ≡ cond (eqb (classOf b) 5) 2 0) × (isDouble b a ≡ false)
+unfolding markToken classOf inWord beginsDouble isDouble
 single-class b a h blank word double =
     let letter : isLetter b ≡ false = or-false (isLetter b) (isDigit b) word .0 in
     let digit : isDigit b ≡ false = or-false (isLetter b) (isDigit b) word .1 in
     let k : kindOf (singleMark b) ≡ classOf b = sym (rw (blank, letter, digit, double)) in
-    (rw double, k, single-value b h ∙ ap (λ (n : ℕ). cond (eqb n 5) 2 0) k, double-other b a (or-false (eqb b 33) (eqb b 60) double .0) (or-false (eqb b 33) (eqb b 60) double .1))
+    (rw double, k, single-value b h ∙ ap (λ (n : ℕ). cond (eqb n 5) 2 0) k, rw (or-false (eqb b 33) (eqb b 60) double .0, or-false (eqb b 33) (eqb b 60) double .1))
 
 pub word-within : (text : List ℕ) (at r : ℕ) → at ≤ length text → r ≡ at + length (wordOf (drop at text)) → r ≤ length text
 word-within text at r h e = let l : length (wordOf (drop at text)) ≤ length (drop at text) = word-short (drop at text) in omega (arith, length-drop at text)
 
 module _ (text : List ℕ) (at : ℕ) (h : at < length text) (word : inWord (getD text at 0) ≡ false) where
-  -- no mark of two bytes
-  front-bad : beginsDouble (getD text at 0) ≡ true → doubleMark (getD text at 0) (getD text (at + 1) 0) ≡ bad → FrontAt text at (record { kind = 0; value = 0; start = at; next = at + 1 })
-  unfolding markToken isBad kindOf tokenValue
-  front-bad d e = front-mark text at 0 0 (at + 1) h word (rw (d, e) (record { kind-is = refl; value-is = refl })) (rw e (omega arith)) (omega arith)
+  -- the byte alone is the mark
+  front-lone : (k : ℕ) → beginsDouble (getD text at 0) ≡ true → k ≡ kindOf (doubleMark (getD text at 0) 0) → isDouble (getD text at 0) (getD text (at + 1) 0) ≡ false
+      → FrontAt text at (record { kind = k; value = 0; start = at; next = at + 1 })
+  unfolding markToken Either
+  front-lone k d e n =
+      let z : at + 1 ≡ at + 1 + 0 = omega arith in
+      let w : at + 1 ≤ length text = omega arith in
+      ⊎-elim
+      (λ q. front-mark text at k 0 (at + 1) h word (rw d (record { kind-is = e ∙ ap kindOf (sym (q .1)); value-is = sym (q .2) })) (rw n z) w)
+      (λ q. absurd (true≢false (sym (q .0) ∙ n)))
+      (double-either (getD text at 0) (getD text (at + 1) 0))
 
-  pub front-alone : beginsDouble (getD text at 0) ≡ true → length text ≤ at + 1 → FrontAt text at (record { kind = 0; value = 0; start = at; next = at + 1 })
-  front-alone d l = front-bad d (rw (List·getD-eq-default text 0 l) (double-alone (getD text at 0)))
+  pub front-last : (k : ℕ) → beginsDouble (getD text at 0) ≡ true → length text ≤ at + 1 → k ≡ kindOf (doubleMark (getD text at 0) 0)
+      → FrontAt text at (record { kind = k; value = 0; start = at; next = at + 1 })
+  front-last k d l e = front-lone k d e (ap (isDouble (getD text at 0)) (List·getD-eq-default text 0 l) ∙ lone-not (getD text at 0))
 
-  pub front-none : (k : ℕ) → beginsDouble (getD text at 0) ≡ true → k ≡ tokenValue (doubleMark (getD text at 0) (getD text (at + 1) 0)) → k ≡ 0 → FrontAt text at (record { kind = 0; value = 0; start = at; next = at + 1 })
-  front-none k d e z = ⊎-elim (λ q. front-bad d q) (λ p. absurd (p .2 (sym e ∙ z))) (double-cases (getD text at 0) (getD text (at + 1) 0))
+  pub front-none : (m k : ℕ) → beginsDouble (getD text at 0) ≡ true → m ≡ tokenValue (doubleMark (getD text at 0) (getD text (at + 1) 0)) → m ≡ 0
+      → k ≡ kindOf (doubleMark (getD text at 0) 0) → FrontAt text at (record { kind = k; value = 0; start = at; next = at + 1 })
+  unfolding Either
+  front-none m k d e z f =
+      ⊎-elim (λ q. front-lone k d f (q .0)) (λ q. absurd (q .2 (sym e ∙ z))) (double-either (getD text at 0) (getD text (at + 1) 0))
 
   pub front-double : (k : ℕ) → beginsDouble (getD text at 0) ≡ true → at + 1 < length text → k ≡ tokenValue (doubleMark (getD text at 0) (getD text (at + 1) 0)) → (k ≡ 0 → ⊥) → FrontAt text at (record { kind = 5; value = k; start = at; next = at + 1 + 1 })
-  unfolding markToken tokenValue
+  unfolding markToken Either
   front-double k d l e z =
-      ⊎-elim (λ q. absurd (z (e ∙ ap tokenValue q)))
-      (λ p. front-mark text at 5 k (at + 1 + 1) h word (rw d (record { kind-is = sym (p .0); value-is = e })) (rw (p .1) refl) (omega arith))
-      (double-cases (getD text at 0) (getD text (at + 1) 0))
+      ⊎-elim (λ q. absurd (z (e ∙ q .2)))
+      (λ q. front-mark text at 5 k (at + 1 + 1) h word (rw d (record { kind-is = sym (q .1); value-is = e })) (rw (q .0) refl) (omega arith))
+      (double-either (getD text at 0) (getD text (at + 1) 0))
 
   pub front-single : (k : ℕ) → getD text at 0 < 256 → isBlank (getD text at 0) ≡ false → k ≡ classOf (getD text at 0) → (k ≡ 4 → ⊥) → FrontAt text at (record { kind = k; value = cond (eqb k 5) 2 0; start = at; next = at + 1 })
-  unfolding isBad
   front-single k b blank e z =
       let d : beginsDouble (getD text at 0) ≡ false = sym (class-double (getD text at 0) b) ∙ ne-eqb _ _ (λ q. z (e ∙ q)) in
       let s = single-class (getD text at 0) (getD text (at + 1) 0) b blank word d in

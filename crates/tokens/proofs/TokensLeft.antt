@@ -1,14 +1,14 @@
 -- The tokens left never grow as a reader goes on, wherever a token is cut, and fall with each token read.
 use Prim.Native.Nat.{ℕ, zero, suc, _+_, _-_, _≤_, _<_}
 use native.Mathlib.Omega.{arith}
-use mathlib.Core.Bool.{Bool, true, false, not, cond, true≢false}
+use mathlib.Core.Bool.{Bool, true, false, cond, true≢false}
 use mathlib.Core.List.{List, [], _∷_}
 use mathlib.Core.Path.{_≡_, refl, sym, _∙_, ap, ap₂}
 use lib.ListN.{length, drop}
 use lib.Seq.{drop-drop}
 use borrow.Author.Tests.{ne-eqb}
 use Rattle.grammar.specs.Bytes.{isBlank, isLetter, isDigit, inWord}
-use Rattle.grammar.specs.Tokens.{Placed, isBad, doubleMark, wordOf, restOfToken, placedFrom, tokensFrom, fieldNames}
+use Rattle.grammar.specs.Tokens.{Placed, isDouble, wordOf, restOfToken, placedFrom, tokensFrom, fieldNames}
 use Rattle.grammar.specs.InnerKinds.{frontKind, afterFront}
 use Rattle.tokens.specs.Inner.{TokenFrom}
 use Rattle.tokens.specs.declared.Token as Found
@@ -26,7 +26,7 @@ rest-none : (b c : ℕ) (cs : List ℕ) → inWord b ≡ true → inWord c ≡ f
 unfolding restOfToken wordOf
 rest-none b c cs p q = rw (p, q)
 
-rest-mark : (b c : ℕ) (cs : List ℕ) → inWord b ≡ false → restOfToken b (c ∷ cs) ≡ cond (not (isBad (doubleMark b c))) 1 0
+rest-mark : (b c : ℕ) (cs : List ℕ) → inWord b ≡ false → restOfToken b (c ∷ cs) ≡ cond (isDouble b c) 1 0
 unfolding restOfToken
 rest-mark b c cs p = rw p
 
@@ -83,12 +83,12 @@ module _ (names : List (List ℕ)) where
 
   -- a token cut after its first byte is one token or none
   cut : (b c : ℕ) (cs : List ℕ) → Fewer cs → count 0 (c ∷ cs) ≤ suc (count (restOfToken b (c ∷ cs)) (c ∷ cs))
-  cut b c cs f = go (inWord b) (inWord c) (not (isBad (doubleMark b c))) refl refl refl
+  cut b c cs f = go (inWord b) (inWord c) (isDouble b c) refl refl refl
     where
       rest : (n : ℕ) → restOfToken b (c ∷ cs) ≡ n → count 0 (c ∷ cs) ≤ suc (count n (c ∷ cs)) → count 0 (c ∷ cs) ≤ suc (count (restOfToken b (c ∷ cs)) (c ∷ cs))
       rest n e h = omega (arith, h, ap (λ (m : ℕ). count m (c ∷ cs)) e)
 
-      go : (s t u : Bool) → inWord b ≡ s → inWord c ≡ t → not (isBad (doubleMark b c)) ≡ u → count 0 (c ∷ cs) ≤ suc (count (restOfToken b (c ∷ cs)) (c ∷ cs))
+      go : (s t u : Bool) → inWord b ≡ s → inWord c ≡ t → isDouble b c ≡ u → count 0 (c ∷ cs) ≤ suc (count (restOfToken b (c ∷ cs)) (c ∷ cs))
       go true true u p q r =
           rest (suc (restOfToken c cs)) (rest-word b c cs p q) (omega (arith, count-front c cs (word-no-blank c q), count-over (restOfToken c cs) c cs))
       go true false u p q r = rest 0 (rest-none b c cs p q) (omega arith)

@@ -4,7 +4,7 @@ ghost use Rattle.grammar.specs.Bytes.{isBlank, isDigit, inWord};
 ghost use Rattle.grammar.specs.InnerKinds.{classOf, classTable};
 ghost use lib.ListN.{length};
 
-// The class of each byte: 0 starts no token, 1 blank, 2 letter, 3 digit, 4 begins a mark of two bytes, else the kind of the mark that it is.
+// The class of each byte: 0 starts no token, 1 blank, 2 letter, 3 digit, 4 may begin a mark of two bytes, else the kind of the mark that it is.
 const CLASSES: [u8; 256] = [
     0,
     0,

@@ -1,5 +1,5 @@
 // Tokens of a text, one at a time, as the reader asks for them. All functions here are inner.
-// Their kinds: 0 bad, 1 the end, 2 constant, 3 field, 4 number, 5 comparison, 6 +, 7 ;, 8 *, 9 (, 10 ).
+// Their kinds: 0 bad, 1 the end, 2 constant, 3 field, 4 number, 5 comparison, 6 +, 7 ;, 8 *, 9 (, 10 ), 11 !.
 mod bytes;
 pub mod words;
 
@@ -9,7 +9,7 @@ ghost use Prim.Native.Nat.{_+_, _≤_, _<_};
 ghost use lib.ListN.{length, getD, drop};
 ghost use Rattle.grammar.specs.Bytes.{isBlank, inWord};
 ghost use Rattle.grammar.specs.Tokens.{wordOf, doubleMark, beginsDouble};
-ghost use Rattle.grammar.specs.InnerKinds.{classTable, tokenValue};
+ghost use Rattle.grammar.specs.InnerKinds.{classTable, kindOf, tokenValue};
 ghost use Rattle.tokens.specs.Inner.{Skipped, FrontAt, TokenFrom};
 
 // A token by its numbers, with the byte at which it starts and the byte after it.
@@ -62,7 +62,7 @@ fn word_at(classes: &[u8], text: &[u8], at: usize) -> Token
     }
 }
 
-// The kind of the comparison that two bytes are, or 0.
+// The value of the comparison that two bytes are, or 0.
 fn double(b: u8, after: u8) -> u16
     ensures { λ r. ⌜ r ≡ tokenValue (doubleMark b after) ⌝ }
 {
@@ -80,23 +80,34 @@ fn double(b: u8, after: u8) -> u16
     0
 }
 
+// The kind of the mark that a byte is where no comparison begins: a ! is one, a < is none.
+fn lone(b: u8) -> u8
+    ensures { λ r. ⌜ r ≡ kindOf (doubleMark b 0) ⌝ }
+{
+    if b == 33 {
+        return 11;
+    }
+    0
+}
+
 fn double_at(text: &[u8], at: usize) -> Token
     requires { ⌜ (at < length (now text)) × (inWord (getD (now text) at 0) ≡ false) × (beginsDouble (getD (now text) at 0) ≡ true) ⌝ }
     ensures { λ r. ⌜ FrontAt (now (text .entry)) at r ⌝ }
 {
+    let b = text[at];
     let next = at + 1;
     if text.len() <= next {
         return Token {
-            kind: 0,
+            kind: lone(b),
             value: 0,
             start: at,
             next,
         };
     }
-    let k = double(text[at], text[next]);
+    let k = double(b, text[next]);
     if k == 0 {
         return Token {
-            kind: 0,
+            kind: lone(b),
             value: 0,
             start: at,
             next,

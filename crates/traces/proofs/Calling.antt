@@ -153,7 +153,7 @@ module _ (sizes : List ℕ) (L R : NodeLists) where
 
   -- ---- the search's trace
 
-  -- where causes 1 to 10 let the call pass, a trace with which the search answers left is answered left, and right, right
+  -- where the causes up to 10 let the call pass, a trace with which the search answers left is answered left, and right, right
   pub search-checked : (words : ℕ) → pairTests sizes L R ≡ Passed → 16384 ≤ words → (rows lent : ℕ) (s : Side) (α : ℕ) (trace : List ℕ)
       → searchAnswer sizes (policies L R) rows lent ≡ different s α trace → traceCall sizes L R α trace words ≡ checkedAs (only s)
   unfolding traceCall checkedUnless SideTraces

@@ -67,7 +67,7 @@ module _ (N α : ℕ) (trace : List ℕ) where
       go zero l = lt-leb N α h
       go (suc i) l = lt-leb N (getD trace i 0) (k i (omega arith))
 
--- ---- causes 1 to 10
+-- ---- the causes up to 10
 
 module _ (sizes : List ℕ) (L R : NodeLists) (words : ℕ) where
   -- the tests as they were made
@@ -88,7 +88,7 @@ module _ (sizes : List ℕ) (L R : NodeLists) (words : ℕ) where
       let h = tests-passed sizes L R _ e in
       record { legal-sizes = h .legal-sizes; left-legal = h .left-legal; right-legal = h .right-legal; long = lists-passed [] words (h .passed) .1 }
 
-  -- two policies that causes 1 to 9 let pass, and a work list that is long enough
+  -- two policies that the causes before 10 let pass, and a work list that is long enough
   pub pair-lent : pairTests sizes L R ≡ Passed → 16384 ≤ words → listsTests sizes L R words ≡ Passed
   unfolding listsTests
   pair-lent e h = rows-laws.pair-lent sizes L R (listsStage [] words) e (work-passes words h)

@@ -46,11 +46,11 @@ checkedUnless Passed a = checkedAs a
 checkedUnless (Refused r) a = CheckRefused r
 
 module _ (sizes : List ℕ) (L R : NodeLists) where
-  -- the tests on what else is lent, with a work list of so many words: causes 1 to 10
+  -- the tests on what else is lent, with a work list of so many words: the causes up to 10
   unfoldable pub listsTests : ℕ → Tested
   listsTests words = rows.lentTests sizes L R (listsStage [] words)
 
-  -- the order of causes: 1 to 10, then 13
+  -- the order of causes: up to 10, then 13
   unfoldable pub traceTests : ℕ → List ℕ → ℕ → Tested
   traceTests α trace words = inOrder (stagesOf sizes Passed (pairOf L R) (listsStage [] words) (packetsStage (product sizes) α trace))
 
@@ -65,7 +65,7 @@ module _ (sizes : List ℕ) (L R : NodeLists) where
     pub left-trace : (a : TraceAnswer) → answer ≡ checkedAs a → T (has left a) ↔ Traces (numbered sizes) (policyOf L) α trace
     pub right-trace : (a : TraceAnswer) → answer ≡ checkedAs a → T (has right a) ↔ Traces (numbered sizes) (policyOf R) α trace
 
--- what following a trace through one policy asks: causes 1 to 10 and 13 don't hold, N = count, and the first words of the work list 0
+-- what following a trace through one policy asks: no cause up to 13 holds, N = count, and the first words of the work list 0
 pub record FollowReady (sizes : List ℕ) (L : NodeLists) (count α : ℕ) (trace work : List ℕ) : Type 0 where
   pub legal-sizes : LegalSizes sizes
   pub legal : Legal sizes L

@@ -123,8 +123,8 @@ fn named(left: bool, right: bool) -> TraceChecked
     TraceChecked::Neither
 }
 
-// Which of the two policies have the trace from the entering packet: causes 1 to 10, of 10 the work list alone, then 13.
-// The work list is as found where one of 1 to 10 refuses, and else all 0.
+// Which of the two policies have the trace from the entering packet: the causes up to 10, of 10 the work list alone, then 13.
+// The work list is as found where a cause up to 10 refuses, and else all 0.
 pub fn check(
     sizes: &[u16],
     left_kind: &[u8],

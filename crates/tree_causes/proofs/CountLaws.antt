@@ -15,7 +15,7 @@ use Rattle.packet.specs.Lowest.{lowest}
 use Rattle.packet.specs.declared.Place.the-variants.{At, Nowhere}
 use Rattle.packet.proofs.Lowest.{lowest-more, lowest-found}
 use Rattle.policy.specs.declared.Node.{Node}
-use Rattle.policy.specs.declared.Node.the-variants.{Drop, Id, Field, Dup, Sum, Seq, Star}
+use Rattle.policy.specs.declared.Node.the-variants.{Drop, Id, Field, Dup, Sum, Seq, Star, Neg}
 use Rattle.policy.specs.AsLists.{asLists}
 use Rattle.policy.specs.InnerEach.{Each}
 use Rattle.policy.specs.NodeLists.{NodeLists, nodeCount, nodeOf, nodeAt, children, one, isDup, dupsBelow}
@@ -112,6 +112,7 @@ two-children Dup = omega arith
 two-children (Sum l r) = omega arith
 two-children (Seq l r) = omega arith
 two-children (Star c) = omega arith
+two-children (Neg c) = omega arith
 
 one-most : (b : Bool) → one b ≤ 1
 unfolding one
@@ -197,7 +198,8 @@ other-kind (suc (suc (suc (suc (suc zero))))) a b h = absurd (h refl)
 other-kind (suc (suc (suc (suc (suc (suc zero)))))) a b h = refl
 other-kind (suc (suc (suc (suc (suc (suc (suc zero))))))) a b h = refl
 other-kind (suc (suc (suc (suc (suc (suc (suc (suc zero)))))))) a b h = refl
-other-kind (suc (suc (suc (suc (suc (suc (suc (suc (suc k))))))))) a b h = refl
+other-kind (suc (suc (suc (suc (suc (suc (suc (suc (suc zero))))))))) a b h = refl
+other-kind (suc (suc (suc (suc (suc (suc (suc (suc (suc (suc k)))))))))) a b h = refl
 
 pub weight-other : (k : ℕ) → (k ≡ 5 → ⊥) → DupWeight k 0
 unfolding one

@@ -1,11 +1,16 @@
-// Causes 8 and 9 of document 01 on one policy, which count children and dups.
+// Causes 8 and 9 of document 01 and 19 of document 02 on one policy: children and dups are counted, tests told from the rest.
+pub mod alone;
+
 ghost use mathlib.Core.Path.{_≡_};
+ghost use mathlib.Core.Bool.{false, _&&_};
 ghost use Prim.Native.Nat.{_<_, pred};
+ghost use lib.Dec.{eqb};
 ghost use lib.ListN.{length, getD};
 ghost use Rattle.packet.specs.Lowest.{lowest, optionOf};
 ghost use Rattle.policy.specs.AsLists.{asLists, policyAtEntry};
 ghost use Rattle.policy.specs.NodeLists.{children};
-ghost use Rattle.policy.specs.Legality.{notOnce};
+ghost use Rattle.policy.specs.Legality.{notOnce, badNegation};
+ghost use Rattle.tree_causes.specs.Alone.{NoNegation};
 ghost use Rattle.tree_causes.specs.Counting.{CountableChildren, ChildCounts, Countable, withChild, withChildren, DupWeight, DupCountOf};
 use packet::Place;
 use policy::Node;
@@ -32,6 +37,7 @@ fn with_children(counts: [u16; 512], node: Node) -> [u16; 512]
         Node::Sum(l, r) => with_child(with_child(counts, l), r),
         Node::Seq(l, r) => with_child(with_child(counts, l), r),
         Node::Star(c) => with_child(counts, c),
+        Node::Neg(c) => with_child(counts, c),
         Node::Drop => counts,
         Node::Id => counts,
         Node::Field(_) => counts,
@@ -63,6 +69,49 @@ pub fn not_once(kind: &[u8], first: &[u16], second: &[u16]) -> Place
     let mut i = 0;
     while i + 1 < kind.len() {
         if counts[i] != 1 {
+            return Place::At(i as u64);
+        }
+        i += 1;
+    }
+    Place::Nowhere
+}
+
+// Cause 19 at a node of this kind, by the flag of its tree.
+fn refused_negation(kind: u8, alone: u16) -> bool
+    ensures { λ r. ⌜ r ≡ (eqb kind 9 && eqb alone 0) ⌝ }
+{
+    if kind == 9 {
+        return alone == 0;
+    }
+    false
+}
+
+// Whether there is a negation. Most policies have none, and need no flags; a yes without one would cost time and nothing else.
+fn has_negation(kind: &[u8]) -> bool
+    ensures { λ r. ⌜ (r ≡ false → NoNegation (now (kind .entry)) (length (now (kind .entry)))) ⌝ }
+{
+    let mut i = 0;
+    while i < kind.len() {
+        if kind[i] == 9 {
+            return true;
+        }
+        i += 1;
+    }
+    false
+}
+
+// Inner: cause 19, the lowest negation of anything but tests.
+pub fn bad_negation(kind: &[u8], first: &[u16], second: &[u16]) -> Place
+    requires { ⌜ CountableChildren (asLists (now kind) (now first) (now second)) ⌝ }
+    ensures { λ r. ⌜ optionOf r ≡ lowest (badNegation (policyAtEntry kind first second)) (length (now (kind .entry))) ⌝ }
+{
+    if !has_negation(kind) {
+        return Place::Nowhere;
+    }
+    let alone = alone::tests_alone(kind, first, second);
+    let mut i = 0;
+    while i < kind.len() {
+        if refused_negation(kind[i], alone[i]) {
             return Place::At(i as u64);
         }
         i += 1;

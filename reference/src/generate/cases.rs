@@ -370,7 +370,7 @@ fn texts(random: &mut Random, extent: Extent) -> Case {
     let (left, right) = pair(random, &legal, extent);
     let needs = needs(&legal, &left.lists(), &right.lists(), extent);
     let lists = lent(random, &needs);
-    let (left, right) = text_pair(random, &left, &right);
+    let (left, right) = text_pair(random, &legal, &left, &right);
     Case::Texts {
         sizes: other_sizes(random, &legal, extent),
         left,
@@ -388,13 +388,18 @@ fn other_sizes(random: &mut Random, legal: &[u16], extent: Extent) -> Vec<u16> {
     }
 }
 
-/// Texts of two trees; each may be damaged, or have too many dups or nearly so.
-fn text_pair(random: &mut Random, left: &Tree, right: &Tree) -> (Vec<u8>, Vec<u8>) {
+/// Texts of two trees; each may be damaged, have too many dups or nearly so, or negate what is no test.
+fn text_pair(random: &mut Random, sizes: &[u16], left: &Tree, right: &Tree) -> (Vec<u8>, Vec<u8>) {
     let dups = vec!["dup"; 31 + random.below(2)].join(";").into_bytes();
+    let negated = damage::negated(random, sizes);
+    let negated = tree::text(random, &negated);
     let (left, right) = (text(random, left, 10), text(random, right, 10));
-    match random.below(40) {
+    match random.below(60) {
         0 => (dups, right),
         1 => (left, dups),
+        2 => (negated, right),
+        3 => (left, negated),
+        4 => (dups, negated),
         _ => (left, right),
     }
 }
@@ -570,7 +575,7 @@ fn program(random: &mut Random, extent: Extent) -> Case {
         .iter()
         .map(|size| size.to_string())
         .collect();
-    let (left, right) = text_pair(random, &left, &right);
+    let (left, right) = text_pair(random, &legal, &left, &right);
     let mut lines = vec![printed.join(",").into_bytes(), left, right];
     match random.below(24) {
         0 => lines[0] = sizes_line(random),

@@ -1,7 +1,7 @@
 //! Illegal inputs: one part of a legal one changed, or nothing legal about it.
 
-use super::tree::{star, tree, Tree};
-use crate::policy::{kind, OwnedLists};
+use super::tree::{not, sequence, star, sum, tests, tree, Tree};
+use crate::policy::{kind, Act, OwnedLists};
 use crate::random::Random;
 
 /// Sizes that 1, 2 or 3 refuses.
@@ -28,29 +28,30 @@ pub fn sizes(random: &mut Random, legal: &[u16]) -> Vec<u16> {
     sizes
 }
 
-/// Node lists meant for one of the causes 4 to 9. The change may hit an earlier cause or none: what is refused is for
+/// Node lists meant for one of the causes 4 to 9 and 19. The change may hit an earlier cause or none: what is refused is for
 /// the call to say.
 pub fn nodes(random: &mut Random, sizes: &[u16], legal: &OwnedLists) -> OwnedLists {
     let mut lists = legal.clone();
     let node = random.below(lists.kind.len());
-    match random.below(9) {
+    match random.below(10) {
         0 => unequal(random, &mut lists),
         1 => lists = over(random, legal),
-        2 => lists.kind[node] = random.between(9, 255) as u8,
+        2 => lists.kind[node] = random.between(10, 255) as u8,
         3 => lists.first[node] = random.bits() as u16,
         4 => lists.second[node] = random.bits() as u16,
-        5 => lists.kind[node] = random.below(9) as u8,
+        5 => lists.kind[node] = random.below(10) as u8,
         6 => {
             // Any child number up to the node itself.
             let child = random.below(node + 1) as u16;
             match lists.kind[node] {
-                kind::STAR => lists.first[node] = child,
+                kind::STAR | kind::NOT => lists.first[node] = child,
                 kind::SUM | kind::SEQUENCE if random.one_in(2) => lists.first[node] = child,
                 kind::SUM | kind::SEQUENCE => lists.second[node] = child,
-                _ => drop(lists.push(kind::STAR, child, 0)),
+                _ => drop(lists.push(random.pick(&[kind::STAR, kind::NOT]), child, 0)),
             }
         }
         7 => lists = many_dups(random, sizes).lists(),
+        8 => lists = negated(random, sizes).lists(),
         _ => lists = hostile_nodes(random),
     }
     lists
@@ -66,14 +67,46 @@ fn unequal(random: &mut Random, lists: &mut OwnedLists) {
     }
 }
 
-/// Stars on top up to 513 nodes or a little more.
+/// Stars or negations on top up to 513 nodes or a little more.
 fn over(random: &mut Random, legal: &OwnedLists) -> OwnedLists {
     let mut lists = legal.clone();
     let nodes = 512 + random.between(0, 2);
+    let kind = random.pick(&[kind::STAR, kind::NOT]);
     while lists.kind.len() < nodes {
-        lists.push(kind::STAR, lists.kind.len() as u16 - 1, 0);
+        lists.push(kind, lists.kind.len() as u16 - 1, 0);
     }
     lists
+}
+
+/// A policy with a negation over a change, a dup or a star, which often stand deep below it.
+pub fn negated(random: &mut Random, sizes: &[u16]) -> Tree {
+    let mut policy = match random.below(3) {
+        0 => Tree::Dup,
+        1 => Tree::Field(Act::Set, 0, 0),
+        _ => star(tests(random, sizes, 3)),
+    };
+    for _ in 0..random.below(6) {
+        policy = wrapped(random, sizes, policy);
+    }
+    policy = not(policy);
+    for _ in 0..random.below(6) {
+        policy = wrapped(random, sizes, policy);
+    }
+    policy
+}
+
+/// A policy beside tests, negated or starred.
+fn wrapped(random: &mut Random, sizes: &[u16], policy: Tree) -> Tree {
+    let nodes = random.between(1, 4);
+    let beside = tests(random, sizes, nodes);
+    match random.below(6) {
+        0 => sum(policy, beside),
+        1 => sum(beside, policy),
+        2 => sequence(policy, beside),
+        3 => sequence(beside, policy),
+        4 => not(policy),
+        _ => star(policy),
+    }
 }
 
 /// A policy with 32 dups or a few more.
@@ -96,7 +129,7 @@ fn hostile_nodes(random: &mut Random) -> OwnedLists {
     let nodes = random.between(1, 6);
     let mut lists = OwnedLists::default();
     for node in 0..nodes {
-        let kind = random.below(9) as u8;
+        let kind = random.below(10) as u8;
         let any = random.below(node + 2) as u16;
         let other = random.below(node + 1) as u16;
         lists.push(kind, any, other);
@@ -121,8 +154,8 @@ pub fn text(random: &mut Random, legal: &[u8]) -> Vec<u8> {
         6 => text = many_nodes(random, legal),
         7 => insert(&mut text, place, random.pick(WORDS)),
         8 => insert(&mut text, place, random.pick(TOKENS)),
-        9 => text.push(random.pick(b";+*()=")),
-        10 => text.insert(0, random.pick(b";+*()=")),
+        9 => text.push(random.pick(b";+*()=!")),
+        10 => text.insert(0, random.pick(b";+*()=!")),
         _ => insert(&mut text, place, random.pick(TOKENS)),
     }
     text
@@ -152,7 +185,7 @@ const WORDS: &[&str] = &[
 /// Tokens.
 const TOKENS: &[&str] = &[
     "=", "!=", "<-", "+", ";", "*", "(", ")", " id ", " drop ", " dup ", " f0 ", " 1 ", "f0=0",
-    " ! = ", "< -",
+    "!", "!(", " !f0=0 ", "!!=", " ! = ", "< -",
 ];
 
 fn insert(text: &mut Vec<u8>, place: usize, what: &str) {
@@ -185,7 +218,7 @@ fn many_parentheses(random: &mut Random, legal: &[u8]) -> Vec<u8> {
     text
 }
 
-/// Stars up to about 512 nodes, or far more nodes in a row.
+/// Stars or negations up to about 512 nodes, or far more nodes in a row.
 fn many_nodes(random: &mut Random, legal: &[u8]) -> Vec<u8> {
     if random.one_in(3) {
         let mut text = legal.to_vec();
@@ -194,20 +227,28 @@ fn many_nodes(random: &mut Random, legal: &[u8]) -> Vec<u8> {
         }
         return text;
     }
-    let mut text = b"id".to_vec();
-    text.extend(vec![b'*'; random.between(509, 514)]);
-    text
+    let many = random.between(509, 514);
+    if random.one_in(2) {
+        let mut text = vec![b'!'; many];
+        text.extend_from_slice(b"id");
+        text
+    } else {
+        let mut text = b"id".to_vec();
+        text.extend(vec![b'*'; many]);
+        text
+    }
 }
 
 /// Trees whose node count is near 512.
 pub fn deep(random: &mut Random) -> Tree {
-    let mut policy = if random.one_in(2) {
-        Tree::Id
-    } else {
-        Tree::Dup
+    let (mut policy, on): (Tree, fn(Tree) -> Tree) = match random.below(4) {
+        0 => (Tree::Id, star),
+        1 => (Tree::Dup, star),
+        2 => (Tree::Id, not),
+        _ => (Tree::Field(Act::Equals, 0, 0), not),
     };
     for _ in 0..random.between(400, 511) {
-        policy = star(policy);
+        policy = on(policy);
     }
     policy
 }

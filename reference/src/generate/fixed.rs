@@ -79,13 +79,22 @@ fn nodes_of(text: &str) -> OwnedLists {
     text::nodes(text.as_bytes(), 512).unwrap_or_default()
 }
 
-/// Stars on id, so many nodes in all.
-fn stars(count: usize) -> OwnedLists {
-    let mut lists = nodes(&[(kind::ID, 0, 0)]);
+/// Nodes of a kind with one child on a leaf, so many nodes in all.
+fn on_one(leaf: (u8, u16, u16), kind: u8, count: usize) -> OwnedLists {
+    let mut lists = nodes(&[leaf]);
     while lists.kind.len() < count {
-        lists.push(kind::STAR, lists.kind.len() as u16 - 1, 0);
+        lists.push(kind, lists.kind.len() as u16 - 1, 0);
     }
     lists
+}
+
+fn stars(count: usize) -> OwnedLists {
+    on_one((kind::ID, 0, 0), kind::STAR, count)
+}
+
+/// So many negations of what follows.
+fn negations(count: usize) -> String {
+    "!".repeat(count)
 }
 
 fn dups(count: usize, join: &str) -> String {
@@ -100,7 +109,7 @@ fn policies() -> Vec<Case> {
         unequal,
         stars(512),
         stars(513),
-        nodes(&[(6, 9, 9), (9, 0, 0)]),
+        nodes(&[(6, 9, 9), (10, 0, 0)]),
         nodes(&[(1, 0, 1)]),
         nodes(&[(2, 1, 2)]),
         nodes(&[(3, 2, 0)]),
@@ -113,6 +122,28 @@ fn policies() -> Vec<Case> {
         nodes(&[(5, 0, 0), (1, 0, 0), (5, 0, 0), (6, 2, 1), (7, 3, 0)]),
         nodes_of(&dups(31, "+")),
         nodes_of(&dups(32, "+")),
+        nodes_of("!dup"),
+        nodes(&[(1, 0, 0), (9, 0, 0)]),
+        nodes(&[(1, 0, 0), (9, 0, 1)]),
+        nodes(&[(9, 0, 0)]),
+        nodes(&[(1, 0, 0), (9, 1, 0)]),
+        nodes(&[(1, 0, 0), (1, 0, 0), (9, 0, 0)]),
+        nodes_of("!(f0=0;!(f1=2+drop);f1!=1)"),
+        nodes_of("!(f0=0*)"),
+        nodes_of("!!dup"),
+        nodes_of("!(f0=0+dup)"),
+        nodes_of("!f0<-1"),
+        nodes_of("!(id;!(f0=0;(id+dup)))"),
+        nodes_of("!(f0=0;!f0=1;f0<-1)"),
+        nodes_of("!id+!dup"),
+        nodes(&[(5, 0, 0), (1, 0, 0), (9, 1, 0), (9, 0, 0), (6, 3, 2)]),
+        on_one((2, 0, 1), kind::NOT, 512),
+        on_one((2, 0, 1), kind::NOT, 513),
+        on_one((5, 0, 0), kind::NOT, 512),
+        on_one((4, 0, 1), kind::NOT, 500),
+        nodes_of("!dup"),
+        nodes_of(&dups(32, ";")),
+        nodes_of("!f0=0"),
     ];
     let policy = |policy| Case::Policy {
         sizes: vec![2, 3],
@@ -198,9 +229,44 @@ fn texts() -> Vec<String> {
         "id(id)",
         "(id)(id)",
         "=",
+        "!id",
+        "!!f0=0",
+        " ! !\tf1!=2;!id+!dup",
+        "!f0=0*",
+        "!(f0=0*)",
+        "!(f0=0;f1=0)",
+        "!(id;!(drop))",
+        "!f0<-1",
+        "!",
+        "! ",
+        "!!",
+        "!=",
+        "!=0",
+        "!!=0",
+        "! =0",
+        "!)",
+        "(!)",
+        "!+id",
+        "!;id",
+        "!*",
+        "!0",
+        "!f0",
+        "f0 !",
+        "f0!!=0",
+        "f0=!0",
+        "id!",
+        "id !id",
+        "(id)!id",
+        "id*!",
     ]
     .map(String::from)
     .to_vec();
+    for count in [500, 511, 512, 513] {
+        texts.push(format!("{}id", negations(count)));
+    }
+    texts.push(format!("{}=0", negations(600)));
+    texts.push(format!("{}id{}", "!(".repeat(64), ")".repeat(64)));
+    texts.push(format!("{}id{}", "!(".repeat(65), ")".repeat(65)));
     texts.push(nested(64));
     texts.push(nested(65));
     texts.push(format!(")))*{}", "(".repeat(65)));
@@ -220,6 +286,11 @@ fn long_texts() -> Vec<String> {
         "( ".repeat(MEGABYTE / 2),
         format!("dup{}", "*".repeat(MEGABYTE - 3)),
         format!("dup{}!", "*".repeat(MEGABYTE - 4)),
+        format!("dup{}$", "*".repeat(MEGABYTE - 4)),
+        negations(MEGABYTE),
+        format!("{}id", negations(MEGABYTE - 2)),
+        format!("{}=0", negations(MEGABYTE - 2)),
+        format!("{}(f0=0)*", "! ".repeat(MEGABYTE / 2 - 4)),
         format!("id{}", ";id".repeat(MEGABYTE / 3 - 1)),
         format!("id{};", "+id".repeat(MEGABYTE / 3 - 1)),
         format!("{}{}?", nested(64), " ".repeat(MEGABYTE - 131)),
@@ -266,6 +337,45 @@ fn pairs() -> Vec<Pair> {
             20,
             9,
         ),
+        pair(&[2, 2], "!(f0=0;f1=0)", "f0!=0+f1!=0", 9, 3),
+        pair(&[2], "dup;!f0=0", "!f0=0;dup", 9, 3),
+        pair(&[2], "!f0=0*", "id", 9, 3),
+        pair(&[3], "(f0<-1;!f0=0)*", "id+f0<-1", 9, 3),
+        pair(&[3], "(f0<-0+f0<-1);!f0=0", "f0<-1", 9, 3),
+        pair(&[3], "!f0=0", "f0=1", 9, 3),
+        pair(&[2], "!f0=0", "f0=0", 9, 3),
+        pair(&[2], "dup;!f0=0", "dup", 9, 3),
+        pair(&[65], "!!f0=64;dup", "f0=64;!drop;dup", 99, 3),
+        pair(&[33], "!(f0=32+!f0!=0)", "f0!=0;!f0=32", 99, 3),
+        pair(
+            &[2, 3],
+            "(!(f0=0;f1=0);f1<-0;dup)*",
+            "((f0!=0+f1!=0);f1<-0;dup)*",
+            99,
+            3,
+        ),
+        pair(&[1024], &format!("{}f0=3", negations(500)), "f0=3", 1030, 3),
+        pair(
+            &[1024],
+            &format!("{}f0=3", negations(511)),
+            "f0!=3",
+            1030,
+            3,
+        ),
+        pair(
+            &[1024],
+            &format!("{}f0=3", negations(500)),
+            "!f0=3",
+            1030,
+            3,
+        ),
+        pair(&[2], "!(f0=0*)", "id", 9, 3),
+        pair(&[2], "id", "!!dup", 9, 3),
+        pair(&[2], "!(f0=0+dup)", "!!dup", 9, 3),
+        pair(&[2], "!f0<-1", "id", 9, 3),
+        pair(&[2], &dups(32, ";"), "!dup", 80, 3),
+        pair(&[2], "!dup", &dups(32, ";"), 80, 3),
+        pair(&[2], "!dup", "id;f0=2", 9, 3),
     ]
 }
 
@@ -293,7 +403,7 @@ fn search_texts(pair: &Pair, lists: Lists) -> Case {
     }
 }
 
-/// Texts refused: 14 to 17 of the left text go before those of the right, and before 4 to 9.
+/// Texts refused: 14 to 17 of the left text go before those of the right, and before the causes of policies.
 fn text_edges() -> Vec<Case> {
     let long = format!("id{}", "*".repeat(512));
     let pairs = [
@@ -304,6 +414,8 @@ fn text_edges() -> Vec<Case> {
         pair(&[2], "id id", "$", 9, 9),
         pair(&[2], "f0=2", "id id", 9, 9),
         pair(&[2], "f0=2", "?", 9, 9),
+        pair(&[2], "!dup", "f0 ! = 0", 9, 9),
+        pair(&[2], "!", "?", 9, 9),
         pair(&[], "?", "?", 9, 9),
         pair(&[2, 0], "?", "?", 9, 9),
     ];
@@ -347,7 +459,7 @@ fn list_edges() -> Vec<Case> {
 /// A row.
 type Row = (u16, u32, u32);
 
-fn table(rows: &[Row], work: usize) -> Case {
+fn table(left: &str, right: &str, rows: &[Row], work: usize) -> Case {
     let mut lists = Lists::new(0, 0, work);
     for &(packet, left, right) in rows {
         lists.packet.push(packet);
@@ -356,8 +468,8 @@ fn table(rows: &[Row], work: usize) -> Case {
     }
     Case::Evidence {
         sizes: vec![2],
-        left: nodes_of("f0=0;dup"),
-        right: nodes_of("dup;f0=0"),
+        left: nodes_of(left),
+        right: nodes_of(right),
         lists,
     }
 }
@@ -380,8 +492,16 @@ fn tables() -> Vec<Case> {
         &[(0, 1, 1), (0, 1, 2), (1, 1, 1)],
         &[(0, 2, 1), (0, 1, 1), (1, 1, 1)],
     ];
-    let mut cases: Vec<Case> = tables.iter().map(|rows| table(rows, LEAST_WORK)).collect();
-    cases.push(table(&rows, LEAST_WORK - 1));
+    let first = |rows, work| table("f0=0;dup", "dup;f0=0", rows, work);
+    let mut cases: Vec<Case> = tables.iter().map(|rows| first(rows, LEAST_WORK)).collect();
+    cases.push(first(&rows, LEAST_WORK - 1));
+    let rows = [(0, 1, 1), (1, 1, 1), (0, 2, 0), (1, 2, 2), (1, 2, 0)];
+    for rows in [&rows[..4], &rows[..3], &rows[..2], &rows[1..], &rows] {
+        cases.push(table("dup;!f0=0", "!f0=0;dup", rows, LEAST_WORK));
+    }
+    cases.push(table("dup;!!f0=0", "!f0=0;dup", &rows[..4], LEAST_WORK));
+    cases.push(table("id", "!!dup", &rows, LEAST_WORK - 1));
+    cases.push(table("!(f0=0*)", &dups(32, "+"), &rows, LEAST_WORK));
     cases
 }
 
@@ -410,6 +530,8 @@ fn traces() -> Vec<Case> {
     };
     let mut cases = trace("dup*", "dup;dup*").to_vec();
     cases.extend(trace("dup;dup", "id+dup;dup"));
+    cases.extend(trace("(dup;!f0=0)*", "(!f0=1;dup)*"));
+    cases.extend(trace("id", "!(f0=0+dup)"));
     cases
 }
 
@@ -451,12 +573,25 @@ fn inputs() -> Vec<String> {
         "2\nid\n id ?",
         "2\nid;f0=2\nf0=2",
         "2\nid\nid;f1=0",
+        "2\ndup;!f0=0\n!f0=0;dup\n",
+        "2,2\n!(f0=0;f1=0)\nf0!=0+f1!=0",
+        "3\n!f0=0\nf0=1",
+        "2\n!(f0=0*)\nid",
+        "2\nid\n!!dup",
+        "2\n!(f0=0+dup)\n!dup",
+        "2\nid\nf0 ! = 0",
+        "2\n!!=0\n!",
+        "2\n!\nid",
     ]
     .map(String::from)
     .to_vec();
     inputs.push(format!("2\nid\n{}", nested(65)));
     inputs.push(format!("2\nid\nid{}", "*".repeat(512)));
     inputs.push(format!("2\n{}\nid", dups(32, "+")));
+    inputs.push(format!("2\n{}\n!dup", dups(32, "+")));
+    inputs.push(format!("2\n{0}id\n{0}drop", negations(511)));
+    inputs.push(format!("2\nid\n{}id", negations(513)));
+    inputs.push(format!("2\n{}id\nid", negations(32_760)));
     inputs.push(format!("1024\n{0}\n{0}", dups(3, ";")));
     inputs.push(format!("1024\n{0}\n{0}", dups(4, ";")));
     // a text that ends next to the end of a block of 4,096 bytes

@@ -31,7 +31,18 @@ pub fn pairs() -> Vec<Pair> {
         many_rows(5),
         own_continuations(),
     ]);
+    pairs.extend(negations());
     pairs
+}
+
+/// Policies with negations, against the same with none.
+pub fn negations() -> Vec<Pair> {
+    vec![
+        blocked(48),
+        rule_list(40),
+        nested_negations(500, "f0=3"),
+        nested_negations(501, "f0!=3"),
+    ]
 }
 
 /// Inc, flip and nondet of document 000, section 7.2: over bits, of which there are at most eight, and over the larger
@@ -73,6 +84,60 @@ pub fn nested_stars(stars: usize, body: &str) -> Pair {
         sizes: vec![1024],
         left: format!("{body}{}", "*".repeat(stars)),
         right: format!("{body}{once}"),
+    }
+}
+
+/// So many negations of one test, and the test that they are.
+fn nested_negations(count: usize, test: &str) -> Pair {
+    Pair {
+        name: format!("{count} negations of a test"),
+        sizes: vec![1024],
+        left: format!("{}f0=3;dup", "!".repeat(count)),
+        right: format!("dup;{test}"),
+    }
+}
+
+/// Field 0 gets any value, recorded at each change, and so many packets are blocked: as the negation of their sum, and
+/// spelled out.
+fn blocked(count: usize) -> Pair {
+    let values = |packet: usize| (0..5).map(move |field| packet >> (2 * field) & 3);
+    let packets = || (0..count).map(|at| at * 21 % 1024);
+    let tests = |packet, act: &str, operator| {
+        let test = |(field, value)| format!("f{field}{act}{value}");
+        joined(operator, values(packet).enumerate().map(test))
+    };
+    let sum = joined("+", packets().map(|packet| tests(packet, "=", ";")));
+    let product = joined(
+        ";",
+        packets().map(|packet| format!("({})", tests(packet, "!=", "+"))),
+    );
+    let step = any(1, 4);
+    Pair {
+        name: format!("{count} packets blocked"),
+        sizes: vec![4; 5],
+        left: format!("({step};!({sum});dup)*"),
+        right: format!("({step};{product};dup)*"),
+    }
+}
+
+/// A list of so many rules, of which the first that matches counts: its pattern and its change, or what is left of the list
+/// for packets that don't match. With negations of the patterns, and spelled out.
+fn rule_list(rules: usize) -> Pair {
+    let list = |others: fn(usize, usize) -> String| {
+        (0..rules).rev().fold("f1<-0".to_string(), |rest, rule| {
+            let (place, label) = (rule % 32, rule * 7 % 32);
+            let change = format!("f0<-{}", (place + rule) % 32);
+            let others = others(place, label);
+            format!("f0={place};f1={label};{change}+{others};({rest})")
+        })
+    };
+    let negated = list(|place, label| format!("!(f0={place};f1={label})"));
+    let spelled_out = list(|place, label| format!("(f0!={place}+f1!={label})"));
+    Pair {
+        name: format!("list of {rules} rules"),
+        sizes: vec![32, 32],
+        left: format!("(({negated});dup)*"),
+        right: format!("(({spelled_out});dup)*"),
     }
 }
 
@@ -199,6 +264,7 @@ pub fn small() -> Vec<Pair> {
             "f0!=1+f0=1;f0<-2",
         ),
         pair("10 rows, a dup", 5, "dup;f0!=0", "f0!=0;dup"),
+        pair("10 rows, a negation", 5, "dup;!f0=0", "!f0=0;dup"),
     ]
 }
 

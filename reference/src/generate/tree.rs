@@ -20,9 +20,11 @@ pub enum Tree {
     Sequence(Box<Tree>, Box<Tree>),
     /// Star.
     Star(Box<Tree>),
+    /// Negation.
+    Not(Box<Tree>),
 }
 
-use Tree::{Dup, Field, Id, Sequence, Star, Sum};
+use Tree::{Dup, Field, Id, Not, Sequence, Star, Sum};
 
 /// The sum of two trees.
 pub fn sum(one: Tree, other: Tree) -> Tree {
@@ -39,13 +41,38 @@ pub fn star(body: Tree) -> Tree {
     Star(Box::new(body))
 }
 
+/// The negation of a tree.
+pub fn not(child: Tree) -> Tree {
+    Not(Box::new(child))
+}
+
 impl Tree {
+    /// Is it tests alone, so that it may be negated?
+    pub fn is_tests(&self) -> bool {
+        match self {
+            Tree::Drop | Id | Field(Act::Equals | Act::Differs, ..) => true,
+            Field(Act::Set, ..) | Dup | Star(_) => false,
+            Sum(one, other) | Sequence(one, other) => one.is_tests() && other.is_tests(),
+            Not(child) => child.is_tests(),
+        }
+    }
+
+    /// Is some node a negation?
+    pub fn has_negation(&self) -> bool {
+        match self {
+            Sum(one, other) | Sequence(one, other) => one.has_negation() || other.has_negation(),
+            Star(body) => body.has_negation(),
+            Not(_) => true,
+            _ => false,
+        }
+    }
+
     /// How many nodes are dup.
     pub fn dups(&self) -> usize {
         match self {
             Dup => 1,
             Sum(one, other) | Sequence(one, other) => one.dups() + other.dups(),
-            Star(body) => body.dups(),
+            Star(body) | Not(body) => body.dups(),
             _ => 0,
         }
     }
@@ -54,7 +81,7 @@ impl Tree {
     pub fn size(&self) -> usize {
         1 + match self {
             Sum(one, other) | Sequence(one, other) => one.size() + other.size(),
-            Star(body) => body.size(),
+            Star(body) | Not(body) => body.size(),
             _ => 0,
         }
     }
@@ -86,6 +113,10 @@ impl Tree {
                 let body = body.append(lists);
                 lists.push(kind::STAR, body, 0)
             }
+            Not(child) => {
+                let child = child.append(lists);
+                lists.push(kind::NOT, child, 0)
+            }
         }
     }
 }
@@ -105,18 +136,27 @@ fn leaf(random: &mut Random, sizes: &[u16], dup: bool) -> Tree {
     }
 }
 
-/// A random policy over legal sizes with about this many nodes and at most this many dups.
-pub fn tree(random: &mut Random, sizes: &[u16], nodes: usize, dups: usize) -> Tree {
-    if nodes < 2 {
-        return leaf(random, sizes, dups > 0);
+/// A random test or constant.
+fn test(random: &mut Random, sizes: &[u16]) -> Tree {
+    loop {
+        let test = leaf(random, sizes, false);
+        if test.is_tests() {
+            return test;
+        }
     }
-    if random.one_in(5) {
-        return star(tree(random, sizes, nodes - 1, dups));
+}
+
+/// A random policy of tests alone with about this many nodes.
+pub fn tests(random: &mut Random, sizes: &[u16], nodes: usize) -> Tree {
+    if nodes < 2 {
+        return test(random, sizes);
+    }
+    if random.one_in(4) {
+        return not(tests(random, sizes, nodes - 1));
     }
     let share = random.between(0, nodes - 2);
-    let one = tree(random, sizes, share, dups);
-    let left = dups - one.dups();
-    let other = tree(random, sizes, nodes - 1 - share, left);
+    let one = tests(random, sizes, share);
+    let other = tests(random, sizes, nodes - 1 - share);
     if random.one_in(2) {
         sum(one, other)
     } else {
@@ -124,19 +164,111 @@ pub fn tree(random: &mut Random, sizes: &[u16], nodes: usize, dups: usize) -> Tr
     }
 }
 
-/// A policy with the same traces, rewritten here and there by laws of NetKAT. Dups may double.
+/// A random policy over legal sizes with about this many nodes and at most this many dups.
+pub fn tree(random: &mut Random, sizes: &[u16], nodes: usize, dups: usize) -> Tree {
+    grown(random, sizes, nodes, dups, true)
+}
+
+/// The same without negations, which the forty checks of the benchmarks are made of, as before there were negations.
+pub fn plain(random: &mut Random, sizes: &[u16], nodes: usize, dups: usize) -> Tree {
+    grown(random, sizes, nodes, dups, false)
+}
+
+fn grown(random: &mut Random, sizes: &[u16], nodes: usize, dups: usize, negations: bool) -> Tree {
+    if nodes < 2 {
+        return leaf(random, sizes, dups > 0);
+    }
+    // A negation has no dups below it, so large parts are negated seldom.
+    if negations && random.one_in(if nodes <= 12 { 6 } else { 40 }) {
+        return not(tests(random, sizes, nodes - 1));
+    }
+    if random.one_in(5) {
+        return star(grown(random, sizes, nodes - 1, dups, negations));
+    }
+    let share = random.between(0, nodes - 2);
+    let one = grown(random, sizes, share, dups, negations);
+    let left = dups - one.dups();
+    let other = grown(random, sizes, nodes - 1 - share, left, negations);
+    if random.one_in(2) {
+        sum(one, other)
+    } else {
+        sequence(one, other)
+    }
+}
+
+/// A policy with the same traces, rewritten here and there by laws of NetKAT. Dups may double. One without negations gets none.
 pub fn same(random: &mut Random, sizes: &[u16], policy: &Tree) -> Tree {
+    let laws = if policy.has_negation() {
+        Laws::WithNegations
+    } else {
+        Laws::Plain
+    };
+    same_part(random, sizes, policy, laws)
+}
+
+/// The laws by which a part is rewritten.
+#[derive(Clone, Copy, PartialEq, Eq)]
+enum Laws {
+    Plain,
+    WithNegations,
+    /// Of a part that is negated and stays tests alone.
+    OfTests,
+}
+
+fn same_part(random: &mut Random, sizes: &[u16], policy: &Tree, laws: Laws) -> Tree {
+    let mut part = |policy, laws| same_part(random, sizes, policy, laws);
     let inner = match policy {
-        Sum(one, other) => sum(same(random, sizes, one), same(random, sizes, other)),
-        Sequence(one, other) => sequence(same(random, sizes, one), same(random, sizes, other)),
-        Star(body) => star(same(random, sizes, body)),
+        Sum(one, other) => sum(part(one, laws), part(other, laws)),
+        Sequence(one, other) => sequence(part(one, laws), part(other, laws)),
+        Star(body) => star(part(body, laws)),
+        Not(child) => not(part(child, Laws::OfTests)),
         leaf => leaf.clone(),
     };
     // Laws that double a part apply to small parts only, or nested ones would grow without end.
-    if inner.size() <= 24 && random.one_in(3) {
-        rewritten(random, sizes, inner)
+    if inner.size() > 24 || !random.one_in(3) {
+        return inner;
+    }
+    let of_tests = match laws {
+        Laws::Plain => false,
+        Laws::WithNegations => inner.is_tests() && random.one_in(2),
+        Laws::OfTests => true,
+    };
+    if of_tests {
+        rewritten_tests(random, sizes, inner)
     } else {
-        inner
+        rewritten(random, sizes, inner)
+    }
+}
+
+/// One law of tests applied at the root of a part that is tests alone, as is what comes of it.
+fn rewritten_tests(random: &mut Random, sizes: &[u16], policy: Tree) -> Tree {
+    match policy {
+        Not(child) => match *child {
+            Tree::Drop => Id,
+            Id => Tree::Drop,
+            Field(Act::Equals, field, value) => Field(Act::Differs, field, value),
+            Field(Act::Differs, field, value) => Field(Act::Equals, field, value),
+            Sum(one, other) => sequence(Not(one), Not(other)),
+            Sequence(one, other) => sum(Not(one), Not(other)),
+            Not(inner) => *inner,
+            child => not(child),
+        },
+        Sum(one, other) if random.one_in(2) => not(sequence(Not(one), Not(other))),
+        Sum(one, other) => Sum(other, one),
+        Sequence(one, other) if random.one_in(2) => not(sum(Not(one), Not(other))),
+        Sequence(one, other) => Sequence(other, one),
+        Field(Act::Differs, field, value) if random.one_in(2) => others(sizes, field, value),
+        Field(Act::Differs, field, value) => not(Field(Act::Equals, field, value)),
+        Field(Act::Equals, field, value) => not(Field(Act::Differs, field, value)),
+        Tree::Drop => {
+            let test = test(random, sizes);
+            sequence(test.clone(), not(test))
+        }
+        Id => {
+            let test = test(random, sizes);
+            sum(test.clone(), not(test))
+        }
+        policy => not(not(policy)),
     }
 }
 
@@ -195,6 +327,7 @@ fn others(sizes: &[u16], field: u16, value: u16) -> Tree {
 pub fn changed(random: &mut Random, sizes: &[u16], policy: &Tree) -> Tree {
     let mut changed = policy.clone();
     let mut place = &mut changed;
+    let mut negated = false;
     loop {
         place = match place {
             Sum(one, other) | Sequence(one, other) => {
@@ -205,8 +338,16 @@ pub fn changed(random: &mut Random, sizes: &[u16], policy: &Tree) -> Tree {
                 }
             }
             Star(body) => body,
+            Not(child) => {
+                negated = true;
+                child
+            }
             place => {
-                *place = leaf(random, sizes, *place == Dup);
+                *place = if negated {
+                    test(random, sizes)
+                } else {
+                    leaf(random, sizes, *place == Dup)
+                };
                 return changed;
             }
         };
@@ -220,7 +361,7 @@ pub fn renumbered(random: &mut Random, lists: NodeLists) -> OwnedLists {
         let (first, second) = (lists.first[node].into(), lists.second[node].into());
         match lists.kind[node] {
             kind::SUM | kind::SEQUENCE => vec![first, second],
-            kind::STAR => vec![first],
+            kind::STAR | kind::NOT => vec![first],
             _ => Vec::new(),
         }
     };
@@ -336,6 +477,10 @@ impl Writer<'_> {
                 self.write(body, Level::Starred);
                 self.token("*");
             }
+            Not(child) => {
+                self.token("!");
+                self.write(child, Level::Item);
+            }
         }
     }
 }
@@ -360,5 +505,25 @@ mod tests {
             let other = renumbered(&mut random, lists.lists());
             assert_eq!(check(&sizes, other.lists()), Ok(policy.dups()));
         }
+    }
+
+    #[test]
+    fn what_is_made_of_legal_policies_is_legal() {
+        let mut random = Random::new(2);
+        let sizes = [2, 3];
+        let mut negated = 0;
+        for _ in 0..2000 {
+            let wanted = random.between(1, 30);
+            let policy = tree(&mut random, &sizes, wanted, 3);
+            for made in [
+                same(&mut random, &sizes, &policy),
+                changed(&mut random, &sizes, &policy),
+            ] {
+                let lists = made.lists();
+                negated += usize::from(lists.kind.contains(&kind::NOT));
+                assert_eq!(check(&sizes, lists.lists()), Ok(made.dups()));
+            }
+        }
+        assert!(negated > 1000, "{negated}");
     }
 }

@@ -9,7 +9,7 @@ use Rattle.policy.specs.declared.Node.the-variants.{Star}
 use Rattle.spans.specs.Spans.{slot}
 use Rattle.engine.specs.Going.{VisitReady}
 use Rattle.engine.proofs.Records.{missing, arrays, records-note, records-then}
-use Rattle.engine.proofs.Leaving.{EntryLists, TurningLists, node-small, set-small, node-is, entry, leave-blocked, leave-tests, leave-known, leave-never, never-drop, never-id, acts-changing, leave-change, label-small, leave-dup, sum-below, sum-read, sum-first, sum-second, sent-spanned, leave-sum, leave-sum-first, leave-sum-second, seq-below, seq-first, seq-second, leave-seq-none, leave-seq, star-below, turn-start, turn-ready, turn-end, turn-more, turn-less, long-still, not-true, not-false}
+use Rattle.engine.proofs.Leaving.{EntryLists, TurningLists, node-small, set-small, node-is, entry, leave-blocked, leave-tests, leave-known, leave-never, never-drop, never-id, acts-changing, leave-change, label-small, leave-dup, sum-below, sum-read, sum-first, sum-second, sent-spanned, leave-sum, leave-sum-first, leave-sum-second, seq-below, seq-first, seq-second, leave-seq-none, leave-seq, star-below, turn-start, turn-ready, turn-end, turn-more, turn-less, long-still, not-true, not-false, never-neg}
 use Prim.Native.Nat.{ℕ, _<_}
 use borrow.Fn.Kinds.{In}
 use borrow.Fn.PlainCycle.{Measures, is, falls, and}
@@ -193,6 +193,9 @@ through-loop-less t c = turn-less (c .before .before .before .before .before .be
 through-loop-again : (t : ℕ) → through-lts.Need-loop-again (through-calls t) (through-at t) through.Post through-Inv-loop through-μ-loop
 through-loop-again t c = (c .before .before .before .before .before .before .note .kept .0 ∙ (c .before .before .before .before .before .before .before .before .before .before .before .before .through7 .kept .1 .1 .1 .1 .1 .1 .0 ∙ c .before .before .before .before .before .before .before .before .before .before .before .before .before .before .before .before .before .loop .inv .0), λ L set0 work0 seen0 rd en e. let tn = c .before .before .before .before .before .before .before .before .before .before .before .before .before .before .before .before .before .loop .inv .1 L _ _ _ rd en e in turn-more L rd en _ e tn (c .before .before .before .before .before .before .before .before .before .before .before .before .through7 .ensures .sent L (turn-ready L rd en _ e tn (long-still (c .before .before .before .before .before .before .before .before .before .before .before .before .before .before .before .before .before .before .before .before .before .before .before .before .before .before .before .before .before .before .before .before .before .before .before .before .before .before .before .before .pre .1 .0 .ready .long) (c .before .before .before .before .before .before .before .before .before .before .before .before .before .before .before .before .before .loop .inv .0 ∙ c .before .before .before .before .before .before .before .before .before .before .before .before .before .before .before .before .before .before .before .before .before .before .before .before .before .before .enter .kept .1 .1 .1 .1 .0)))) (c .before .before .before .before .before .before .note .ensures) (c .join2 .ensures), arrays (records-then ((c .before .before .before .before .before .before .before .before .before .before .before .before .through7 .ensures .sent (c .before .before .before .before .before .before .before .before .before .before .before .before .before .before .before .before .before .before .before .before .before .before .before .before .before .before .before .before .before .before .before .before .before .before .before .before .before .before .before .before .pre .1 .0 .lists) (turn-ready (c .before .before .before .before .before .before .before .before .before .before .before .before .before .before .before .before .before .before .before .before .before .before .before .before .before .before .before .before .before .before .before .before .before .before .before .before .before .before .before .before .pre .1 .0 .lists) (c .before .before .before .before .before .before .before .before .before .before .before .before .before .before .before .before .before .before .before .before .before .before .before .before .before .before .before .before .before .before .before .before .before .before .before .before .before .before .before .before .pre .1 .0 .ready) (entry (c .before .before .before .before .before .before .before .before .before .before .before .before .before .before .before .before .before .before .before .before .before .before .before .before .before .before .before .before .before .before .before .before .before .before .before .before .before .before .before .before .pre .1 .0 .lists) (c .before .before .before .before .before .before .before .before .before .before .before .before .before .before .before .before .before .before .before .before .before .before .before .before .before .before .before .before .before .before .before .before .before .before .before .before .before .before .before .before .pre .1 .0 .ready) (c .before .before .before .before .before .before .before .before .before .before .before .before .before .before .before .before .before .before .before .before .before .before .before .before .before .before .before .before .before .before .before .before .before .before .before .before .set-in .ensures) (c .before .before .before .before .before .before .before .before .before .before .before .before .before .before .before .before .before .before .before .before .before .before .before .before .before .before .before .before .before .before .before .before .before .before .admit .ensures) (c .before .before .before .before .before .before .before .before .before .before .before .before .before .before .before .before .before .before .before .before .before .before .before .before .before .before .before .before .before .before .slot-in .ensures) (c .before .before .before .before .before .before .before .before .before .before .before .before .before .before .before .before .before .before .before .before .before .before .before .before .before .before .enter .ensures) (sym (c .before .before .before .before .before .before .before .before .before .before .before .before .before .before .before .before .before .before .before .before .before .before .before .before .before .before .before .before .before .before .before .before .tests-in .ensures) ∙ c .before .before .before .before .before .before .before .before .before .before .before .before .before .before .before .before .before .before .before .before .before .before .before .before .before .before .before .before .before .before .before .if2 .left)) _ (node-is (c .before .before .before .before .before .before .before .before .before .before .before .before .before .before .before .before .before .before .before .before .before .before .before .before .before .before .before .before .before .before .before .before .before .before .before .before .before .before .before .before .pre .1 .0 .lists) (c .before .before .before .before .before .before .before .before .before .before .before .before .before .before .before .before .before .before .before .before .before .before .before .before .before .before .before .before .before .before .before .before .before .before .before .before .before .before .before .before .pre .1 .0 .ready) (c .before .before .before .before .before .before .before .before .before .before .before .before .before .before .before .before .before .before .before .before .before .before .node-in .ensures) (c .before .before .before .before .before .before .before .before .before .before .before .before .before .before .before .before .before .before .before .before .c .given .1)) (c .before .before .before .before .before .before .before .before .before .before .before .before .before .before .before .before .before .loop .inv .1 (c .before .before .before .before .before .before .before .before .before .before .before .before .before .before .before .before .before .before .before .before .before .before .before .before .before .before .before .before .before .before .before .before .before .before .before .before .before .before .before .before .pre .1 .0 .lists) _ _ _ (c .before .before .before .before .before .before .before .before .before .before .before .before .before .before .before .before .before .before .before .before .before .before .before .before .before .before .before .before .before .before .before .before .before .before .before .before .before .before .before .before .pre .1 .0 .ready) (entry (c .before .before .before .before .before .before .before .before .before .before .before .before .before .before .before .before .before .before .before .before .before .before .before .before .before .before .before .before .before .before .before .before .before .before .before .before .before .before .before .before .pre .1 .0 .lists) (c .before .before .before .before .before .before .before .before .before .before .before .before .before .before .before .before .before .before .before .before .before .before .before .before .before .before .before .before .before .before .before .before .before .before .before .before .before .before .before .before .pre .1 .0 .ready) (c .before .before .before .before .before .before .before .before .before .before .before .before .before .before .before .before .before .before .before .before .before .before .before .before .before .before .before .before .before .before .before .before .before .before .before .before .set-in .ensures) (c .before .before .before .before .before .before .before .before .before .before .before .before .before .before .before .before .before .before .before .before .before .before .before .before .before .before .before .before .before .before .before .before .before .before .admit .ensures) (c .before .before .before .before .before .before .before .before .before .before .before .before .before .before .before .before .before .before .before .before .before .before .before .before .before .before .before .before .before .before .slot-in .ensures) (c .before .before .before .before .before .before .before .before .before .before .before .before .before .before .before .before .before .before .before .before .before .before .before .before .before .before .enter .ensures) (sym (c .before .before .before .before .before .before .before .before .before .before .before .before .before .before .before .before .before .before .before .before .before .before .before .before .before .before .before .before .before .before .before .before .tests-in .ensures) ∙ c .before .before .before .before .before .before .before .before .before .before .before .before .before .before .before .before .before .before .before .before .before .before .before .before .before .before .before .before .before .before .before .if2 .left)) (node-is (c .before .before .before .before .before .before .before .before .before .before .before .before .before .before .before .before .before .before .before .before .before .before .before .before .before .before .before .before .before .before .before .before .before .before .before .before .before .before .before .before .pre .1 .0 .lists) (c .before .before .before .before .before .before .before .before .before .before .before .before .before .before .before .before .before .before .before .before .before .before .before .before .before .before .before .before .before .before .before .before .before .before .before .before .before .before .before .before .pre .1 .0 .ready) (c .before .before .before .before .before .before .before .before .before .before .before .before .before .before .before .before .before .before .before .before .before .before .node-in .ensures) (c .before .before .before .before .before .before .before .before .before .before .before .before .before .before .before .before .before .before .before .before .c .given .1))) (long-still (c .before .before .before .before .before .before .before .before .before .before .before .before .before .before .before .before .before .before .before .before .before .before .before .before .before .before .before .before .before .before .before .before .before .before .before .before .before .before .before .before .pre .1 .0 .ready .long) (c .before .before .before .before .before .before .before .before .before .before .before .before .before .before .before .before .before .loop .inv .0 ∙ c .before .before .before .before .before .before .before .before .before .before .before .before .before .before .before .before .before .before .before .before .before .before .before .before .before .before .enter .kept .1 .1 .1 .1 .0)))) .recorded) (records-note (c .before .before .before .before .before .before .note .ensures))) (c .before .before .before .before .before .before .before .before .before .before .before .before .before .before .before .before .before .loop .inv .2))
 
+through-enum-told-4 : (t : ℕ) → through-lts.Need-enum-told-4 (through-calls t) (through-at t) through.Post through-Inv-loop through-μ-loop
+through-enum-told-4 t c = search needs
+
 through-same-length-6 : (t : ℕ) → through-lts.Need-same-length-6 (through-calls t) (through-at t) through.Post through-Inv-loop through-μ-loop
 through-same-length-6 t c = c .before .before .before .before .before .before .enter .kept .1 .1 .1 .1 .0
 
@@ -228,6 +231,12 @@ through-same-length-11 t c = c .before .before .through6 .kept .1 .1 .1 .1 .1 .1
 
 through-returns-13 : (t : ℕ) → through-lts.Need-returns-13 (through-calls t) (through-at t) through.Post through-Inv-loop through-μ-loop
 through-returns-13 t c = record { sent = λ L rd. leave-seq L rd (entry L rd (c .before .before .before .before .before .before .before .before .before .before .before .before .before .before .before .before .before .before .before .before .before .before .before .before .before .before .before .before .before .before .before .before .before .set-in .ensures) (c .before .before .before .before .before .before .before .before .before .before .before .before .before .before .before .before .before .before .before .before .before .before .before .before .before .before .before .before .before .before .before .admit .ensures) (c .before .before .before .before .before .before .before .before .before .before .before .before .before .before .before .before .before .before .before .before .before .before .before .before .before .before .before .slot-in .ensures) (c .before .before .before .before .before .before .before .before .before .before .before .before .before .before .before .before .before .before .before .before .before .before .before .enter .ensures) (sym (c .before .before .before .before .before .before .before .before .before .before .before .before .before .before .before .before .before .before .before .before .before .before .before .before .before .before .before .before .before .tests-in .ensures) ∙ c .before .before .before .before .before .before .before .before .before .before .before .before .before .before .before .before .before .before .before .before .before .before .before .before .before .before .before .before .if2 .left)) _ _ (node-is L rd (c .before .before .before .before .before .before .before .before .before .before .before .before .before .before .before .before .before .before .before .node-in .ensures) (c .before .before .before .before .before .before .before .before .before .before .before .before .before .before .before .before .before .l2 .given .1)) (c .before .before .before .before .before .before .before .before .before .before .before .before .before .before .before .before .before .before .before .before .before .before .before .enter .kept .1 .1 .1 .1 .0) (c .before .before .before .before .before .before .before .before .before .before .before .through5 .ensures .sent L (seq-first L rd (entry L rd (c .before .before .before .before .before .before .before .before .before .before .before .before .before .before .before .before .before .before .before .before .before .before .before .before .before .before .before .before .before .before .before .before .before .set-in .ensures) (c .before .before .before .before .before .before .before .before .before .before .before .before .before .before .before .before .before .before .before .before .before .before .before .before .before .before .before .before .before .before .before .admit .ensures) (c .before .before .before .before .before .before .before .before .before .before .before .before .before .before .before .before .before .before .before .before .before .before .before .before .before .before .before .slot-in .ensures) (c .before .before .before .before .before .before .before .before .before .before .before .before .before .before .before .before .before .before .before .before .before .before .before .enter .ensures) (sym (c .before .before .before .before .before .before .before .before .before .before .before .before .before .before .before .before .before .before .before .before .before .before .before .before .before .before .before .before .before .tests-in .ensures) ∙ c .before .before .before .before .before .before .before .before .before .before .before .before .before .before .before .before .before .before .before .before .before .before .before .before .before .before .before .before .if2 .left)) _ _ (node-is L rd (c .before .before .before .before .before .before .before .before .before .before .before .before .before .before .before .before .before .before .before .node-in .ensures) (c .before .before .before .before .before .before .before .before .before .before .before .before .before .before .before .before .before .l2 .given .1)) (c .before .before .before .before .before .before .before .before .before .before .before .before .before .before .before .before .before .before .before .before .before .before .before .enter .kept .1 .1 .1 .1 .0))) (c .before .before .through6 .ensures .sent L (seq-second L rd (entry L rd (c .before .before .before .before .before .before .before .before .before .before .before .before .before .before .before .before .before .before .before .before .before .before .before .before .before .before .before .before .before .before .before .before .before .set-in .ensures) (c .before .before .before .before .before .before .before .before .before .before .before .before .before .before .before .before .before .before .before .before .before .before .before .before .before .before .before .before .before .before .before .admit .ensures) (c .before .before .before .before .before .before .before .before .before .before .before .before .before .before .before .before .before .before .before .before .before .before .before .before .before .before .before .slot-in .ensures) (c .before .before .before .before .before .before .before .before .before .before .before .before .before .before .before .before .before .before .before .before .before .before .before .enter .ensures) (sym (c .before .before .before .before .before .before .before .before .before .before .before .before .before .before .before .before .before .before .before .before .before .before .before .before .before .before .before .before .before .tests-in .ensures) ∙ c .before .before .before .before .before .before .before .before .before .before .before .before .before .before .before .before .before .before .before .before .before .before .before .before .before .before .before .before .if2 .left)) _ _ (node-is L rd (c .before .before .before .before .before .before .before .before .before .before .before .before .before .before .before .before .before .before .before .node-in .ensures) (c .before .before .before .before .before .before .before .before .before .before .before .before .before .before .before .before .before .l2 .given .1)) (c .before .before .before .before .before .before .before .before .before .before .before .before .before .before .before .before .before .before .before .before .before .before .before .enter .kept .1 .1 .1 .1 .0) (c .before .before .before .before .before .before .before .before .before .before .before .through5 .ensures .sent L (seq-first L rd (entry L rd (c .before .before .before .before .before .before .before .before .before .before .before .before .before .before .before .before .before .before .before .before .before .before .before .before .before .before .before .before .before .before .before .before .before .set-in .ensures) (c .before .before .before .before .before .before .before .before .before .before .before .before .before .before .before .before .before .before .before .before .before .before .before .before .before .before .before .before .before .before .before .admit .ensures) (c .before .before .before .before .before .before .before .before .before .before .before .before .before .before .before .before .before .before .before .before .before .before .before .before .before .before .before .slot-in .ensures) (c .before .before .before .before .before .before .before .before .before .before .before .before .before .before .before .before .before .before .before .before .before .before .before .enter .ensures) (sym (c .before .before .before .before .before .before .before .before .before .before .before .before .before .before .before .before .before .before .before .before .before .before .before .before .before .before .before .before .before .tests-in .ensures) ∙ c .before .before .before .before .before .before .before .before .before .before .before .before .before .before .before .before .before .before .before .before .before .before .before .before .before .before .before .before .if2 .left)) _ _ (node-is L rd (c .before .before .before .before .before .before .before .before .before .before .before .before .before .before .before .before .before .before .before .node-in .ensures) (c .before .before .before .before .before .before .before .before .before .before .before .before .before .before .before .before .before .l2 .given .1)) (c .before .before .before .before .before .before .before .before .before .before .before .before .before .before .before .before .before .before .before .before .before .before .before .enter .kept .1 .1 .1 .1 .0))) (c .before .before .before .before .before .before .before .before .before .before .before .through5 .kept .1 .1 .1 .1 .1 .1 .0))) }
+
+through-same-length-12 : (t : ℕ) → through-lts.Need-same-length-12 (through-calls t) (through-at t) through.Post through-Inv-loop through-μ-loop
+through-same-length-12 t c = c .before .before .before .before .before .before .enter .kept .1 .1 .1 .1 .0
+
+through-returns-14 : (t : ℕ) → through-lts.Need-returns-14 (through-calls t) (through-at t) through.Post through-Inv-loop through-μ-loop
+through-returns-14 t c = record { sent = λ L rd. leave-never L rd (entry L rd (c .before .before .before .before .before .before .before .before .before .before .before .before .before .before .before .before .set-in .ensures) (c .before .before .before .before .before .before .before .before .before .before .before .before .before .before .admit .ensures) (c .before .before .before .before .before .before .before .before .before .before .slot-in .ensures) (c .before .before .before .before .before .before .enter .ensures) (sym (c .before .before .before .before .before .before .before .before .before .before .before .before .tests-in .ensures) ∙ c .before .before .before .before .before .before .before .before .before .before .before .if2 .left)) _ (node-is L rd (c .before .before .node-in .ensures) (c .enum-told4 .given .1)) (never-neg _) }
 
 pub +through-spec : {M : Type 1} → statement M
 +through-spec = close μ-through λ t. through-lts.spec (through-calls t)
@@ -281,6 +290,7 @@ pub +through-spec : {M : Type 1} → statement M
     (through-join-requires-2 t)
     (through-loop-less t)
     (through-loop-again t)
+    (through-enum-told-4 t)
     (through-same-length-6 t)
     (through-returns-8 t)
     (through-same-length-7 t)
@@ -293,3 +303,5 @@ pub +through-spec : {M : Type 1} → statement M
     (through-returns-12 t)
     (through-same-length-11 t)
     (through-returns-13 t)
+    (through-same-length-12 t)
+    (through-returns-14 t)

@@ -25,6 +25,9 @@ enum-known-node c = search needs
 enum-told-6 : tie.Need-enum-told-6
 enum-told-6 c = search needs
 
+enum-told-7 : tie.Need-enum-told-7
+enum-told-7 c = search needs
+
 returns : tie.Need-returns
 unfolding onward
 returns c = search needs
@@ -53,6 +56,10 @@ returns-7 : tie.Need-returns-7
 unfolding onward
 returns-7 c = search needs
 
+returns-8 : tie.Need-returns-8
+unfolding onward
+returns-8 c = search needs
+
 pub onward-spec : {M : Type 1} → statement M
 onward-spec =
     tie.close
@@ -64,10 +71,12 @@ onward-spec =
     enum-told-5
     enum-known-node
     enum-told-6
+    enum-told-7
     returns
     returns-2
     returns-3
     returns-4
     returns-5
     returns-6
-    returns-7)
+    returns-7
+    returns-8)

@@ -26,11 +26,15 @@ returns-5 c = place-of 8 _ (c .match .keys5)
 
 returns-6 : tie.Need-returns-6
 unfolding causePlace causes placeAmong oneOr
-returns-6 c = place-of 9 _ (c .match .keys6)
+returns-6 c = place-of 19 _ (c .match .keys6)
 
 returns-7 : tie.Need-returns-7
-returns-7 c = no-place _ (c .match .rest)
+unfolding causePlace causes placeAmong oneOr
+returns-7 c = place-of 9 _ (c .match .keys7)
+
+returns-8 : tie.Need-returns-8
+returns-8 c = no-place _ (c .match .rest)
 
 pub cause-place-spec : {M : Type 1} → statement M
 cause-place-spec =
-    tie.close (tie.spec returns returns-2 returns-3 returns-4 returns-5 returns-6 returns-7)
+    tie.close (tie.spec returns returns-2 returns-3 returns-4 returns-5 returns-6 returns-7 returns-8)

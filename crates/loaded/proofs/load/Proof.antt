@@ -1,12 +1,12 @@
 -- `load` meets its contract: the passes say of each node what a loaded policy asks. Assumes nothing.
 use mathlib.Core.Path.{_∙_}
-use Rattle.loaded.proofs.Trees.{legal-formed}
+use Rattle.loaded.proofs.Trees.{legal-formed, legal-countable}
 use Rattle.loaded.proofs.Assembly.{fitting, loaded}
 use Rattle.loaded.proofs.load.Statement.{statement}
 use Rattle.loaded.proofs.load.Tie as tie
 
 tests-alone-requires : tie.Need-tests-alone-requires
-tests-alone-requires c κs = legal-formed _ _ (c .before .before .before .before .pre .1)
+tests-alone-requires c κs = legal-countable (c .before .before .before .before .pre .1)
 
 ways-up-requires : tie.Need-ways-up-requires
 ways-up-requires c κs = (legal-formed _ _ (c .before .before .before .before .before .before .pre .1), c .before .tests-alone .ensures)

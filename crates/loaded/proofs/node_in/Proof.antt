@@ -51,8 +51,12 @@ unfolding nodeOf nodeIn
 returns-9 c = of-kind _ 8 _ _ (c .match .keys9)
 
 returns-10 : tie.Need-returns-10
+unfolding nodeOf nodeIn
+returns-10 c = of-kind _ 9 _ _ (c .match .keys10)
+
+returns-11 : tie.Need-returns-11
 unfolding nodeIn
-returns-10 c = sym (no-kind _ _ _ (c .match .rest))
+returns-11 c = sym (no-kind _ _ _ (c .match .rest))
 
 pub node-in-spec : {M : Type 1} → statement M
 node-in-spec =
@@ -69,4 +73,5 @@ node-in-spec =
     returns-7
     returns-8
     returns-9
-    returns-10)
+    returns-10
+    returns-11)

@@ -1,4 +1,4 @@
--- `bad_kind` meets its contract: below `i` no kind is over 8.
+-- `bad_kind` meets its contract: below `i` no kind is over 9.
 -- Assumes nothing.
 use borrow.Author.Needs.{needs}
 use Prim.Native.Nat.{_≤_, _-_}

@@ -39,6 +39,12 @@ enum-known-node-3 c = search needs
 not-below-requires-5 : tie.Need-not-below-requires-5
 not-below-requires-5 c κs = search needs
 
+enum-known-node-4 : tie.Need-enum-known-node-4
+enum-known-node-4 c = search needs
+
+not-below-requires-6 : tie.Need-not-below-requires-6
+not-below-requires-6 c κs = search needs
+
 enum-told : tie.Need-enum-told
 enum-told c = search needs
 
@@ -65,19 +71,23 @@ returns-5 c = one-not-below _ (c .before .before .before .before .args .node) _ 
 
 returns-6 : tie.Need-returns-6
 unfolding children
-returns-6 c = none-not-below _ (c .before .before .args .node) (ap children (c .enum-told .given .1))
+returns-6 c = one-not-below _ (c .before .before .before .before .args .node) _ (ap children (c .before .before .node4 .given .1)) (c .not-below6 .ensures)
 
 returns-7 : tie.Need-returns-7
 unfolding children
-returns-7 c = none-not-below _ (c .before .before .args .node) (ap children (c .enum-told2 .given .1))
+returns-7 c = none-not-below _ (c .before .before .args .node) (ap children (c .enum-told .given .1))
 
 returns-8 : tie.Need-returns-8
 unfolding children
-returns-8 c = none-not-below _ (c .before .before .args .node) (ap children (c .enum-told3 .given .1))
+returns-8 c = none-not-below _ (c .before .before .args .node) (ap children (c .enum-told2 .given .1))
 
 returns-9 : tie.Need-returns-9
 unfolding children
-returns-9 c = none-not-below _ (c .before .before .args .node) (ap children (c .enum-told4 .given .1))
+returns-9 c = none-not-below _ (c .before .before .args .node) (ap children (c .enum-told3 .given .1))
+
+returns-10 : tie.Need-returns-10
+unfolding children
+returns-10 c = none-not-below _ (c .before .before .args .node) (ap children (c .enum-told4 .given .1))
 
 pub child-not-below-spec : {M : Type 1} → statement M
 child-not-below-spec =
@@ -93,6 +103,8 @@ child-not-below-spec =
     not-below-requires-4
     enum-known-node-3
     not-below-requires-5
+    enum-known-node-4
+    not-below-requires-6
     enum-told
     enum-told-2
     enum-told-3
@@ -103,4 +115,5 @@ child-not-below-spec =
     returns-6
     returns-7
     returns-8
-    returns-9)
+    returns-9
+    returns-10)

@@ -1,15 +1,15 @@
 -- The cycle of readers: sum, sequence, starred item, item. Each calls one of a lower rank, or one after a token that it has read: the measure
 -- is four times the tokens left, and the reader's rank.
 use Prim.Native.Nat.{ℕ, _<_, _+_, _*_}
-use native.Mathlib.Nat.{le-refl, le-of-lt}
+use native.Mathlib.Nat.{le-of-lt}
 use native.Mathlib.Omega.{arith}
 use mathlib.Core.Path.{_∙_}
 use lib.ListN.{length}
 use Rattle.grammar.specs.Tokens.{tokensFrom, fieldNames}
 use Rattle.text.specs.Inner as level
-use Rattle.text.proofs.StepLaws.{kind-not, opened, sequence-next, sum-next}
+use Rattle.text.proofs.StepLaws.{kind-not, opened, item-negated, sequence-next, sum-next}
 use Rattle.tokens.proofs.TokensLeft.{fewer-next}
-use Rattle.text.proofs.LoopLaws.{Kept, left, kept-none, onward, nodes-pos, ready-open, ready-next, item-leaf, item-stops, star-next, star-exit, star-fails, sequence-entry, sequence-exit, sequence-fails, sum-entry, sum-exit, sum-fails, star-less, join-less, join-ready}
+use Rattle.text.proofs.LoopLaws.{Kept, left, kept-none, onward, nodes-pos, scanned-low, ready-scanned, ready-open, ready-next, item-leaf, item-stops, star-next, star-exit, star-fails, sequence-entry, sequence-exit, sequence-fails, sum-entry, sum-exit, sum-fails, star-less, join-less, negate-ready, join-ready}
 use borrow.Fn.Kinds.{In}
 use borrow.Fn.PlainCycle.{Measures, is, falls, and}
 use Rattle.text.proofs.item.Reads as item
@@ -27,6 +27,8 @@ use Rattle.text.proofs.+item+sequence+starred+sum.Lts-sum as sum-lts
 use Rattle.text.proofs.closed.Reads as closed-reads
 use Rattle.text.proofs.join.Reads as join-reads
 use Rattle.text.proofs.leaf_item.Reads as leaf-item-reads
+use Rattle.text.proofs.negate.Reads as negate-reads
+use Rattle.text.proofs.negations.Reads as negations-reads
 use Rattle.text.proofs.put.Reads as put-reads
 use Rattle.text.proofs.put_parent.Reads as put-parent-reads
 use Rattle.tokens.proofs.token_from.Reads as token-from-reads
@@ -71,7 +73,7 @@ abbrev sum-below : ℕ → In 4 sum-kinds.ps
 sum-below t = and 4 sum-kinds.ps (falls 4 sum-kinds.ps _<_ μ-sum t) sum.Pre
 
 abbrev item-calls : ℕ → item-lts.Claims
-item-calls t = (token-from-reads.Asked, token-from-reads.Learnt, sum-below t, sum.Post, closed-reads.Asked, closed-reads.Learnt, leaf-item-reads.Asked, leaf-item-reads.Learnt, put-reads.Asked, put-reads.Learnt)
+item-calls t = (negations-reads.Asked, negations-reads.Learnt, sum-below t, sum.Post, closed-reads.Asked, closed-reads.Learnt, negate-reads.Asked, negate-reads.Learnt, leaf-item-reads.Asked, leaf-item-reads.Learnt, put-reads.Asked, put-reads.Learnt)
 
 abbrev sequence-calls : ℕ → sequence-lts.Claims
 sequence-calls t = (starred-below t, starred.Post, token-from-reads.Asked, token-from-reads.Learnt, join-reads.Asked, join-reads.Learnt)
@@ -82,50 +84,56 @@ starred-calls t = (item-below t, item.Post, token-from-reads.Asked, token-from-r
 abbrev sum-calls : ℕ → sum-lts.Claims
 sum-calls t = (sequence-below t, sequence.Post, token-from-reads.Asked, token-from-reads.Learnt, join-reads.Asked, join-reads.Learnt)
 
-item-token-from-requires : (t : ℕ) → item-lts.Need-token-from-requires (item-calls t) (item-at t) item.Post
-item-token-from-requires t c κs = c .before .before .before .before .pre .1 .within
+item-negations-requires : (t : ℕ) → item-lts.Need-negations-requires (item-calls t) (item-at t) item.Post
+item-negations-requires t c κs = c .before .before .before .before .pre .1 .within
 
 item-sum-requires : (t : ℕ) → item-lts.Need-sum-requires (item-calls t) (item-at t) item.Post
-item-sum-requires t c κs = (omega (arith, c .before .before .before .before .before .before .before .before .before .before .pre .0, fewer-next _ (le-refl _) (c .before .before .before .before .before .token-from .ensures) (c .before .before .before .if1 .taken) (λ q. omega arith)), ready-open _ _ (c .before .before .before .before .before .before .before .before .before .before .pre .1) (c .before .before .before .before .before .token-from .ensures) (c .before .before .before .if1 .taken) (λ q. omega arith))
+item-sum-requires t c κs = (omega (arith, c .before .before .before .before .before .before .before .before .before .before .pre .0, fewer-next _ (scanned-low _ 0 (c .before .before .before .before .before .negations .ensures)) (c .before .before .before .before .before .negations .ensures .token-is) (c .before .before .before .if1 .taken) (λ q. omega arith)), ready-open _ _ (ready-scanned _ _ (c .before .before .before .before .before .before .before .before .before .before .pre .1) (c .before .before .before .before .before .negations .ensures)) (c .before .before .before .before .before .negations .ensures .token-is) (c .before .before .before .if1 .taken) (λ q. omega arith))
 
 item-closed-requires : (t : ℕ) → item-lts.Need-closed-requires (item-calls t) (item-at t) item.Post
 item-closed-requires t c κs = λ o. c .before .before .before .before .before .before .sum .ensures .got o .within
 
+item-negate-requires : (t : ℕ) → item-lts.Need-negate-requires (item-calls t) (item-at t) item.Post
+item-negate-requires t c κs = negate-ready _ _ (omega (arith, c .before .before .before .before .before .before .before .before .before .before .before .before .before .before .before .before .before .before .before .before .before .good .0 .1)) (c .before .before .before .before .before .before .before .before .before .before .before .before .before .before .before .before .before .before .before .before .before .pre .1) (c .before .before .before .before .before .before .before .before .before .before .sum .kept .1 .1 .1 .1 .0) (c .before .before .before .before .before .before .before .before .before .before .sum .kept .1 .1 .1 .1 .1 .0) (c .before .before .before .before .before .before .before .before .before .before .sum .kept .1 .1 .1 .1 .1 .1 .0) (c .before .before .before .before .before .before .before .before .before .before .before .before .before .before .before .before .negations .ensures) (opened _ _ (c .before .before .before .before .before .before .before .before .before .before .before .before .before .before .before .before .negations .ensures .token-is) (c .before .before .before .before .before .before .before .before .before .before .before .before .before .before .if1 .taken) (c .before .before .before .before .before .before .before .before .before .before .sum .ensures) (c .before .before .before .closed .ensures))
+
 item-same-length : (t : ℕ) → item-lts.Need-same-length (item-calls t) (item-at t) item.Post
-item-same-length t c = c .before .before .before .before .before .before .before .sum .kept .1 .1 .1 .1 .0
+item-same-length t c = c .before .before .before .before .before .before .negate .kept .1 .1 .1 .0 ∙ c .before .before .before .before .before .before .before .before .before .before .before .before .before .before .before .before .before .sum .kept .1 .1 .1 .1 .0
 
 item-same-length-2 : (t : ℕ) → item-lts.Need-same-length-2 (item-calls t) (item-at t) item.Post
-item-same-length-2 t c = c .before .before .before .before .before .before .before .sum .kept .1 .1 .1 .1 .1 .0
+item-same-length-2 t c = c .before .before .before .before .before .before .negate .kept .1 .1 .1 .1 .0 ∙ c .before .before .before .before .before .before .before .before .before .before .before .before .before .before .before .before .before .sum .kept .1 .1 .1 .1 .1 .0
 
 item-same-length-3 : (t : ℕ) → item-lts.Need-same-length-3 (item-calls t) (item-at t) item.Post
-item-same-length-3 t c = c .before .before .before .before .before .before .before .sum .kept .1 .1 .1 .1 .1 .1 .0
+item-same-length-3 t c = c .before .before .before .before .before .before .negate .kept .1 .1 .1 .1 .1 .0 ∙ c .before .before .before .before .before .before .before .before .before .before .before .before .before .before .before .before .before .sum .kept .1 .1 .1 .1 .1 .1 .0
 
 item-returns : (t : ℕ) → item-lts.Need-returns (item-calls t) (item-at t) item.Post
-item-returns t c = opened _ _ (c .before .before .before .before .before .before .before .before .before .before .before .before .before .token-from .ensures) (c .before .before .before .before .before .before .before .before .before .before .before .if1 .taken) (c .before .before .before .before .before .before .before .sum .ensures) (c .closed .ensures)
+item-returns t c = item-negated _ _ (c .before .before .before .before .before .before .before .before .before .before .before .before .before .before .before .before .before .before .before .before .before .before .before .negations .ensures) (opened _ _ (c .before .before .before .before .before .before .before .before .before .before .before .before .before .before .before .before .before .before .before .before .before .before .before .negations .ensures .token-is) (c .before .before .before .before .before .before .before .before .before .before .before .before .before .before .before .before .before .before .before .before .before .if1 .taken) (c .before .before .before .before .before .before .before .before .before .before .before .before .before .before .before .before .before .sum .ensures) (c .before .before .before .before .before .before .before .before .before .before .closed .ensures)) (c .before .before .before .before .before .before .negate .ensures)
 
 item-leaf-item-requires : (t : ℕ) → item-lts.Need-leaf-item-requires (item-calls t) (item-at t) item.Post
-item-leaf-item-requires t c κs = (c .before .before .before .before .before .before .before .pre .1 .within, kind-not _ 0 (c .before .before .token-from .ensures) (c .if1 .left))
+item-leaf-item-requires t c κs = (c .before .before .negations .ensures .within, kind-not _ 0 (c .before .before .negations .ensures .token-is) (c .if1 .left), kind-not _ 0 (c .before .before .negations .ensures .token-is) (c .before .before .negations .ensures .over))
 
 item-put-requires : (t : ℕ) → item-lts.Need-put-requires (item-calls t) (item-at t) item.Post
 item-put-requires t c κs = (c .before .before .before .before .before .before .before .before .before .before .before .before .pre .1 .kinds, c .before .before .before .before .before .before .before .before .before .before .before .before .pre .1 .firsts, c .before .before .before .before .before .before .before .before .before .before .before .before .pre .1 .seconds)
 
-item-add-t25 : (t : ℕ) → item-lts.Need-add-t25 (item-calls t) (item-at t) item.Post
-item-add-t25 t c = omega (arith, c .before .before .before .before .before .before .before .before .before .before .before .before .before .before .before .before .before .before .before .pre .1 .few, c .before .before .before .before .before .before .before .before .before .before .before .leaf-item .ensures .got (c .before .before .before .before .before .before .before .before .before .before .if2 .taken) .onward, c .before .before .before .before .before .before .before .before .before .before .before .leaf-item .ensures .got (c .before .before .before .before .before .before .before .before .before .before .if2 .taken) .within, c .before .before .before .before .before .before .before .before .before .before .before .before .before .before .before .before .before .before .before .good .0 .0)
+item-add-t33 : (t : ℕ) → item-lts.Need-add-t33 (item-calls t) (item-at t) item.Post
+item-add-t33 t c = omega (arith, c .before .before .before .before .before .before .before .before .before .before .before .before .before .before .before .before .before .before .before .pre .1 .few, c .before .before .before .before .before .before .before .before .before .before .before .before .before .before .negations .ensures .few, c .before .before .before .before .before .before .before .before .before .before .before .leaf-item .ensures .got (c .before .before .before .before .before .before .before .before .before .before .if2 .taken) .onward, c .before .before .before .before .before .before .before .before .before .before .before .leaf-item .ensures .got (c .before .before .before .before .before .before .before .before .before .before .if2 .taken) .within, c .before .before .before .before .before .before .before .before .before .before .before .before .before .before .before .before .before .before .before .good .0 .0)
+
+item-negate-requires-2 : (t : ℕ) → item-lts.Need-negate-requires-2 (item-calls t) (item-at t) item.Post
+item-negate-requires-2 t c κs = negate-ready _ _ (omega (arith, c .before .before .before .before .before .before .before .before .before .before .before .before .before .before .before .before .before .before .before .before .before .before .good .0 .1)) (c .before .before .before .before .before .before .before .before .before .before .before .before .before .before .before .before .before .before .before .before .before .before .pre .1) (c .before .before .before .before .before .before .before .before .before .put .kept .1 .1 .1 .1 .1 .0) (c .before .before .before .before .before .before .before .before .before .put .kept .1 .1 .1 .1 .1 .1 .0) (c .before .before .before .before .before .before .before .before .before .put .kept .1 .1 .1 .1 .1 .1 .1 .0) (c .before .before .before .before .before .before .before .before .before .before .before .before .before .before .before .before .before .negations .ensures) (item-leaf _ _ (c .before .before .before .before .before .before .before .before .before .before .before .before .before .before .leaf-item .ensures) (c .before .before .before .before .before .before .before .before .before .before .before .before .before .if2 .taken) (c .before .before .before .before .before .before .before .before .before .put .ensures))
 
 item-same-length-4 : (t : ℕ) → item-lts.Need-same-length-4 (item-calls t) (item-at t) item.Post
-item-same-length-4 t c = c .before .before .before .before .before .before .put .kept .1 .1 .1 .1 .1 .0
+item-same-length-4 t c = c .before .before .before .before .before .before .negate2 .kept .1 .1 .1 .0 ∙ c .before .before .before .before .before .before .before .before .before .before .before .before .before .before .before .before .put .kept .1 .1 .1 .1 .1 .0
 
 item-same-length-5 : (t : ℕ) → item-lts.Need-same-length-5 (item-calls t) (item-at t) item.Post
-item-same-length-5 t c = c .before .before .before .before .before .before .put .kept .1 .1 .1 .1 .1 .1 .0
+item-same-length-5 t c = c .before .before .before .before .before .before .negate2 .kept .1 .1 .1 .1 .0 ∙ c .before .before .before .before .before .before .before .before .before .before .before .before .before .before .before .before .put .kept .1 .1 .1 .1 .1 .1 .0
 
 item-same-length-6 : (t : ℕ) → item-lts.Need-same-length-6 (item-calls t) (item-at t) item.Post
-item-same-length-6 t c = c .before .before .before .before .before .before .put .kept .1 .1 .1 .1 .1 .1 .1 .0
+item-same-length-6 t c = c .before .before .before .before .before .before .negate2 .kept .1 .1 .1 .1 .1 .0 ∙ c .before .before .before .before .before .before .before .before .before .before .before .before .before .before .before .before .put .kept .1 .1 .1 .1 .1 .1 .1 .0
 
 item-returns-2 : (t : ℕ) → item-lts.Need-returns-2 (item-calls t) (item-at t) item.Post
-item-returns-2 t c = item-leaf _ _ (c .before .before .before .before .before .before .before .before .before .before .before .leaf-item .ensures) (c .before .before .before .before .before .before .before .before .before .before .if2 .taken) (c .before .before .before .before .before .before .put .ensures)
+item-returns-2 t c = item-negated _ _ (c .before .before .before .before .before .before .before .before .before .before .before .before .before .before .before .before .before .before .before .before .before .before .before .before .negations .ensures) (item-leaf _ _ (c .before .before .before .before .before .before .before .before .before .before .before .before .before .before .before .before .before .before .before .before .before .leaf-item .ensures) (c .before .before .before .before .before .before .before .before .before .before .before .before .before .before .before .before .before .before .before .before .if2 .taken) (c .before .before .before .before .before .before .before .before .before .before .before .before .before .before .before .before .put .ensures)) (c .before .before .before .before .before .before .negate2 .ensures)
 
 item-returns-3 : (t : ℕ) → item-lts.Need-returns-3 (item-calls t) (item-at t) item.Post
-item-returns-3 t c = item-stops _ _ (c .before .leaf-item .ensures) (c .if2 .left)
+item-returns-3 t c = item-stops _ _ (c .before .before .before .before .negations .ensures) (c .before .leaf-item .ensures) (c .if2 .left)
 
 abbrev sequence-Inv-loop : sequence-lts.InvT-loop
 sequence-Inv-loop text at nodes room kind₀ first₀ second₀ s₀ kind first second s = Kept level.joined text at nodes room kind₀ first₀ second₀ s₀ kind first second s
@@ -293,16 +301,18 @@ pub +item+sequence+starred+sum-spec : {M : Type 1} → statement M
 +item+sequence+starred+sum-spec = close μ-item μ-sequence μ-starred μ-sum (λ t. item-lts.spec (item-calls t)
     (item-at t)
     item.Post
-    (item-token-from-requires t)
+    (item-negations-requires t)
     (item-sum-requires t)
     (item-closed-requires t)
+    (item-negate-requires t)
     (item-same-length t)
     (item-same-length-2 t)
     (item-same-length-3 t)
     (item-returns t)
     (item-leaf-item-requires t)
     (item-put-requires t)
-    (item-add-t25 t)
+    (item-add-t33 t)
+    (item-negate-requires-2 t)
     (item-same-length-4 t)
     (item-same-length-5 t)
     (item-same-length-6 t)

@@ -19,7 +19,7 @@ stopped-requires : tie.Need-stopped-requires
 stopped-requires c κs = search needs
 
 returns-2 : tie.Need-returns-2
-returns-2 c = subst (LeafDone _ _) (sym (c .stopped .ensures)) (leaf-none _ 0 (c .before .before .before .before .before .token-from .ensures) (c .before .before .before .if1 .left) (c .before .if2 .taken) (c .before .before .before .before .before .before .before .pre .1))
+returns-2 c = subst (LeafDone _ _) (sym (c .stopped .ensures)) (leaf-none _ 0 (c .before .before .before .before .before .token-from .ensures) (c .before .before .before .if1 .left) (c .before .if2 .taken) (c .before .before .before .before .before .before .before .pre .1) (c .before .before .before .before .before .before .before .pre .2))
 
 token-from-requires-2 : tie.Need-token-from-requires-2
 token-from-requires-2 c κs = search needs

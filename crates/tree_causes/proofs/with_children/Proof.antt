@@ -36,6 +36,13 @@ with-child-requires-5 : tie.Need-with-child-requires-5
 unfolding children
 with-child-requires-5 c κs = one-room (c .before .before .before .args .counts) (c .before .before .before .args .node) _ (ap children (c .before .node3 .given .1)) (c .before .before .before .pre)
 
+enum-known-node-4 : tie.Need-enum-known-node-4
+enum-known-node-4 c = search needs
+
+with-child-requires-6 : tie.Need-with-child-requires-6
+unfolding children
+with-child-requires-6 c κs = one-room (c .before .before .before .args .counts) (c .before .before .before .args .node) _ (ap children (c .before .node4 .given .1)) (c .before .before .before .pre)
+
 enum-told : tie.Need-enum-told
 enum-told c = search needs
 
@@ -62,19 +69,23 @@ returns-3 c = one-counted (c .before .before .before .before .args .counts) (c .
 
 returns-4 : tie.Need-returns-4
 unfolding children
-returns-4 c = none-counted (c .before .before .args .counts) (c .before .before .args .node) (ap children (c .enum-told .given .1))
+returns-4 c = one-counted (c .before .before .before .before .args .counts) (c .before .before .before .before .args .node) _ (ap children (c .before .before .node4 .given .1)) (c .with-child6 .ensures)
 
 returns-5 : tie.Need-returns-5
 unfolding children
-returns-5 c = none-counted (c .before .before .args .counts) (c .before .before .args .node) (ap children (c .enum-told2 .given .1))
+returns-5 c = none-counted (c .before .before .args .counts) (c .before .before .args .node) (ap children (c .enum-told .given .1))
 
 returns-6 : tie.Need-returns-6
 unfolding children
-returns-6 c = none-counted (c .before .before .args .counts) (c .before .before .args .node) (ap children (c .enum-told3 .given .1))
+returns-6 c = none-counted (c .before .before .args .counts) (c .before .before .args .node) (ap children (c .enum-told2 .given .1))
 
 returns-7 : tie.Need-returns-7
 unfolding children
-returns-7 c = none-counted (c .before .before .args .counts) (c .before .before .args .node) (ap children (c .enum-told4 .given .1))
+returns-7 c = none-counted (c .before .before .args .counts) (c .before .before .args .node) (ap children (c .enum-told3 .given .1))
+
+returns-8 : tie.Need-returns-8
+unfolding children
+returns-8 c = none-counted (c .before .before .args .counts) (c .before .before .args .node) (ap children (c .enum-told4 .given .1))
 
 pub with-children-spec : {M : Type 1} → statement M
 with-children-spec =
@@ -88,6 +99,8 @@ with-children-spec =
     with-child-requires-4
     enum-known-node-3
     with-child-requires-5
+    enum-known-node-4
+    with-child-requires-6
     enum-told
     enum-told-2
     enum-told-3
@@ -98,4 +111,5 @@ with-children-spec =
     returns-4
     returns-5
     returns-6
-    returns-7)
+    returns-7
+    returns-8)

@@ -58,6 +58,13 @@ returns-7 : tie.Need-returns-7
 unfolding isDup
 returns-7 c = same-label _ _ _ (c .enum-told7 .given .1) refl
 
+enum-told-8 : tie.Need-enum-told-8
+enum-told-8 c = search needs
+
+returns-8 : tie.Need-returns-8
+unfolding isDup
+returns-8 c = same-label _ _ _ (c .enum-told8 .given .1) refl
+
 pub label-after-spec : {M : Type 1} → statement M
 label-after-spec =
     tie.close
@@ -70,10 +77,12 @@ label-after-spec =
     enum-told-5
     enum-told-6
     enum-told-7
+    enum-told-8
     returns
     returns-2
     returns-3
     returns-4
     returns-5
     returns-6
-    returns-7)
+    returns-7
+    returns-8)

@@ -63,6 +63,13 @@ returns-7 : tie.Need-returns-7
 unfolding dupPlaced
 returns-7 c = placed-is _ _ _ _ _ (c .enum-told7 .given .1)
 
+enum-told-8 : tie.Need-enum-told-8
+enum-told-8 c = search needs
+
+returns-8 : tie.Need-returns-8
+unfolding dupPlaced
+returns-8 c = placed-is _ _ _ _ _ (c .enum-told8 .given .1)
+
 pub put-spec : {M : Type 1} → statement M
 put-spec =
     tie.close
@@ -77,10 +84,12 @@ put-spec =
     enum-told-5
     enum-told-6
     enum-told-7
+    enum-told-8
     returns
     returns-2
     returns-3
     returns-4
     returns-5
     returns-6
-    returns-7)
+    returns-7
+    returns-8)

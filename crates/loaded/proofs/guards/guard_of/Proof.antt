@@ -3,7 +3,8 @@ use mathlib.Core.Path.{subst}
 use native.Mathlib.Omega.{arith}
 use Rattle.policy.specs.InnerEach.{Each}
 use Rattle.policy.specs.NodeLists.{children}
-use Rattle.loaded.specs.Loading.{ChildrenPlaced, guardOf}
+use Rattle.loaded.specs.Loading.{guardOf}
+use Rattle.tree_causes.specs.Alone.{ChildrenPlaced}
 use Rattle.loaded.proofs.Guarding.{guard-flag, guard-is}
 use borrow.Author.Needs.{needs}
 use Rattle.loaded.proofs.guards.guard_of.Statement.{statement}
@@ -72,6 +73,13 @@ returns-8 : tie.Need-returns-8
 unfolding guardOf
 returns-8 c = guard-is _ _ _ _ _ (c .before .before .if1 .left) (c .enum-told6 .given .1)
 
+enum-told-7 : tie.Need-enum-told-7
+enum-told-7 c = search needs
+
+returns-9 : tie.Need-returns-9
+unfolding guardOf
+returns-9 c = guard-is _ _ _ _ _ (c .before .before .if1 .left) (c .enum-told7 .given .1)
+
 pub guard-of-spec : {M : Type 1} → statement M
 guard-of-spec =
     tie.close
@@ -87,10 +95,12 @@ guard-of-spec =
     mul-result
     element-copy-out-result
     enum-told-6
+    enum-told-7
     returns-2
     returns-3
     returns-4
     returns-5
     returns-6
     returns-7
-    returns-8)
+    returns-8
+    returns-9)

@@ -2,7 +2,8 @@
 use mathlib.Core.Path.{_∙_, subst}
 use Rattle.policy.specs.InnerEach.{Each}
 use Rattle.policy.specs.NodeLists.{children}
-use Rattle.loaded.specs.Loading.{ChildrenPlaced, testUnder}
+use Rattle.loaded.specs.Loading.{testUnder}
+use Rattle.tree_causes.specs.Alone.{ChildrenPlaced}
 use Rattle.loaded.proofs.Giving.{under-flag, under-is, pick-twice}
 use borrow.Author.Needs.{needs}
 use Rattle.loaded.proofs.numbering.test_under.Statement.{statement}
@@ -95,6 +96,13 @@ returns-8 : tie.Need-returns-8
 unfolding testUnder
 returns-8 c = c .pick-test5 .ensures ∙ under-is _ _ _ _ (c .before .before .before .before .if1 .left) (c .before .before .node3 .given .1)
 
+enum-told-5 : tie.Need-enum-told-5
+enum-told-5 c = search needs
+
+returns-9 : tie.Need-returns-9
+unfolding testUnder
+returns-9 c = under-is _ _ _ _ (c .before .before .if1 .left) (c .enum-told5 .given .1)
+
 pub test-under-spec : {M : Type 1} → statement M
 test-under-spec =
     tie.close
@@ -117,10 +125,12 @@ test-under-spec =
     enum-known-node-3
     cast-pick-test-5
     pick-test-requires-5
+    enum-told-5
     returns-2
     returns-3
     returns-4
     returns-5
     returns-6
     returns-7
-    returns-8)
+    returns-8
+    returns-9)

@@ -3,7 +3,7 @@ use borrow.Author.Needs.{needs}
 use mathlib.Core.Path.{refl}
 use native.Mathlib.Omega.{arith}
 use Rattle.loaded.proofs.Trees.{in-lists}
-use Rattle.loaded.proofs.Testing.{formed, drop-node, id-node, field-node, dup-node, sum-node, seq-node, star-node, action-declared, sum-parts, seq-parts}
+use Rattle.loaded.proofs.Testing.{formed, drop-node, id-node, field-node, dup-node, sum-node, seq-node, star-node, neg-node, action-declared, sum-parts, seq-parts, negated-part}
 use Prim.Native.Nat.{ℕ, _<_}
 use borrow.Fn.Kinds.{In}
 use borrow.Fn.PlainCycle.{Measures, is, falls, and}
@@ -13,6 +13,7 @@ use Rattle.loaded.proofs.sets.+test_set.Lts-test_set as test-set-lts
 use Rattle.loaded.proofs.sets.field_set.Reads as field-set-reads
 use Rattle.loaded.proofs.sets.intersect.Reads as intersect-reads
 use Rattle.packet_set.proofs.empty.Reads as empty-reads
+use Rattle.packet_set.proofs.exclusive_or.Reads as exclusive-or-reads
 use Rattle.packet_set.proofs.union.Reads as union-reads
 use Rattle.policy.proofs.lent.node_at.Reads as node-at-reads
 use Rattle.loaded.proofs.sets.+test_set.{statement}
@@ -29,7 +30,7 @@ test-set-below t =
     and 5 test-set-kinds.ps (falls 5 test-set-kinds.ps _<_ μ-test-set t) test-set.Pre
 
 abbrev test-set-calls : ℕ → test-set-lts.Claims
-test-set-calls t = (node-at-reads.Asked, node-at-reads.Learnt, empty-reads.Asked, empty-reads.Learnt, field-set-reads.Asked, field-set-reads.Learnt, test-set-below t, test-set.Post, union-reads.Asked, union-reads.Learnt, intersect-reads.Asked, intersect-reads.Learnt)
+test-set-calls t = (node-at-reads.Asked, node-at-reads.Learnt, empty-reads.Asked, empty-reads.Learnt, field-set-reads.Asked, field-set-reads.Learnt, test-set-below t, test-set.Post, union-reads.Asked, union-reads.Learnt, intersect-reads.Asked, intersect-reads.Learnt, exclusive-or-reads.Asked, exclusive-or-reads.Learnt)
 
 test-set-node-at-requires : (t : ℕ) → test-set-lts.Need-node-at-requires (test-set-calls t) (test-set-at t) test-set.Post
 test-set-node-at-requires t c κs = in-lists _ (formed _ _ _ _ (c .before .before .before .before .pre .1 .0)) _ (c .before .before .before .before .pre .1 .1 .within)
@@ -97,6 +98,18 @@ test-set-enum-told-4 t c = search needs
 test-set-empty-requires-3 : (t : ℕ) → test-set-lts.Need-empty-requires-3 (test-set-calls t) (test-set-at t) test-set.Post
 test-set-empty-requires-3 t c κs = search needs
 
+test-set-enum-known-c : (t : ℕ) → test-set-lts.Need-enum-known-c (test-set-calls t) (test-set-at t) test-set.Post
+test-set-enum-known-c t c = search needs
+
+test-set-cast-test-set-5 : (t : ℕ) → test-set-lts.Need-cast-test-set-5 (test-set-calls t) (test-set-at t) test-set.Post
+test-set-cast-test-set-5 t c = search needs
+
+test-set-test-set-requires-5 : (t : ℕ) → test-set-lts.Need-test-set-requires-5 (test-set-calls t) (test-set-at t) test-set.Post
+test-set-test-set-requires-5 t c κs = let h = negated-part _ _ _ _ (c .before .before .before .before .before .before .before .before .pre .1 .0) _ (c .before .before .before .before .before .before .before .before .pre .1 .1) _ (c .before .before .before .node-at .ensures) _ (c .before .c .given .1) in (omega (arith, h .1, c .before .before .before .before .before .before .before .before .pre .0), (c .before .before .before .before .before .before .before .before .pre .1 .0, h .0))
+
+test-set-exclusive-or-requires : (t : ℕ) → test-set-lts.Need-exclusive-or-requires (test-set-calls t) (test-set-at t) test-set.Post
+test-set-exclusive-or-requires t c κs = search needs
+
 test-set-returns : (t : ℕ) → test-set-lts.Need-returns (test-set-calls t) (test-set-at t) test-set.Post
 test-set-returns t c = drop-node _ _ _ _ (c .before .before .before .before .before .before .before .before .pre .1 .0) _ (c .before .before .before .before .before .before .before .before .pre .1 .1) _ (c .before .before .before .node-at .ensures) _ (c .before .enum-told .given .1) (c .empty .ensures)
 
@@ -117,6 +130,9 @@ test-set-returns-6 t c = seq-node _ _ _ _ (c .before .before .before .before .be
 
 test-set-returns-7 : (t : ℕ) → test-set-lts.Need-returns-7 (test-set-calls t) (test-set-at t) test-set.Post
 test-set-returns-7 t c = star-node _ _ _ _ (c .before .before .before .before .before .before .before .before .pre .1 .0) _ (c .before .before .before .before .before .before .before .before .pre .1 .1) _ (c .before .before .before .node-at .ensures) _ _ (c .before .enum-told4 .given .1) (c .empty3 .ensures)
+
+test-set-returns-8 : (t : ℕ) → test-set-lts.Need-returns-8 (test-set-calls t) (test-set-at t) test-set.Post
+test-set-returns-8 t c = neg-node _ _ _ _ (c .before .before .before .before .before .before .before .before .before .before .before .pre .1 .0) _ (c .before .before .before .before .before .before .before .before .before .before .before .pre .1 .1) _ (c .before .before .before .before .before .before .node-at .ensures) _ _ _ (c .before .before .test-set5 .ensures) (c .before .before .before .before .c .given .1) (c .exclusive-or .ensures)
 
 pub +test-set-spec : {M : Type 1} → statement M
 +test-set-spec = close μ-test-set λ t. test-set-lts.spec (test-set-calls t)
@@ -144,6 +160,10 @@ pub +test-set-spec : {M : Type 1} → statement M
     (test-set-intersect-requires t)
     (test-set-enum-told-4 t)
     (test-set-empty-requires-3 t)
+    (test-set-enum-known-c t)
+    (test-set-cast-test-set-5 t)
+    (test-set-test-set-requires-5 t)
+    (test-set-exclusive-or-requires t)
     (test-set-returns t)
     (test-set-returns-2 t)
     (test-set-returns-3 t)
@@ -151,3 +171,4 @@ pub +test-set-spec : {M : Type 1} → statement M
     (test-set-returns-5 t)
     (test-set-returns-6 t)
     (test-set-returns-7 t)
+    (test-set-returns-8 t)

@@ -3,7 +3,8 @@ use mathlib.Core.Path.{subst}
 use native.Mathlib.Omega.{arith}
 use Rattle.policy.specs.InnerEach.{Each}
 use Rattle.policy.specs.NodeLists.{children}
-use Rattle.loaded.specs.Loading.{ChildrenPlaced, seconded}
+use Rattle.loaded.specs.Loading.{seconded}
+use Rattle.tree_causes.specs.Alone.{ChildrenPlaced}
 use Rattle.loaded.proofs.Guarding.{seconded-is}
 use borrow.Author.Needs.{needs}
 use Rattle.loaded.proofs.slots.flag_second.Statement.{statement}
@@ -69,6 +70,13 @@ returns-7 : tie.Need-returns-7
 unfolding seconded
 returns-7 c = seconded-is _ _ _ (c .enum-told6 .given .1)
 
+enum-told-7 : tie.Need-enum-told-7
+enum-told-7 c = search needs
+
+returns-8 : tie.Need-returns-8
+unfolding seconded
+returns-8 c = seconded-is _ _ _ (c .enum-told7 .given .1)
+
 pub flag-second-spec : {M : Type 1} → statement M
 flag-second-spec =
     tie.close
@@ -83,10 +91,12 @@ flag-second-spec =
     mul-parts
     element-write-parts
     enum-told-6
+    enum-told-7
     returns
     returns-2
     returns-3
     returns-4
     returns-5
     returns-6
-    returns-7)
+    returns-7
+    returns-8)

@@ -2,7 +2,7 @@
 use mathlib.Core.Path.{refl}
 use native.Mathlib.Omega.{arith}
 use borrow.Author.Needs.{needs}
-use Rattle.loaded.proofs.Writing.{drop-no-star, id-no-star, field-no-star, dup-no-star, sum-no-star, seq-no-star, no-star}
+use Rattle.loaded.proofs.Writing.{drop-no-star, id-no-star, field-no-star, dup-no-star, sum-no-star, seq-no-star, neg-no-star, no-star}
 use Rattle.loaded.proofs.slots.keeps_slot.Statement.{statement}
 use Rattle.loaded.proofs.slots.keeps_slot.Tie as tie
 
@@ -54,6 +54,12 @@ returns-6 c = (c .unless-alone2 .ensures, no-star (c .before .enum-told6 .given 
 returns-7 : tie.Need-returns-7
 returns-7 c = (omega arith, λ c e. refl)
 
+enum-told-8 : tie.Need-enum-told-8
+enum-told-8 c = search needs
+
+returns-8 : tie.Need-returns-8
+returns-8 c = (omega arith, no-star (c .enum-told8 .given .1) neg-no-star)
+
 pub keeps-slot-spec : {M : Type 1} → statement M
 keeps-slot-spec =
     tie.close
@@ -67,10 +73,12 @@ keeps-slot-spec =
     enum-told-6
     unless-alone-requires-2
     enum-told-7
+    enum-told-8
     returns
     returns-2
     returns-3
     returns-4
     returns-5
     returns-6
-    returns-7)
+    returns-7
+    returns-8)

@@ -3,7 +3,8 @@ use mathlib.Core.Path.{subst}
 use native.Mathlib.Omega.{arith}
 use Rattle.policy.specs.InnerEach.{Each}
 use Rattle.policy.specs.NodeLists.{children}
-use Rattle.loaded.specs.Loading.{ChildrenPlaced, waysTold}
+use Rattle.loaded.specs.Loading.{waysTold}
+use Rattle.tree_causes.specs.Alone.{ChildrenPlaced}
 use Rattle.loaded.proofs.Upward.{told-flag, told-is}
 use borrow.Author.Needs.{needs}
 use Rattle.loaded.proofs.ways.tell.Statement.{statement}
@@ -125,6 +126,13 @@ returns-8 : tie.Need-returns-8
 unfolding waysTold
 returns-8 c = told-is _ _ _ _ _ (c .before .before .before .before .if1 .left) (c .before .node3 .given .1)
 
+enum-told-5 : tie.Need-enum-told-5
+enum-told-5 c = search needs
+
+returns-9 : tie.Need-returns-9
+unfolding waysTold
+returns-9 c = told-is _ _ _ _ _ (c .before .before .before .if1 .left) (c .enum-told5 .given .1)
+
 pub tell-spec : {M : Type 1} → statement M
 tell-spec =
     tie.close
@@ -155,10 +163,12 @@ tell-spec =
     cast-ups-5
     mul-ups-5
     element-write-ups-5
+    enum-told-5
     returns-2
     returns-3
     returns-4
     returns-5
     returns-6
     returns-7
-    returns-8)
+    returns-8
+    returns-9)

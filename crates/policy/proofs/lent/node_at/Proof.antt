@@ -58,8 +58,12 @@ unfolding nodeOf
 returns-9 c = of-kind _ _ 8 (c .match .keys9)
 
 returns-10 : tie.Need-returns-10
+unfolding nodeOf
+returns-10 c = of-kind _ _ 9 (c .match .keys10)
+
+returns-11 : tie.Need-returns-11
 unfolding nodeAt
-returns-10 c = sym (no-kind _ _ _ (c .match .rest))
+returns-11 c = sym (no-kind _ _ _ (c .match .rest))
 
 pub node-at-spec : {M : Type 1} → statement M
 node-at-spec =
@@ -79,4 +83,5 @@ node-at-spec =
     returns-7
     returns-8
     returns-9
-    returns-10)
+    returns-10
+    returns-11)

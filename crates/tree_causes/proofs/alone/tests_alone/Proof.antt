@@ -5,11 +5,10 @@ use native.Mathlib.Omega.{arith}
 use lib.ListN.{length}
 use Rattle.policy.specs.AsLists.{asLists}
 use Rattle.policy.specs.NodeLists.{nodeCount}
-use Rattle.loaded.proofs.Trees.{few, firsts, seconds, placed-read}
-use Rattle.loaded.proofs.Flags.{Flagging, flagging-start, flagging-turn, flagging-end}
+use Rattle.tree_causes.proofs.Flags.{placed-read, Flagging, flagging-start, flagging-turn, flagging-end}
 use borrow.Author.Needs.{needs}
-use Rattle.loaded.proofs.alone.tests_alone.Statement.{statement}
-use Rattle.loaded.proofs.alone.tests_alone.Tie as tie
+use Rattle.tree_causes.proofs.alone.tests_alone.Statement.{statement}
+use Rattle.tree_causes.proofs.alone.tests_alone.Tie as tie
 
 abbrev Inv-loop : tie.InvT-loop
 Inv-loop kind first second alone₀ n₀ alone n = Flagging (asLists kind first second) alone n
@@ -22,7 +21,7 @@ loop-holds c = flagging-start _ (c .before .before .before .pre) _ refl
 
 node-at-requires : tie.Need-node-at-requires Inv-loop μ-loop
 unfolding nodeCount
-node-at-requires c κs = let h = firsts _ (c .before .before .before .before .before .pre) in let k = seconds _ (c .before .before .before .before .before .pre) in omega (arith, c .loop-test .taken)
+node-at-requires c κs = omega (arith, c .before .before .before .before .before .pre .firsts, c .before .before .before .before .before .pre .seconds, c .loop-test .taken)
 
 flag-of-requires : tie.Need-flag-of-requires Inv-loop μ-loop
 unfolding nodeCount
@@ -30,11 +29,11 @@ flag-of-requires c κs = placed-read _ (c .before .before .before .before .befor
 
 mul-alone : tie.Need-mul-alone Inv-loop μ-loop
 unfolding nodeCount
-mul-alone c = let h = few _ (c .before .before .before .before .before .before .before .before .pre) in omega (arith, c .before .before .before .loop-test .taken)
+mul-alone c = omega (arith, c .before .before .before .before .before .before .before .before .pre .few, c .before .before .before .loop-test .taken)
 
 array-write-alone : tie.Need-array-write-alone Inv-loop μ-loop
 unfolding nodeCount
-array-write-alone c = let h = few _ (c .before .before .before .before .before .before .before .before .pre) in omega (arith, c .before .before .before .loop-test .taken)
+array-write-alone c = omega (arith, c .before .before .before .before .before .before .before .before .pre .few, c .before .before .before .loop-test .taken)
 
 add-n : tie.Need-add-n Inv-loop μ-loop
 add-n c = search needs

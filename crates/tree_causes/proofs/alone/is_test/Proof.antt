@@ -3,10 +3,10 @@ use mathlib.Core.Path.{sym, ap}
 use mathlib.Core.List.{[]}
 use Rattle.policy.specs.declared.FieldAction.{FieldAction}
 use Rattle.policy.specs.declared.Node.the-variants.{Field}
-use Rattle.loaded.specs.Loading.{aloneOf}
+use Rattle.tree_causes.specs.Alone.{aloneOf}
 use borrow.Author.Needs.{needs}
-use Rattle.loaded.proofs.alone.is_test.Statement.{statement}
-use Rattle.loaded.proofs.alone.is_test.Tie as tie
+use Rattle.tree_causes.proofs.alone.is_test.Statement.{statement}
+use Rattle.tree_causes.proofs.alone.is_test.Tie as tie
 
 enum-told : tie.Need-enum-told
 enum-told c = search needs
