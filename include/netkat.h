@@ -27,8 +27,8 @@
  * and a refusal is 9, number, side (0 none, 1 left, 2 right), place:
  *    1 fields not 1 to 8                     2 a size is 0: field               3 product over 1,024: field
  *    4 policy lists unequal, empty, over 512 5 kind over 9: node                6 field, value, unused entry: node
- *    7 child not below parent: parent node   8 not a child exactly once: node   9 more than 31 dups: the 32nd
- *   10 row lists unequal or over 65,535, or work list under NETKAT_WORK
+ *    7 child not below parent: parent node   8 not a child exactly once: node   9 more than 63 dups: the 64th
+ *   10 row lists unequal, more than NETKAT_ROWS rows, or work list under NETKAT_WORK
  *   11 rows full: rows lent                 12 trace list short: length needed
  *   13 out of range: 0 for the entering packet or the number turned, i for the i-th packet of a trace, the field of a value;
  *      of a value list with another length than there are fields, their number
@@ -42,7 +42,8 @@
  *
  * Stack. A call needs up to NETKAT_STACK bytes of stack, 4 MiB. Measured on policies as deep as they may be, in KiB:
  *   netkat_values 1, netkat_number 1, netkat_policy 3, netkat_policies 3, netkat_read 66,
- *   netkat_search 883, netkat_search_texts 888, netkat_evidence 891, netkat_trace 443
+ *   netkat_search 884, netkat_search_texts 889, netkat_evidence 877, netkat_evidence_rows 2029,
+ *   netkat_trace 447
  * A thread with too little meets its guard page, and the process ends.
  *
  * Time. Small calls take microseconds, searches and checks of evidence mostly milliseconds. On the costliest policies a row may take
@@ -58,7 +59,7 @@
 extern "C" {
 #endif
 
-#define NETKAT_VERSION "0.3.0"
+#define NETKAT_VERSION "0.4.0"
 #define NETKAT_NUMBERS 8   /* numbers of an answer */
 #define NETKAT_NODES 512   /* most nodes of a policy */
 #define NETKAT_ROWS 65535  /* most rows of a table */
@@ -74,6 +75,14 @@ enum {
     NETKAT_REJECTED = 5,
     NETKAT_REFUSED = 9
 };
+
+/* A row of a table, as a record. A state has bit 0 for the whole policy, bit i for what remains after dup i, the dups counted from 1. */
+typedef struct {
+    uint16_t packet;
+    uint64_t left;   /* state of the left policy */
+    uint64_t right;  /* state of the right policy */
+    uint16_t parent; /* number of the row that listed it */
+} netkat_row;
 
 /* The values of a packet's fields from its number; `values` has as many entries as there are fields.
  * Answers 0 with the values written, or refuses by 1 to 3, 13. */
@@ -130,8 +139,8 @@ void netkat_search(const uint16_t *sizes, size_t sizes_length,
                    const uint16_t *right_first, size_t right_first_length,
                    const uint16_t *right_second, size_t right_second_length,
                    uint16_t *packet, size_t packet_length,
-                   uint32_t *left, size_t left_length,
-                   uint32_t *right, size_t right_length,
+                   uint64_t *left, size_t left_length,
+                   uint64_t *right, size_t right_length,
                    uint16_t *parent, size_t parent_length,
                    uint16_t *trace, size_t trace_length,
                    uint32_t *work, size_t work_length,
@@ -143,8 +152,8 @@ void netkat_search_texts(const uint16_t *sizes, size_t sizes_length,
                          const uint8_t *left_text, size_t left_text_length,
                          const uint8_t *right_text, size_t right_text_length,
                          uint16_t *packet, size_t packet_length,
-                         uint32_t *left, size_t left_length,
-                         uint32_t *right, size_t right_length,
+                         uint64_t *left, size_t left_length,
+                         uint64_t *right, size_t right_length,
                          uint16_t *parent, size_t parent_length,
                          uint16_t *trace, size_t trace_length,
                          uint32_t *work, size_t work_length,
@@ -165,10 +174,23 @@ void netkat_evidence(const uint16_t *sizes, size_t sizes_length,
                      const uint16_t *right_first, size_t right_first_length,
                      const uint16_t *right_second, size_t right_second_length,
                      const uint16_t *packet, size_t packet_length,
-                     const uint32_t *left, size_t left_length,
-                     const uint32_t *right, size_t right_length,
+                     const uint64_t *left, size_t left_length,
+                     const uint64_t *right, size_t right_length,
                      uint32_t *work, size_t work_length,
                      uint64_t *answer);
+
+/* The same for a table that is lent as one list of records, whose parents are not read: answer and work list are those of
+ * netkat_evidence with the records' packets, left states and right states as its three lists. */
+void netkat_evidence_rows(const uint16_t *sizes, size_t sizes_length,
+                          const uint8_t *left_kind, size_t left_kind_length,
+                          const uint16_t *left_first, size_t left_first_length,
+                          const uint16_t *left_second, size_t left_second_length,
+                          const uint8_t *right_kind, size_t right_kind_length,
+                          const uint16_t *right_first, size_t right_first_length,
+                          const uint16_t *right_second, size_t right_second_length,
+                          const netkat_row *rows, size_t rows_length,
+                          uint32_t *work, size_t work_length,
+                          uint64_t *answer);
 
 /* Which of two policies has a trace from the entering packet? Answers 1 left, 2 right, 3 both, 4 neither; or refuses by 1 to 10,
  * 13, 19. A trace of length 0 is neither's. Once 10 has passed, the work list is all 0. */

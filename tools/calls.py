@@ -1,6 +1,7 @@
-"""Calls of the C interface as the program vectors takes them, and what it must write of each (crates/vectors/src/main.rt)."""
+"""Calls of the C interface as they are stored, and what must be written of each (crates/vectors/src/main.rt; for records
+differential/src/bin/stored.rs)."""
 
-VALUES, NUMBER, POLICY, READ, SEARCH, EVIDENCE, TRACE, TEXTS, POLICIES = range(9)
+VALUES, NUMBER, POLICY, READ, SEARCH, EVIDENCE, TRACE, TEXTS, POLICIES, RECORDS = range(10)
 # each entry of a list that a call may write, before the call
 BEFORE = 7
 PRIME = 4294967291
@@ -12,14 +13,30 @@ def once(entries):
     return [(1, entries)]
 
 
-def numbers_of(parts, wide=False):
-    """A list that a call reads: the number of its parts, and for each how often it stands there, its length and its entries."""
+def plain(entry):
+    return [entry]
+
+
+def quarters(entry):
+    """An entry of 64 bits: its quarters, the highest first."""
+    return [entry >> shift & 65535 for shift in (48, 32, 16, 0)]
+
+
+def fields(record):
+    """A row record: packet, left, right, parent."""
+    packet, left, right, parent = record
+    return [packet, *quarters(left), *quarters(right), parent]
+
+
+def numbers_of(parts, shown=plain):
+    """A list that a call reads: the number of its parts, and for each how often it stands there, its length and its entries, each shown
+    as one number or several."""
     parts = [(times, part) for times, part in parts if times and part]
     numbers = [len(parts)]
     for times, part in parts:
         numbers += [times, len(part)]
         for entry in part:
-            numbers += [entry >> 16, entry & 65535] if wide else [entry]
+            numbers += shown(entry)
     return numbers
 
 
@@ -28,13 +45,16 @@ def lists_of(sizes, *policies):
     return [n for entries in [sizes, *(c for policy in policies for c in policy)] for n in numbers_of(once(entries))]
 
 
-def total(first, length, rest=BEFORE):
-    """The sum over a list with these entries first and the same number in all others."""
+def total(first, length, rest=BEFORE, wide=False):
+    """The sum over a list with these entries first and the same number, below 2^32, in all others; an entry of 64 bits counts as its upper
+    and its lower half."""
     sum_so_far = 1
     for entry in first:
-        sum_so_far = (sum_so_far * FACTOR + entry) % PRIME
-    power = pow(FACTOR, length - len(first), PRIME)
-    return (sum_so_far * power + rest * (power - 1) * pow(FACTOR - 1, -1, PRIME)) % PRIME
+        for number in (entry >> 32, entry & 0xffffffff) if wide else (entry,):
+            sum_so_far = (sum_so_far * FACTOR + number) % PRIME
+    step = FACTOR * FACTOR if wide else FACTOR
+    power = pow(step, length - len(first), PRIME)
+    return (sum_so_far * power + rest * (power - 1) * pow(step - 1, -1, PRIME)) % PRIME
 
 
 def cleared(length, done):
@@ -46,7 +66,7 @@ WORDS = {"done": 0, "equal": 0, "accepted": 0, "left": 1, "right": 2, "both": 3,
 
 
 def call(number, inputs, said, *sums):
-    """What the program is given, and what it writes where the answer is said in words, as "refused 10 0 0"."""
+    """The stored call, and what is written of it where the answer is said in words, as "refused 10 0 0"."""
     word, *numbers = said.split()
     answer = ([WORDS[word]] + [int(n) for n in numbers] + [0] * 8)[:8]
     return " ".join(str(n) for n in [number, *inputs]), "".join(" %d" % n for n in [*answer, *sums])

@@ -1,6 +1,6 @@
 #!/usr/bin/env python3
 """Writes the input and the expected output of the program console_cases, worked out from document 01, "The program", and
-document 02, A.1.
+document 02, A.1 and A.2.
 
     tools/console_cases.py            write crates/console_cases/stdin and stdout
     tools/console_cases.py --check    compare them with what is stored
@@ -102,7 +102,7 @@ LONG = [
     [(16384, "1,")], [(16383, "1,"), "1\n"], [(16381, "1,"), "1\n\nid"], [(16379, "1,"), "1\nid\nid"],
     # depth, dups and nodes
     ["2\n", (64, "("), "id", (64, ")"), "\nid"], ["2\n", (65, "("), "id", (65, ")"), "\nid"], ["2\nid\n", (65, "(")],
-    ["2\ndup", (30, "+dup"), "\nid"], ["2\ndup", (31, "+dup"), "\nid"], ["2\nid\ndup", (31, ";dup")],
+    ["2\ndup", (30, "+dup"), "\nid"], ["2\ndup", (62, "+dup"), "\nid"], ["2\ndup", (63, "+dup"), "\nid"], ["2\nid\ndup", (63, ";dup")],
     ["2\nid", (511, "*"), "\nid", (511, "*")], ["2\nid", (512, "*"), "\nid"], ["2\nid\nid", (512, "*")],
     # 4,096 rows, and one more
     ["512\n", (3, "dup;"), "id;(dup;dup;dup;dup)*\n", (3, "dup;"), "id;(dup;dup;dup;dup)*"],
@@ -115,13 +115,28 @@ NEGATIONS = [
     ["2,2\n!(f0=0;f1=0)\nf0!=0+f1!=0"], ["2\ndup;!f0=0\n!f0=0;dup\n"], ["2\r\n!f0=0*\r\nid\r\n"], ["3\n(f0<-1;!f0=0)*\nid+f0<-1"],
     ["3\n!f0=0\nf0=1"], ["3\nf0=1\n!f0=0"], ["2\ndup;!f0=0\ndup;f0=0"], ["4\n(!f0=3;dup;(f0=0;f0<-1+f0=1;f0<-2))*\n(f0!=3;dup)*"],
     # 19 before 9 and behind 6; the texts first
-    ["2\n!(f0=0*)\nid"], ["2\nid\n!!dup"], ["2\n!(f0=0+dup)\n!dup"], ["2\n!f0<-1\nid"], ["2\ndup", (31, ";dup"), "\n!dup"],
-    ["2\n!dup\ndup", (31, "+dup")], ["2\n!dup\nf0=2"], ["2\nf0=2\n!dup"], ["2\n!dup\n!"], ["2\n!dup\n?"], ["0\n!dup\nid"],
+    ["2\n!(f0=0*)\nid"], ["2\nid\n!!dup"], ["2\n!(f0=0+dup)\n!dup"], ["2\n!f0<-1\nid"], ["2\ndup", (63, ";dup"), "\n!dup"],
+    ["2\n!dup\ndup", (63, "+dup")], ["2\n!dup\nf0=2"], ["2\nf0=2\n!dup"], ["2\n!dup\n!"], ["2\n!dup\n?"], ["0\n!dup\nid"],
     ["2\nf0 ! = 0\nid"], ["2\nid\n!!=0"], ["2\n!\nid"], ["2\nid\nid!"], ["2\n!\r\r\nid"], ["!\nid\nid"], ["2!\nid\nid"],
     # runs
     ["2\n", (500, "!"), "f0=0\nf0=0"], ["2\n", (511, "!"), "f0=0\n!f0=0"], ["2\n", (500, "!"), "f0=0\n!f0=0"], ["2\nid\n", (513, "!"), "id"],
     ["2\n", (512, "!"), "id\nid"], ["2\n", (511, "!"), "dup\nid"], ["2\n", (32761, "!"), "id\nid"], ["2\nid\n", (32763, "!")],
     ["2\nid\n", (32764, "!")],
+]
+
+
+def in_rounds(dups):
+    """dup* in rounds of so many dups and a rest of fewer, behind dups that nothing reaches, beside three more that are always marked: 63 dups."""
+    rest = [(dups - 2, "(id+dup;"), "(id+dup)", (dups - 2, ")")]
+    return ["drop", (61 - 2 * dups, ";dup"), "+(dup", (dups - 1, ";dup"), ")*;", *rest, (3, "+dup*")]
+
+
+WIDE = [
+    # states of 20 digits, and of 19
+    ["1\ndup", (62, "+dup"), "\ndup", (61, "+dup")], ["2\ndup", (62, ";dup"), "\ndup", (62, ";dup")],
+    ["1\ndup", (61, ";dup"), "\ndup", (62, ";dup")], ["2\n((dup", (62, "+dup"), ");f0<-1)*\n(dup;f0<-1)*"],
+    # over 131,072 bytes
+    ["5\n", *in_rounds(29), "\n", *in_rounds(28)],
 ]
 
 
@@ -167,6 +182,8 @@ def cases():
         right = source.choice((left, text_of(negated(source, nodes[0])), "id;" + left, left + "+" + right, right))
         left, right = (damaged(source, text) if count % 4 == 0 else text.encode() for text in (left, right))
         yield parts_of("\n".join((",".join(map(str, sizes)), left.decode("latin-1"), right.decode("latin-1"))).encode("latin-1"))
+    for parts in WIDE:
+        yield parts_of(*parts)
 
 
 def main():

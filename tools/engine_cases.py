@@ -1,6 +1,6 @@
 #!/usr/bin/env python3
 """Writes the input and the expected output of the program engine_cases, worked out from document 01, "States and
-rows", and document 02, A.1, by way of document 004's right spines.
+rows", and document 02, A.1 and A.2, by way of document 004's right spines.
 
     tools/engine_cases.py            write crates/engine_cases/stdin and stdout
     tools/engine_cases.py --check    compare them with what is stored
@@ -9,7 +9,8 @@ import itertools
 import random
 import sys
 
-from policy_cases import negated, negations
+from calls import quarters
+from policy_cases import chain, negated, negations
 from stored import store
 
 DROP, ID, EQ, NE, SET, DUP, SUM, SEQ, STAR, NOT = range(10)
@@ -155,7 +156,7 @@ def random_policy(rng, sizes, count):
     nodes, loose = [], []
     for _ in range(leaves):
         kind = rng.choice((DROP, ID, EQ, NE, SET, SET, DUP, DUP, EQ))
-        if kind == DUP and sum(k == DUP for k, _, _ in nodes) >= 31:
+        if kind == DUP and sum(k == DUP for k, _, _ in nodes) >= 63:
             kind = ID
         if kind in (EQ, NE, SET):
             field = rng.randrange(len(sizes))
@@ -279,15 +280,22 @@ def negation_cases():
             yield sizes, nodes, rng.choice((1, (2 << dups) - 1, rng.randrange(2 << dups))), rng.randrange(world.count)
 
 
+def wide_cases():
+    """63 dups: one after the other, all marked; and all reached from the last, under a star."""
+    dups = [(DUP, 0, 0)] * 63
+    yield [1], chain(dups), (1 << 64) - 1, 0
+    yield [2], chain(dups, SUM) + [(STAR, 124, 0)], 1 << 63, 1
+
+
 def spread(xs):
     return "%d%s" % (len(xs), "".join(" %d" % x for x in xs))
 
 
 def main():
     given, expected = [], []
-    for sizes, nodes, state, packet in itertools.chain(cases(), negation_cases()):
+    for sizes, nodes, state, packet in itertools.chain(cases(), negation_cases(), wide_cases()):
         columns = list(zip(*nodes))
-        given.append(" ".join([spread(sizes)] + [spread(c) for c in columns] + [str(state), str(packet)]))
+        given.append(" ".join([spread(sizes)] + [spread(c) for c in columns] + [str(n) for n in (*quarters(state), packet)]))
         expected.append(step(sizes, nodes, state, packet))
     store("engine_cases", given, expected, sys.argv[1:] == ["--check"])
 

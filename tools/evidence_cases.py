@@ -1,12 +1,12 @@
 """Tables checked, with what the evidence checker answers worked out from document 01, "Row rules for evidence" and "Causes,
-in the order tested", and document 02, A.1; output and next by way of document 004's right spines."""
+in the order tested", and document 02, A.1 and A.2; output and next by way of document 004's right spines."""
 import itertools
 import random
 
-from calls import EVIDENCE, call, cleared, lists_of, numbers_of
+from calls import EVIDENCE, RECORDS, call, cleared, fields, lists_of, numbers_of, plain, quarters
 from engine_cases import DROP, DUP, EQ, ID, NE, NOT, SEQ, SET, STAR, SUM, World, random_policy, stepped, terms
 from policy_cases import answer as legality
-from policy_cases import lists, negated, negations
+from policy_cases import chain, lists, negated, negations
 
 WORK = 16384
 RULES = ["a", "b", "c", "d"]
@@ -211,16 +211,15 @@ def tables():
     yield (*P2, [(1, 0, 0)] + P2_ROWS[::-1] * 3)
     yield (*P2, [(2, 0, 0)] + P2_ROWS)
     # a stray bit just above the dups, on either side, and far above
-    for left, right in ((4, 0), (0, 4), (1 << 31, 0), (0, 1 << 31), (3, 3)):
+    for left, right in ((4, 0), (0, 4), (1 << 31, 0), (0, 1 << 31), (1 << 32, 2), (2, 1 << 63), (1 << 63, 1), (3, 3)):
         yield (*P2, P2_ROWS + [(0, left, right)])
         yield (*P2, [(0, left, right)] + P2_ROWS)
-    # 31 dups: bit 31 belongs to the last
-    chain = [(0, 1 << i, 1 << i) for i in range(32)]
-    yield [1], dups(31), dups(31), chain
-    yield [1], dups(31), dups(31), chain[:-1]
-    yield [1], dups(31), dups(31), chain + [(0, (1 << 32) - 1, (1 << 32) - 1)]
-    yield [1], dups(31), dups(30), chain
-    yield [1], dups(30), dups(31), chain
+    # 31 and 32 dups, on either side of a half
+    marks = [(0, 1 << i, 1 << i) for i in range(64)]
+    for count in (31, 32):
+        yield [1], dups(count), dups(count), marks[:count + 1]
+        yield [1], dups(count), dups(count), marks[:count + 2]
+    yield from wide_tables(marks)
     # outputs that differ in the last word alone
     many = [(alpha, 1, 1) for alpha in range(65)]
     yield [65], [(ID, 0, 0)], [(ID, 0, 0)], many
@@ -234,7 +233,7 @@ def tables():
             yield sizes, left, right, table
     for sizes, left, right in equal_pairs(rng):
         pair = Pair(sizes, left, right)
-        if any(d > 31 for _, d in pair.sides):
+        if any(d > 63 for _, d in pair.sides):
             continue
         rows = pair.row_order(60)
         if rows is None or len(rows) < 2 * pair.world.count:
@@ -247,6 +246,24 @@ def tables():
         for table in rng.sample(few, min(3, len(few))):
             yield sizes, left, right, table
     yield from negation_tables()
+
+
+def wide_tables(marks):
+    """63 dups: bit 63 belongs to the last."""
+    yield [1], dups(63), dups(63), marks
+    yield [1], dups(63), dups(63), marks[:-1]
+    yield [1], dups(63), dups(63), marks[::-1]
+    yield [1], dups(63), dups(63), marks + [(0, (1 << 64) - 1, (1 << 64) - 1)]
+    yield [1], dups(63), dups(62), marks
+    yield [1], dups(62), dups(63), marks
+    # a sum marks all at once; on the other side one dup
+    for count in (62, 63):
+        summed, every = chain([(DUP, 0, 0)] * count, SUM), (2 << count) - 2
+        masks = [every, 1 << 31, 1 << 32, 1 << 62, 1 << 63]
+        rows = [(0, 1, 1)] + [(0, mask, 2) for mask in masks]
+        for table in (rows, rows[:5], rows[:1], rows[::-1], rows[:2] + [(0, 1 << 63, 1)], rows[:2] + [(0, (1 << 64) - 1, 3)]):
+            yield [1], summed, [(DUP, 0, 0)], table
+            yield [1], [(DUP, 0, 0)], summed, [(packet, right, left) for packet, left, right in table]
 
 
 def negation_tables():
@@ -272,7 +289,7 @@ def negation_tables():
     for sizes, left, right in equal_negations(rng):
         pair = Pair(sizes, left, right)
         rows = pair.row_order(60)
-        if rows is None or len(rows) < 2 * pair.world.count or any(d > 31 for _, d in pair.sides):
+        if rows is None or len(rows) < 2 * pair.world.count or any(d > 63 for _, d in pair.sides):
             continue
         yield sizes, left, right, rows
         few = [table for table in broken(rng, pair, rows, 60) if len(table) < 20]
@@ -292,7 +309,7 @@ def damaged():
         ([2], [1], [0]), ([4], [0], [2]), ([1], [0], [1]), ([5], [1], [0]),
         ([8], [0], [0]), ([1, 1, 7], [0, 0, 0], [0, 0, 2]),
         ([1, 1], [0, 0], [0, 0]), ([1, 6], [0, 0], [0, 0]),
-        lists(dups(32)),
+        lists(dups(64)),
     ]
     for policy in wrong:
         yield sizes, policy, also
@@ -327,7 +344,7 @@ def cases():
                     [4, 4, 5], [4, 5, 4], [5, 4, 4], [4, 3, 4], [0, 0, 4], [65535, 65535, 65536], [65536, 65535, 65535]):
         yield sizes, policies, P2_ROWS, lengths, WORK, []
     # the last of so many rows breaks a rule, or none
-    for row in ((0, 2, 0), (1, 4, 2), (0, 0, 4), (2, 0, 0), (1, 1, 3), (0, 1, 0), (1, 0, 1), (0, 0, 0)):
+    for row in ((0, 2, 0), (1, 4, 2), (0, 0, 4), (2, 0, 0), (1, 1, 3), (0, 1, 0), (1, 0, 1), (0, 0, 0), (0, 1 << 63, 0), (1, 0, 1 << 32)):
         yield sizes, policies, P2_ROWS, [65535] * 3, WORK, list(row)
         yield sizes, policies, P2_ROWS, [260] * 3, WORK, list(row)
         yield sizes, policies, P2_ROWS, [5] * 3, WORK, list(row)
@@ -337,35 +354,59 @@ def cases():
     for given, a, b in damaged():
         yield given, (a, b), P2_ROWS, [4] * 3, WORK, []
     yield [2, 0], policies, P2_ROWS, [4, 4, 65536], 3, []
-    yield sizes, (policies[0], lists(dups(32))), P2_ROWS, [4, 4, 5], WORK, []
+    yield sizes, (policies[0], lists(dups(64))), P2_ROWS, [4, 4, 5], WORK, []
     for sizes, left, right, rows in tables():
         yield sizes, (lists(left), lists(right)), rows, [len(rows)] * 3, WORK, []
 
 
-def column(entries, length, last):
-    """The parts of a column of so many entries: these again and again, but the last."""
-    entries = entries or [0]
+def repeated(entries, length, last):
+    """The parts of a list of so many entries: these again and again, but the last."""
     again, rest = divmod(length - len(last), len(entries))
     return [(again, entries), (1, entries[:rest]), (1, last)]
 
 
+def parents(count):
+    """Parents of so many rows, which are not read: all alike, in their order, or as far as can be from it."""
+    return ([65535] * count, list(range(count)), [65535 - row for row in range(count)])[count % 3]
+
+
+def record_calls():
+    """P2's table and P11's with any parents."""
+    sizes, left, right = P2
+    inputs = lists_of(sizes, lists(left), lists(right))
+    for given in ([65535] * 4, [0] * 4, [0, 1, 2, 3], [3, 2, 1, 0], [1, 0, 65535, 32768]):
+        records = [(*row, parent) for row, parent in zip(P2_ROWS, given)]
+        for table, said in ((records, "accepted"), (records[:3], "rejected 4 1 1"), (records[1:], "rejected 2 0")):
+            yield call(RECORDS, inputs + numbers_of([(1, table)], fields) + [WORK], said, cleared(WORK, True))
+
+
 def calls():
+    """Each table as three lists and, where these are equally long, as records."""
     places = set()
     for sizes, policies, rows, lengths, words, last in cases():
         said, done = answer(sizes, policies, rows, lengths, words, last)
-        columns = zip(*rows) if rows else ([], [], [])
-        inputs = lists_of(sizes, *policies)
-        for place, (entries, length) in enumerate(zip(columns, lengths)):
-            inputs += numbers_of(column(list(entries), length, last[place:place + 1]), wide=place > 0)
+        rows, inputs = rows or [(0, 0, 0)], lists_of(sizes, *policies)
+        columns = []
+        for place, (entries, length) in enumerate(zip(zip(*rows), lengths)):
+            parts = repeated(list(entries), length, last[place:place + 1])
+            columns += numbers_of(parts, quarters if place else plain)
         word, *spot = said.split()
         if word in RULES:
             spots = World(sizes).count if word == "b" else lengths[0]
             places.add((word, spot[0] == "0", int(spot[0]) == spots - 1))
             said = " ".join(["rejected", str(RULES.index(word) + 1), *spot])
-        yield call(EVIDENCE, inputs + [words], said, cleared(words, done))
+        yield call(EVIDENCE, inputs + columns + [words], said, cleared(words, done))
+        if len(set(lengths)) == 1:
+            records = [(*row, parent) for row, parent in zip(rows, parents(len(rows)))]
+            table = numbers_of(repeated(records, lengths[0], [(*last, 9)] if last else []), fields)
+            yield call(RECORDS, inputs + table + [words], said, cleared(words, done))
+    yield from record_calls()
     # each rule is broken at a first, a middle and a last spot
     for rule, place in itertools.product(RULES, ((True, False), (False, False), (False, True))):
         assert (rule, *place) in places, (rule, place)
+    for count, said in ((63, "accepted"), (62, "a 2")):
+        pair = Pair([1], chain([(DUP, 0, 0)] * count, SUM), [(DUP, 0, 0)])
+        assert pair.check([(0, 1, 1), (0, (2 << count) - 2, 2), (0, 1 << 63, 2)]) == said
     assert Pair(*P2).row_order(9) == P2_ROWS and Pair(*P5).row_order(9) == P5_ROWS and Pair(*P10).row_order(9) == P10_ROWS
     assert Pair(*P2).check(P2_ROWS) == "accepted" and Pair(*P2).check(P2_ROWS[:3]) == "d 1 1"
     assert Pair(*NEGATED).row_order(9) == NEGATED_ROWS and Pair(*NEGATED).check(NEGATED_ROWS) == "accepted"

@@ -1,5 +1,5 @@
 """Tests of one policy and of two, with what they answer worked out from document 01, "Policies" and "Causes, in the order
-tested", and document 02, A.1. Two policies are tested by themselves, and by a search with no room at all: where they pass, it refuses by 10."""
+tested", and document 02, A.1 and A.2. Two policies are tested by themselves, and by a search with no room at all: where they pass, it refuses by 10."""
 import random
 
 from calls import POLICIES, POLICY, SEARCH, call, lists_of, total
@@ -78,7 +78,7 @@ def negated_tests(sizes, kind, first, second):
 
 def few_dups(sizes, kind, first, second):
     places = [i for i, k in enumerate(kind) if k == DUP]
-    return places[31] if len(places) > 31 else None
+    return places[63] if len(places) > 63 else None
 
 
 def answer(sizes, policies):
@@ -180,9 +180,15 @@ def edges():
     good = lists([(ID, 0, 0)])
     for count in (1, 2, 512, 513):
         yield sizes, [lists(stars(count))]
-    yield sizes, [lists(chain([(DUP, 0, 0)] * 31))]
-    yield sizes, [lists(chain([(DUP, 0, 0)] * 32))]
-    yield sizes, [lists(chain([(DUP, 0, 0)] * 33, SUM))]
+    for count in (31, 32, 33, 62, 63, 64):
+        yield sizes, [lists(chain([(DUP, 0, 0)] * count))]
+    for count in (63, 64, 65):
+        yield sizes, [lists(chain([(DUP, 0, 0)] * count, SUM))]
+    # the last dups are the last nodes of their kind, wherever they stand in the tree
+    yield sizes, [lists([(DUP, 0, 0)] * 64 + [(SUM, 62, 63)] + [(SUM, 61 - i, 64 + i) for i in range(62)])]
+    yield sizes, [lists(chain([(DUP, 0, 0)] * 63)), lists(chain([(DUP, 0, 0)] * 64, SUM))]
+    yield sizes, [lists(chain([(DUP, 0, 0)] * 64)), lists(chain([(DUP, 0, 0)] * 65, SUM))]
+    yield sizes, [lists(chain([(DUP, 0, 0)] * 63)), lists(chain([(DUP, 0, 0)] * 62, SUM))]
     yield sizes, [lists([(DUP, 0, 0), (SUM, 0, 0)])]
     yield sizes, [lists([(ID, 0, 0), (ID, 0, 0), (SEQ, 1, 1)])]
     yield sizes, [lists([(ID, 0, 0), (STAR, 0, 0), (SUM, 1, 1)])]
@@ -215,7 +221,7 @@ def edges():
         7: lists([(ID, 0, 0), (STAR, 1, 0), (STAR, 2, 0)]),
         8: lists([(ID, 0, 0), (ID, 0, 0), (ID, 0, 0), (STAR, 2, 0)]),
         19: lists([(DUP, 0, 0), (NOT, 0, 0), (NOT, 1, 0)]),
-        9: lists(chain([(DUP, 0, 0)] * 32)),
+        9: lists(chain([(DUP, 0, 0)] * 64)),
     }
     for left in bad:
         yield sizes, [bad[left]]
@@ -270,7 +276,7 @@ def negation_edges():
         yield sizes, [lists(negations(count, dup))]
     yield sizes, [lists(negations(500)), lists(negations(500, (SET, 0, 0)))]
     # 19 goes before 9 and behind 8, on either side
-    many = lists(chain([dup] * 32))
+    many = lists(chain([dup] * 64))
     wrong = {place: lists([test] * (place - 1) + [dup, (NOT, place - 1, 0)] + [(SUM, i, place + i) for i in range(place - 1)])
              for place in (1, 2, 4)}
     apart = lists([(ID, 0, 0), (ID, 0, 0)])
@@ -284,7 +290,7 @@ def negation_edges():
         yield sizes, [apart, one]
         for two in wrong.values():
             yield sizes, [one, two]
-    both = lists(chain([dup] * 32) + [(NOT, 62, 0)])
+    both = lists(chain([dup] * 64) + [(NOT, 126, 0)])
     yield sizes, [both]
     yield sizes, [many, both]
     yield sizes, [both, many]
@@ -319,6 +325,8 @@ def cases():
 
 
 def calls():
+    sums = [lists(chain([(DUP, 0, 0)] * count, SUM)) for count in (63, 64)]
+    assert [answer([2], [policy]) for policy in sums] == ["legal 63", "refused 9 0 125"]
     for sizes, policies in cases():
         said, inputs = answer(sizes, policies), lists_of(sizes, *policies)
         if len(policies) == 1:

@@ -1,14 +1,14 @@
 """Searches, with what they answer and leave in the lists worked out from document 01, "States and rows" and "Causes, in the
-order tested", and document 02, A.1; output and next by way of document 004's right spines."""
+order tested", and document 02, A.1 and A.2; output and next by way of document 004's right spines."""
 import itertools
 import random
 
 from calls import SEARCH, call, cleared, lists_of, total
-from engine_cases import DROP, DUP, EQ, ID, NE, SET, STAR, World, random_policy, stepped, terms
+from engine_cases import DROP, DUP, EQ, ID, NE, SET, STAR, SUM, World, random_policy, stepped, terms
 from evidence_cases import NEGATED, NEGATED_ROWS, P2, P5, P10, damaged, dups, equal_negations, equal_pairs
 from evidence_cases import negation, seq_of, starred, sum_of
 from policy_cases import answer as legality
-from policy_cases import lists, negated, negations
+from policy_cases import chain, lists, negated, negations
 
 WORK = 16384
 
@@ -63,7 +63,7 @@ def answer(sizes, policies, lengths):
         else:
             said, rows, trace = run(sizes, policies, row_lists[0], most)
             done = True
-    columns = [total([row[column] for row in rows], length) for column, length in enumerate(row_lists)]
+    columns = [total([row[column] for row in rows], length, wide=column in (1, 2)) for column, length in enumerate(row_lists)]
     return said, [*columns, total(trace or [], most), cleared(words, done)]
 
 
@@ -112,8 +112,8 @@ NEGATIONS = [
     ([2], negation(starred(test(0, 0))), ONE, "refused 19 1 2", []),
     ([2], ONE, negation(negation(RECORD)), "refused 19 2 1", []),
     ([2], negation(sum_of(test(0, 0), RECORD)), ONE, "refused 19 1 3", []),
-    ([2], dups(32), negation(RECORD), "refused 19 2 1", []),
-    ([2], negation(change(0, 1)), dups(32), "refused 19 1 1", []),
+    ([2], dups(64), negation(RECORD), "refused 19 2 1", []),
+    ([2], negation(change(0, 1)), dups(64), "refused 19 1 1", []),
     ([33], negations(500, (EQ, 0, 3)), test(0, 3), "equal 33", starts(33)),
     ([33], negations(511, (EQ, 0, 3)), other(0, 3), "equal 33", starts(33)),
     ([33], negations(500, (EQ, 0, 3)), negation(test(0, 3)), "right 1 0", starts(33)),
@@ -188,7 +188,7 @@ def cases():
     yield [32, 32], (stars, stars), [65535] * 4 + [65535, WORK]
     for given, a, b in damaged():
         yield given, (a, b), [4] * 5 + [WORK]
-    yield sizes, (pair[0], lists(dups(32))), [4, 4, 4, 5, 4, WORK]
+    yield sizes, (pair[0], lists(dups(64))), [4, 4, 4, 5, 4, WORK]
     rng = random.Random(6)
     for sizes, left, right in equal_pairs(rng):
         yield sizes, (lists(left), lists(right)), [300] * 4 + [300, WORK]
@@ -197,6 +197,27 @@ def cases():
         left = random_policy(rng, sizes, rng.choice((3, 6, 12, 20)))
         right = random_policy(rng, sizes, rng.choice((3, 6, 12, 20))) if count % 2 else sum_of(left, random_policy(rng, sizes, 4))
         yield sizes, (lists(left), lists(right)), [rng.choice((7, 40, 400))] * 4 + [rng.choice((1, 8, 40)), WORK]
+
+
+def wide_cases():
+    """Policies with 32 to 63 dups."""
+    chained, summed = dups(63), lists(chain(RECORD * 63, SUM))
+    for rows in (127, 128, 129):
+        yield [2], (lists(chained), lists(chained)), [rows] * 4 + [9, WORK]
+    yield [1], (lists(chained), lists(dups(62))), [99] * 4 + [99, WORK]
+    for most in (62, 63):
+        yield [1], (lists(dups(62)), lists(chained)), [99] * 4 + [most, WORK]
+    yield [2], (summed, lists(RECORD)), [9] * 4 + [9, WORK]
+    yield [1], (lists(chain(RECORD * 32, SUM)), lists(chain(RECORD * 33, SUM))), [9] * 4 + [9, WORK]
+    looped = starred(seq_of(chain(RECORD * 63, SUM), change(0, 1)))
+    yield [2], (lists(looped), lists(starred(seq_of(RECORD, change(0, 1))))), [9] * 4 + [9, WORK]
+    # 62 dups that nothing reaches, and one that is
+    late = sum_of(seq_of(NONE, dups(62)), seq_of(RECORD, test(0, 0)))
+    yield [2], (lists(late), lists(seq_of(test(0, 0), RECORD))), [9] * 4 + [9, WORK]
+    yield [2], (lists(late), lists(seq_of(test(0, 1), RECORD))), [9] * 4 + [9, WORK]
+    found = run([1], (summed, lists(RECORD)), 9, 9)
+    assert found[:2] == ("equal 2", [(0, 1, 1, 0), (0, 2 ** 64 - 2, 2, 0)])
+    assert run([2], (lists(late), lists(seq_of(test(0, 0), RECORD))), 9, 9)[1][2:] == [(0, 1 << 63, 2, 0), (1, 1 << 63, 0, 1)]
 
 
 def negation_cases():
@@ -231,7 +252,7 @@ def negation_cases():
 
 def calls():
     found = set()
-    for sizes, policies, lengths in itertools.chain(cases(), negation_cases()):
+    for sizes, policies, lengths in itertools.chain(cases(), negation_cases(), wide_cases()):
         said, sums = answer(sizes, policies, lengths)
         found.add(" ".join(said.split()[:2]) if said.startswith("refused") else said.split()[0])
         yield call(SEARCH, lists_of(sizes, *policies) + lengths, said, *sums)

@@ -2,7 +2,8 @@
  * to touch every large local. Prints a line for each call; fails if one takes more than NETKAT_STACK, less a page.
  *
  * The inputs: policies as deep as 512 nodes allow (nested stars and negations, sequences that nest to either side, sums, and mixtures,
- * over a dup, a change or a test), on 1,024 packets; tables and traces of these; the deepest parentheses. What lies below the frame that makes
+ * over a dup, a change or a test), with 63 dups where they have many, on 1,024 packets; tables and traces of these; a chain of 63 dups, whose
+ * rows are one more than fit; the deepest parentheses. What lies below the frame that makes
  * the call is counted, so that of the smallest calls the thread's own end shows. Each call runs once unpainted, so that what
  * the loader does at a first call is not counted. */
 #define _GNU_SOURCE
@@ -15,6 +16,7 @@
 #include "netkat.h"
 
 #define PAINT 0xA5
+#define DUPS 63
 #define ROWS 1500
 #define ROOM ((size_t)NETKAT_STACK + (1 << 20))
 
@@ -29,10 +31,11 @@ static const uint16_t sizes[] = {2, 2, 2, 2, 2, 2, 4, 4};
 
 static struct policy one, other;
 static uint16_t packet[NETKAT_ROWS], parent[NETKAT_ROWS], trace[NETKAT_ROWS];
-static uint32_t left[NETKAT_ROWS], right[NETKAT_ROWS], work[NETKAT_WORK];
-static uint64_t answer[NETKAT_NUMBERS];
+static uint64_t left[NETKAT_ROWS], right[NETKAT_ROWS], answer[NETKAT_NUMBERS];
+static uint32_t work[NETKAT_WORK];
+static netkat_row records[NETKAT_ROWS];
 static uint8_t text[4096];
-static size_t text_length, rows;
+static size_t text_length, rows, room = ROWS;
 
 static size_t node(struct policy *p, unsigned kind, size_t first, size_t second) {
     p->kind[p->nodes] = (uint8_t)kind;
@@ -44,7 +47,7 @@ static size_t node(struct policy *p, unsigned kind, size_t first, size_t second)
 
 /* a leaf: a dup as long as there may be one, now and then, else a change or a test */
 static size_t leaf(struct policy *p, size_t i) {
-    if (i % 3 == 0 && p->dups < 31) return node(p, 5, 0, 0);
+    if (i % 3 == 0 && p->dups < DUPS) return node(p, 5, 0, 0);
     return node(p, i % 3 == 1 ? 4 : 3, i % FIELDS, (i / FIELDS) % 2);
 }
 
@@ -76,6 +79,13 @@ static void build(struct policy *p, int shape) {
     }
 }
 
+/* dups one after the other, which nest to the left: 64 rows for each packet */
+static void chain(struct policy *p) {
+    memset(p, 0, sizeof *p);
+    size_t top = node(p, 5, 0, 0);
+    while (p->dups < DUPS) top = node(p, 7, top, node(p, 5, 0, 0));
+}
+
 #define POLICY(p) (p).kind, (p).nodes, (p).first, (p).nodes, (p).second, (p).nodes
 #define LISTS(n) packet, n, left, n, right, n, parent, n, trace, n, work, NETKAT_WORK
 
@@ -84,9 +94,10 @@ static void number(void) { uint16_t v[FIELDS] = {0}; netkat_number(sizes, FIELDS
 static void policy(void) { netkat_policy(sizes, FIELDS, POLICY(one), answer); }
 static void policies(void) { netkat_policies(sizes, FIELDS, POLICY(one), POLICY(other), answer); }
 static void reads(void) { netkat_read(text, text_length, other.kind, 512, other.first, 512, other.second, 512, answer); }
-static void search(void) { netkat_search(sizes, FIELDS, POLICY(one), POLICY(other), LISTS(ROWS), answer); }
-static void texts(void) { netkat_search_texts(sizes, FIELDS, text, text_length, text, text_length, LISTS(ROWS), answer); }
+static void search(void) { netkat_search(sizes, FIELDS, POLICY(one), POLICY(other), LISTS(room), answer); }
+static void texts(void) { netkat_search_texts(sizes, FIELDS, text, text_length, text, text_length, LISTS(room), answer); }
 static void evidence(void) { netkat_evidence(sizes, FIELDS, POLICY(one), POLICY(other), packet, rows, left, rows, right, rows, work, NETKAT_WORK, answer); }
+static void evidence_rows(void) { netkat_evidence_rows(sizes, FIELDS, POLICY(one), POLICY(other), records, rows, work, NETKAT_WORK, answer); }
 static void traces(void) { netkat_trace(sizes, FIELDS, POLICY(one), POLICY(other), 0, trace, 8, work, NETKAT_WORK, answer); }
 
 static uint8_t *base;
@@ -123,7 +134,8 @@ struct call {
 static struct call calls[] = {
     {"netkat_values", values, 0}, {"netkat_number", number, 0}, {"netkat_policy", policy, 0},
     {"netkat_policies", policies, 0}, {"netkat_read", reads, 0},
-    {"netkat_search", search, 0}, {"netkat_search_texts", texts, 0}, {"netkat_evidence", evidence, 0}, {"netkat_trace", traces, 0},
+    {"netkat_search", search, 0}, {"netkat_search_texts", texts, 0}, {"netkat_evidence", evidence, 0},
+    {"netkat_evidence_rows", evidence_rows, 0}, {"netkat_trace", traces, 0},
 };
 #define CALLS (sizeof calls / sizeof *calls)
 
@@ -131,6 +143,17 @@ static void measure(struct call *c) {
     c->call();
     size_t bytes = taken(c->call);
     if (bytes > c->most) c->most = bytes;
+}
+
+static int of_table(const struct call *c) { return c->call == evidence || c->call == evidence_rows; }
+
+/* the table that the search leaves, as far as it came */
+static void tables(void) {
+    search();
+    rows = answer[0] == NETKAT_DONE ? answer[1] : room;
+    for (size_t i = 0; i < rows; i++) records[i] = (netkat_row){packet[i], left[i], right[i], parent[i]};
+    for (size_t i = 0; i < CALLS; i++)
+        if (of_table(&calls[i])) measure(&calls[i]);
 }
 
 static void say(const char *words, size_t times) {
@@ -147,16 +170,24 @@ int main(void) {
             build(&one, shape);
             build(&other, against ? 1 : shape);
             for (size_t i = 0; i < CALLS; i++) {
-                if (calls[i].call == reads || calls[i].call == texts || calls[i].call == evidence) continue;
+                if (calls[i].call == reads || calls[i].call == texts || of_table(&calls[i])) continue;
                 measure(&calls[i]);
             }
-            /* the table that the search leaves, as far as it came */
-            search();
-            rows = answer[0] == NETKAT_DONE ? answer[1] : ROWS;
-            for (size_t i = 0; i < CALLS; i++)
-                if (calls[i].call == evidence) measure(&calls[i]);
+            tables();
         }
     }
+    /* as many rows as there may be */
+    room = NETKAT_ROWS;
+    chain(&one);
+    chain(&other);
+    for (size_t i = 0; i < CALLS; i++)
+        if (calls[i].call == search) measure(&calls[i]);
+    tables();
+    say("dup", 1);
+    say(";dup", DUPS - 1);
+    for (size_t i = 0; i < CALLS; i++)
+        if (calls[i].call == texts) measure(&calls[i]);
+    room = ROWS;
     for (size_t i = 0; i < sizeof innermost / sizeof *innermost; i++) {
         for (int stars = 0; stars < 2; stars++) {
             text_length = 0;

@@ -1,4 +1,4 @@
-"""Traces checked, with what the trace checker answers worked out from documents 01 and 02 (A.1) by a reading of document 000's Figure 1: which
+"""Traces checked, with what the trace checker answers worked out from documents 01 and 02 (A.1, A.2) by a reading of document 000's Figure 1: which
 part of a trace each node of a policy can have written, and, for short traces, the sets of traces themselves."""
 import random
 import sys
@@ -221,7 +221,7 @@ def refusals():
     good = lists(one)
     bad = [lists([]), ([1], [0], [])]
     bad += [lists(leaf(*node)) for node in ((10,), (ID, 0, 1), (EQ, 0, 2), (EQ, 1, 0), (STAR, 0, 0))]
-    bad += [lists(one + one), lists(one + [(SUM, 0, 0)]), lists(chain(dup * 32))]
+    bad += [lists(one + one), lists(one + [(SUM, 0, 0)]), lists(chain(dup * 64))]
     for words in (WORDS - 1, WORDS):
         for sizes in ([], [2] * 9, [2, 0], [0] * 9, [5, 205], [1024, 2, 0]):
             yield Case(sizes, bad[0], bad[0], 65535, [65535], words)
@@ -234,8 +234,10 @@ def refusals():
         yield Case([2], good, good, 65535, [65535], words)
     yield Case([2], lists(stars(513)), good, 65535, [65535])
     yield Case([2], good, lists(stars(513)), 65535, [65535])
-    yield Case([2], lists(stars(512)), lists(chain(dup * 31)), 1, [1] * 32)
-    yield Case([2], lists(stars(512)), lists(chain(dup * 31)), 1, [1] * 31)
+    yield Case([2], lists(stars(512)), lists(chain(dup * 63)), 1, [1] * 64)
+    yield Case([2], lists(stars(512)), lists(chain(dup * 63)), 1, [1] * 63)
+    yield Case([2], lists(chain(dup * 63)), lists(chain(dup * 62)), 1, [1] * 64)
+    yield Case([2], lists(chain(dup * 63, SUM)), lists(chain(dup * 32, SUM)), 1, [1] * 2)
 
 
 def counter(n):
@@ -304,7 +306,7 @@ def negation_pairs():
             yield Case([1024], negations(count, (EQ, 0, 3)), leaf(EQ, 0, 3), packet, [packet])
     yield Case([5], star(join(SEQ, no(leaf(EQ, 0, 4)), dup)), star(dup), 3, [3], times=65535, part=[3])
     yield Case([5], star(join(SEQ, no(leaf(EQ, 0, 4)), dup)), star(dup), 4, [4], times=500, part=[4])
-    good, many = lists(one), lists(chain(dup * 32))
+    good, many = lists(one), lists(chain(dup * 64))
     bad = [lists(no(p)) for p in (no(dup), star(zero), join(SUM, zero, dup), leaf(SET, 0, 1))]
     for words in (WORDS - 1, WORDS):
         for policy in bad:

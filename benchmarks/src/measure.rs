@@ -149,12 +149,15 @@ fn rows_of(case: &Case, answer: Numbers) -> (Option<usize>, Option<usize>) {
             let last = lists.parent[rows as usize - 1];
             (Some(rows as usize), Some(usize::from(last) + 1))
         }
-        (Case::Evidence { lists, .. }, [0 | 5, ..]) => {
-            let rows = lists.packet.len();
-            (Some(rows), (answer[0] == 0).then_some(rows))
-        }
+        (Case::Evidence { lists, .. }, [0 | 5, ..]) => table_rows(lists.packet.len(), answer),
+        (Case::Records { rows, .. }, [0 | 5, ..]) => table_rows(rows.len(), answer),
         _ => (None, None),
     }
+}
+
+/// Of a table that is rejected it is not known how many rows were handled.
+fn table_rows(rows: usize, answer: Numbers) -> (Option<usize>, Option<usize>) {
+    (Some(rows), (answer[0] == 0).then_some(rows))
 }
 
 fn in_words(case: &Case, answer: Numbers) -> String {
@@ -172,7 +175,7 @@ fn in_words(case: &Case, answer: Numbers) -> String {
             format!("rejected by ({rule}), row {}", thousands(row as usize))
         }
         (Case::Read { .. }, [0, nodes, ..]) => format!("{nodes} nodes"),
-        (Case::Evidence { .. }, _) => "accepted".to_string(),
+        (Case::Evidence { .. } | Case::Records { .. }, _) => "accepted".to_string(),
         (_, [0, ..]) => "equal".to_string(),
         (_, [_, length, ..]) => format!("different, trace of {length}"),
     }

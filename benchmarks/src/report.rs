@@ -308,13 +308,13 @@ What is known of the causes, from how the two are built and from profiles of som
   where many rows share few remainders and packets, as in many states and many rows.
 - The library changes a field of a set packet by packet, or of all its packets at once by shifting its words, by what the two
   cost: it counts the members. Changes take most of the library's time in nondet and in many rows.
-- Each search begins with setting a small index to 0, 24 KiB, and with loading both policies, whose lists, 72 KiB, are set to 0
+- Each search begins with setting a small index to 0, 24 KiB, and with loading both policies, whose lists, 73 KiB, are set to 0
   too; a check of a trace with loading. Calls that have little else to do pay for that. A search that lists more rows goes on with an
   index of 384 KiB, and a check of a table of more than 4,096 rows begins with that one.
 - In many states, whose rows have few packets and states with many marks, the time goes into walking the policy: in a profile 45 of
   100 parts into sending sets through nodes, 26 into tests and changes, 18 into going from remainder to remainder.
 - The second implementation's index is seeded at random. The library's is fixed, so a stranger can choose rows that share a
-  bucket; the rows of a bucket make a tree, and a lookup passes at most 64 of them.
+  bucket; the rows of a bucket make a tree, and a lookup passes at most 128 of them, one for each bit of two states.
 - The second implementation's reader makes a list of tokens. The library's keeps none: it goes over a legal text four
   times (tokens, parentheses, counting nodes, writing them), and where several levels of the grammar ask for the next
   token, each skips the blanks before it again. It takes the table of byte classes anew for each token: a constant is built
@@ -341,6 +341,10 @@ const WHAT: &str = "\
 - negations: 48 packets of 1,024 blocked, by the negation of their sum against the same spelled out with `!=`; a list of 40
   rules of which the first that matches counts, with the pattern negated before the rest of the list against the same
   spelled out; 500 and 501 negations of one test against the test that they are.
+- 63 dups: the pairs of many dups and of own continuations with 63 of them; `dup*` in rounds of 32 and of 31 dups at 65
+  packets; a chain of 63 dups at 1,023 packets, grouped to the left and to the right; a pair whose rows are the longest lines
+  of the program. Then tables: those of rounds, chain and many dups in row order, and 65,535 rows that share a bucket of the
+  library's index and the lower 52 bits of each state.
 - small: searches of one to ten rows, with one field and 16 rows lent, and one that ends at the first row, on policies of
   several hundred nodes. A call takes microseconds: some hundred are timed together, and the time is that of one.
 - rows: cycles (271 packets, 241 pairs of states, one next row a row) and many states (two packets, two next rows a
@@ -351,6 +355,7 @@ const WHAT: &str = "\
   65,535 rows as a stranger may send them: nearly all rows at one packet of 1,024; the same chosen to share a bucket of the
   library's index, and the bits by which its tree branches first; one such row repeated, after others that a lookup passes;
   one row with 1,024 next rows repeated.
+- records: tables from evidence and from 63 dups, lent as one list of records to both.
 - traces: checks of a trace of one packet on a ring of 14, of the trace that the search finds for the leak in a tree of 15,
   and of the 256 packets of a counter of eight bits, unrolled once and twice; the last with a test that one of the two fails.
 - text: one call of the reader on 1,048,576 bytes. A legal text has at most 512 nodes, so the legal one is mostly

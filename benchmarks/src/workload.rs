@@ -59,12 +59,16 @@ pub enum Group {
     Heavy,
     /// Negations against the same spelled out.
     Negations,
+    /// Searches of policies with 63 dups, and their tables.
+    Wide,
     /// Searches of one to ten rows.
     Small,
     /// Searches of the same pair with more and more rows lent, by the pair's name.
     Rows(&'static str),
     /// Evidence tables.
     Evidence,
+    /// Evidence tables lent as records.
+    Records,
     /// Traces checked.
     Traces,
     /// Long texts.
@@ -83,9 +87,11 @@ impl Group {
             Group::Networks => "networks",
             Group::Heavy => "heavy pairs",
             Group::Negations => "negations",
+            Group::Wide => "63 dups",
             Group::Small => "small",
             Group::Rows(_) => "rows",
             Group::Evidence => "evidence",
+            Group::Records => "records",
             Group::Traces => "traces",
             Group::Text => "text",
             Group::Checks => "forty checks",
@@ -131,9 +137,12 @@ pub fn benchmarks(extent: Extent) -> Vec<Benchmark> {
     all.extend(searches(Group::Networks, heavy::leaks()));
     all.extend(searches(Group::Heavy, heavy_pairs(extent)));
     all.extend(searches(Group::Negations, heavy::negations()));
+    all.extend(searches(Group::Wide, heavy::wide()));
+    all.extend(tables::wide(extent));
     all.extend(small());
     all.extend(rows(extent));
     all.extend(tables::benchmarks(extent));
+    all.extend(tables::records(extent));
     all.extend(traces::benchmarks());
     all.extend(texts());
     all.push(checks());
@@ -144,8 +153,8 @@ fn heavy_pairs(extent: Extent) -> Vec<Pair> {
     vec![
         heavy::nested_stars(500, "id"),
         heavy::nested_stars(500, "dup"),
-        heavy::many_dups(),
-        heavy::own_continuations(),
+        heavy::many_dups(31),
+        heavy::own_continuations(31),
         heavy::many_rows(extent.places()),
     ]
 }

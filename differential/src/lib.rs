@@ -1,7 +1,12 @@
 //! A case run by the verified library, through the C interface, or by the verified program.
 
+use std::mem::{align_of, size_of};
+use std::slice;
+
 use netkat::lists::{self, Columns, Lent, Nodes, Numbers};
+use netkat::Row;
 use netkat_reference::case::Case;
+use netkat_reference::evidence::Record;
 use netkat_reference::policy::OwnedLists;
 use netkat_reference::search::Lists;
 
@@ -24,6 +29,14 @@ fn lent(lists: &mut Lists) -> Lent<'_> {
         trace: &mut lists.trace,
         work: &mut lists.work,
     }
+}
+
+/// The second implementation's records as the library's rows: not copied, so that no copy is timed.
+fn rows(records: &[Record]) -> &[Row] {
+    const _: () = assert!(size_of::<Record>() == size_of::<Row>());
+    const _: () = assert!(align_of::<Record>() == align_of::<Row>());
+    // SAFETY: both have C's layout, with fields of the same types in the same order.
+    unsafe { slice::from_raw_parts(records.as_ptr().cast(), records.len()) }
 }
 
 /// Runs the case on its own lists; none for the program, which is no call of the C interface.
@@ -65,6 +78,13 @@ pub fn run(case: &mut Case) -> Option<Numbers> {
             };
             lists::evidence(sizes, nodes(left), nodes(right), rows, &mut lists.work)
         }
+        Case::Records {
+            sizes,
+            left,
+            right,
+            rows: records,
+            work,
+        } => lists::evidence_rows(sizes, nodes(left), nodes(right), rows(records), work),
         Case::Trace {
             sizes,
             left,

@@ -16,8 +16,9 @@ typedef struct {
 
 static const uint16_t sizes[] = {3, 2};
 static uint16_t packet[ROWS], parent[ROWS], trace[ROWS];
-static uint32_t left[ROWS], right[ROWS], work[NETKAT_WORK];
-static uint64_t answer[NETKAT_NUMBERS];
+static uint64_t left[ROWS], right[ROWS], answer[NETKAT_NUMBERS];
+static uint32_t work[NETKAT_WORK];
+static netkat_row records[ROWS];
 
 /* Lists with their lengths, as arguments. */
 #define SIZES sizes, 2
@@ -88,12 +89,21 @@ int main(void) {
     show("search");
     size_t rows = answer[1];
     for (size_t i = 0; i < rows; i++) {
-        printf("  %" PRIu16 " %" PRIu32 " %" PRIu32 ", parent %" PRIu16 "\n", packet[i], left[i], right[i], parent[i]);
+        printf("  %" PRIu16 " %" PRIu64 " %" PRIu64 ", parent %" PRIu16 "\n", packet[i], left[i], right[i], parent[i]);
+        records[i] = (netkat_row){packet[i], left[i], right[i], parent[i]};
     }
     netkat_evidence(SIZES, NODES(one), NODES(same), TABLE(rows), work, NETKAT_WORK, answer);
     show("evidence");
     netkat_evidence(SIZES, NODES(one), NODES(same), TABLE(rows - 1), work, NETKAT_WORK, answer);
     show("evidence without its last row");
+    netkat_evidence_rows(SIZES, NODES(one), NODES(same), records, rows, work, NETKAT_WORK, answer);
+    show("evidence as records");
+    netkat_evidence_rows(SIZES, NODES(one), NODES(same), records, rows - 1, work, NETKAT_WORK, answer);
+    show("evidence as records, without the last");
+    records[2].left = UINT64_C(1) << 63;
+    records[2].parent = 65535;
+    netkat_evidence_rows(SIZES, NODES(one), NODES(same), records, rows, work, NETKAT_WORK, answer);
+    show("evidence as records, a mark of dup 63 in row 2");
 
     netkat_search(SIZES, NODES(one), NODES(other), LENT, answer);
     show("search");

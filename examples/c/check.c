@@ -16,8 +16,9 @@ typedef struct {
 } policy;
 
 static uint16_t packet[ROWS], parent[ROWS], trace[ROWS];
-static uint32_t left[ROWS], right[ROWS], work[NETKAT_WORK];
-static uint64_t answer[NETKAT_NUMBERS];
+static uint64_t left[ROWS], right[ROWS], answer[NETKAT_NUMBERS];
+static uint32_t work[NETKAT_WORK];
+static netkat_row records[ROWS];
 
 /* A policy's three lists, as arguments. */
 #define LISTS(p) (p).kind, (p).nodes, (p).first, (p).nodes, (p).second, (p).nodes
@@ -50,11 +51,15 @@ static void check(const char *left_text, const char *right_text) {
         size_t rows = answer[1];
         printf("  equal, %zu rows\n", rows);
         for (size_t i = 0; i < rows; i++) {
-            printf("  %" PRIu16 " %" PRIu32 " %" PRIu32 "\n", packet[i], left[i], right[i]);
+            printf("  %" PRIu16 " %" PRIu64 " %" PRIu64 "\n", packet[i], left[i], right[i]);
+            records[i] = (netkat_row){packet[i], left[i], right[i], parent[i]};
         }
         netkat_evidence(sizes, 1, LISTS(one), LISTS(other), packet, rows, left, rows, right, rows, work, NETKAT_WORK, answer);
         stop_if_refused();
         printf("  table %s\n", answer[0] == NETKAT_DONE ? "accepted" : "rejected");
+        netkat_evidence_rows(sizes, 1, LISTS(one), LISTS(other), records, rows, work, NETKAT_WORK, answer);
+        stop_if_refused();
+        printf("  table of records %s\n", answer[0] == NETKAT_DONE ? "accepted" : "rejected");
         netkat_evidence(sizes, 1, LISTS(one), LISTS(other), NULL, 0, NULL, 0, NULL, 0, work, NETKAT_WORK, answer);
         stop_if_refused();
         printf("  empty table %s by rule %" PRIu64 "\n", answer[0] == NETKAT_DONE ? "accepted" : "rejected", answer[1]);

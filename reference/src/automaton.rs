@@ -15,7 +15,7 @@ use crate::packets::{set, Packets};
 use crate::policy::{Act, Node, Policy};
 
 /// A state: bit 0 for the whole policy, bit i for what remains after dup i.
-pub type State = u32;
+pub type State = u64;
 
 /// The state that the whole policy is.
 pub const START: State = 1;
@@ -406,7 +406,7 @@ impl<'a> Automaton<'a> {
     }
 
     /// The remainders that a state marks, as bits.
-    fn marked_remainders(&self, state: State) -> u32 {
+    fn marked_remainders(&self, state: State) -> u64 {
         let mut remainders = 0;
         let mut rest = state;
         while rest != 0 {

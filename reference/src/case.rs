@@ -3,7 +3,8 @@
 use std::fmt::Write;
 
 use crate::answer::{Numbered, Numbers};
-use crate::evidence::{self, Table};
+use crate::automaton::State;
+use crate::evidence::{self, Record, Table};
 use crate::policy::{self, OwnedLists};
 use crate::search::{self, Lists};
 use crate::{packets, program, text, traces};
@@ -83,6 +84,19 @@ pub enum Case {
         /// The table in the first three lists, and the work list; parents and trace are not lent.
         lists: Lists,
     },
+    /// A table of records checked.
+    Records {
+        /// Sizes of the fields.
+        sizes: Vec<u16>,
+        /// Left policy.
+        left: OwnedLists,
+        /// Right policy.
+        right: OwnedLists,
+        /// The table.
+        rows: Vec<Record>,
+        /// The work list.
+        work: Vec<u32>,
+    },
     /// A trace checked.
     Trace {
         /// Sizes of the fields.
@@ -122,6 +136,10 @@ impl Entry for u16 {
 
 impl Entry for u32 {
     const BYTES: usize = 4;
+}
+
+impl Entry for u64 {
+    const BYTES: usize = 8;
 }
 
 /// FNV-1a, 64 bits, over all entries of a list.
@@ -173,6 +191,21 @@ fn nodes(policy: &OwnedLists) -> [String; 3] {
     ]
 }
 
+/// The columns of a table of records: packets, left states, right states, parents.
+fn columns(rows: &[Record]) -> (Vec<u16>, Vec<State>, Vec<State>, Vec<u16>) {
+    (
+        rows.iter().map(|row| row.packet).collect(),
+        rows.iter().map(|row| row.left).collect(),
+        rows.iter().map(|row| row.right).collect(),
+        rows.iter().map(|row| row.parent).collect(),
+    )
+}
+
+/// A parent, which nobody reads, for the row of this number.
+fn any_parent(row: usize) -> u16 {
+    65_535 - (row % 65_536) as u16
+}
+
 /// The six lists lent to a search.
 fn lent(lists: &Lists) -> [String; 6] {
     [
@@ -212,6 +245,59 @@ impl Case {
         }
     }
 
+    /// The same table lent the other way, if it can be: three lists as records, with any parents, records as three lists.
+    pub fn lent_otherwise(&self) -> Option<Case> {
+        match self {
+            Case::Evidence {
+                sizes,
+                left,
+                right,
+                lists,
+            } => {
+                let count = lists.packet.len();
+                if lists.left.len() != count || lists.right.len() != count {
+                    return None;
+                }
+                let record = |row| Record {
+                    packet: lists.packet[row],
+                    left: lists.left[row],
+                    right: lists.right[row],
+                    parent: any_parent(row),
+                };
+                Some(Case::Records {
+                    sizes: sizes.clone(),
+                    left: left.clone(),
+                    right: right.clone(),
+                    rows: (0..count).map(record).collect(),
+                    work: lists.work.clone(),
+                })
+            }
+            Case::Records {
+                sizes,
+                left,
+                right,
+                rows,
+                work,
+            } => {
+                let (packet, left_states, right_states, _) = columns(rows);
+                Some(Case::Evidence {
+                    sizes: sizes.clone(),
+                    left: left.clone(),
+                    right: right.clone(),
+                    lists: Lists {
+                        packet,
+                        left: left_states,
+                        right: right_states,
+                        parent: Vec::new(),
+                        trace: Vec::new(),
+                        work: work.clone(),
+                    },
+                })
+            }
+            _ => None,
+        }
+    }
+
     /// The call's name.
     pub fn name(&self) -> &'static str {
         match self {
@@ -223,6 +309,7 @@ impl Case {
             Case::Search { .. } => "search",
             Case::Texts { .. } => "texts",
             Case::Evidence { .. } => "evidence",
+            Case::Records { .. } => "records",
             Case::Trace { .. } => "trace",
             Case::Program { .. } => "program",
         }
@@ -269,6 +356,16 @@ impl Case {
                 };
                 let (left, right) = (left.lists(), right.lists());
                 evidence::check(sizes, left, right, table, &mut lists.work).numbers()
+            }
+            Case::Records {
+                sizes,
+                left,
+                right,
+                rows,
+                work,
+            } => {
+                let (left, right) = (left.lists(), right.lists());
+                evidence::check_records(sizes, left, right, rows, work).numbers()
             }
             Case::Trace {
                 sizes,
@@ -347,6 +444,25 @@ impl Case {
                     list(&lists.work),
                 ]);
             }
+            Case::Records {
+                sizes,
+                left,
+                right,
+                rows,
+                work,
+            } => {
+                fields.push(list(sizes));
+                fields.extend(nodes(left));
+                fields.extend(nodes(right));
+                let (packet, left_states, right_states, parent) = columns(rows);
+                fields.extend([
+                    list(&packet),
+                    list(&left_states),
+                    list(&right_states),
+                    list(&parent),
+                    list(work),
+                ]);
+            }
             Case::Trace {
                 sizes,
                 left,
@@ -377,7 +493,7 @@ impl Case {
             ],
             Case::Search { lists, .. } | Case::Texts { lists, .. } => lent_checksums(lists),
             Case::Evidence { lists, .. } => vec![checksum(&lists.work)],
-            Case::Trace { work, .. } => vec![checksum(work)],
+            Case::Records { work, .. } | Case::Trace { work, .. } => vec![checksum(work)],
             Case::Program { output, .. } => vec![checksum(output)],
         }
     }
@@ -393,6 +509,7 @@ mod tests {
         assert_eq!(list::<u16>(&[7]), "1:7");
         assert_eq!(list::<u16>(&[7, 7, 7]), "3:7");
         assert_eq!(list::<u32>(&[1, 2, 2]), "3:1 2");
+        assert_eq!(list(&[u64::MAX]), "1:18446744073709551615");
         assert_eq!(list::<u8>(&[1, 2, 3]), "3:1 2 3");
     }
 
@@ -405,5 +522,6 @@ mod tests {
             checksum::<u16>(&[0x6f66, 0x626f, 0x7261]),
             checksum(b"foobar")
         );
+        assert_eq!(checksum::<u64>(&[0x61]), checksum(b"a\0\0\0\0\0\0\0"));
     }
 }

@@ -7,7 +7,7 @@ use std::hash::{BuildHasher, Hasher};
 use crate::automaton::State;
 use crate::packets::{set, Packets};
 
-/// Mixes one 64-bit number with a seed that differs from run to run: tables come from strangers.
+/// Mixes 64-bit numbers with a seed that differs from run to run: tables come from strangers.
 #[derive(Clone, Copy, Debug)]
 struct Mixer(u64);
 
@@ -42,20 +42,18 @@ impl BuildHasher for Mixing {
     }
 }
 
+/// Both states of a row.
+type Key = (State, State);
+
 /// A set of rows.
 #[derive(Debug)]
 pub struct RowSet {
     words: usize,
     /// By state pair, the place of its set in `sets`.
-    places: HashMap<u64, usize, Mixing>,
+    places: HashMap<Key, usize, Mixing>,
     sets: Vec<u64>,
     /// The pair asked for last: next rows of one row often share it.
-    last: Option<(u64, usize)>,
-}
-
-/// Both states as one number.
-fn key(left: State, right: State) -> u64 {
-    u64::from(left) << 32 | u64::from(right)
+    last: Option<(Key, usize)>,
 }
 
 impl RowSet {
@@ -71,7 +69,7 @@ impl RowSet {
 
     /// Puts a row in and says whether it is new.
     pub fn insert(&mut self, packet: usize, left: State, right: State) -> bool {
-        let key = key(left, right);
+        let key = (left, right);
         let place = match self.last {
             Some((last, place)) if last == key => place,
             _ => *self.places.entry(key).or_insert_with(|| {
@@ -87,7 +85,7 @@ impl RowSet {
 
     /// Is the row in?
     pub fn contains(&mut self, packet: usize, left: State, right: State) -> bool {
-        let key = key(left, right);
+        let key = (left, right);
         let place = match self.last {
             Some((last, place)) if last == key => place,
             _ => match self.places.get(&key) {

@@ -6,7 +6,7 @@ use crate::packets::Packets;
 /// Most nodes of a policy.
 pub const MOST_NODES: usize = 512;
 /// Most dups of a policy.
-pub const MOST_DUPS: usize = 31;
+pub const MOST_DUPS: usize = 63;
 
 /// The numbers of the node kinds.
 pub mod kind {

@@ -49,11 +49,7 @@ impl Output {
 
     fn rows(&mut self, lists: &Lists, rows: usize) {
         for row in 0..rows {
-            self.line(
-                lists.packet[row],
-                lists.left[row].into(),
-                lists.right[row].into(),
-            );
+            self.line(lists.packet[row], lists.left[row], lists.right[row]);
         }
     }
 

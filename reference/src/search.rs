@@ -18,9 +18,9 @@ pub struct Lent<'a> {
     /// Packets of the rows.
     pub packet: &'a mut [u16],
     /// Left states of the rows.
-    pub left: &'a mut [u32],
+    pub left: &'a mut [State],
     /// Right states of the rows.
-    pub right: &'a mut [u32],
+    pub right: &'a mut [State],
     /// Parents of the rows.
     pub parent: &'a mut [u16],
     /// For the telling trace.
@@ -35,9 +35,9 @@ pub struct Lists {
     /// Packets of the rows.
     pub packet: Vec<u16>,
     /// Left states of the rows.
-    pub left: Vec<u32>,
+    pub left: Vec<State>,
     /// Right states of the rows.
-    pub right: Vec<u32>,
+    pub right: Vec<State>,
     /// Parents of the rows.
     pub parent: Vec<u16>,
     /// For the telling trace.

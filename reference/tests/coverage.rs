@@ -4,6 +4,7 @@ use std::collections::BTreeMap;
 
 use netkat_reference::case::Case;
 use netkat_reference::generate::{case, fixed, Extent};
+use netkat_reference::policy::{kind, OwnedLists};
 use netkat_reference::random::Random;
 
 /// Counts the answers of many cases by call and kind.
@@ -61,6 +62,7 @@ fn every_refusal_and_kind_occurs_among_the_fixed_cases() {
     }
     for rule in 1..=4 {
         assert!(seen.contains_key(&("evidence", 5, rule)), "{rule}");
+        assert!(seen.contains_key(&("records", 5, rule)), "{rule}");
     }
 }
 
@@ -72,7 +74,7 @@ fn every_answer_occurs(seen: &BTreeMap<(&'static str, u64, u64), usize>) {
         );
     };
     for call in [
-        "values", "number", "policy", "read", "search", "texts", "evidence", "program",
+        "values", "number", "policy", "read", "search", "texts", "evidence", "records", "program",
     ] {
         occurs(call, 0, 0);
     }
@@ -84,6 +86,7 @@ fn every_answer_occurs(seen: &BTreeMap<(&'static str, u64, u64), usize>) {
     occurs("trace", 4, 0);
     for rule in 1..=4 {
         occurs("evidence", 5, rule);
+        occurs("records", 5, rule);
     }
     let refused =
         |call, numbers: &[u64]| numbers.iter().for_each(|&number| occurs(call, 9, number));
@@ -94,6 +97,7 @@ fn every_answer_occurs(seen: &BTreeMap<(&'static str, u64, u64), usize>) {
     refused("search", &[1, 2, 3, 4, 5, 6, 7, 8, 9, 10, 11, 12, 19]);
     refused("texts", &[1, 2, 3, 6, 9, 10, 11, 12, 14, 15, 16, 17, 19]);
     refused("evidence", &[1, 2, 3, 4, 5, 6, 7, 8, 9, 10, 19]);
+    refused("records", &[1, 2, 3, 4, 5, 6, 7, 8, 9, 10, 19]);
     refused("trace", &[1, 2, 3, 4, 5, 6, 7, 8, 9, 10, 13, 19]);
     refused("program", &[1, 2, 3, 6, 9, 14, 15, 16, 17, 18, 19]);
 }
@@ -102,6 +106,42 @@ fn every_answer_occurs(seen: &BTreeMap<(&'static str, u64, u64), usize>) {
 fn large_cases_run() {
     let seen = answers(2, 150, Extent::Large);
     assert!(seen.contains_key(&("search", 0, 0)));
+}
+
+#[test]
+fn many_dups_and_the_highest_bit_occur() {
+    let mut random = Random::new(4);
+    let (mut searched, mut tables, mut last) = (0, 0, 0);
+    for _ in 0..6000 {
+        let mut case = case(&mut random, Extent::Small);
+        let answered = case.run()[0] < 5;
+        let many = |lists: &OwnedLists| {
+            let dups = lists.kind.iter().filter(|&&node| node == kind::DUP);
+            (32..=63).contains(&dups.count())
+        };
+        match &case {
+            Case::Search { left, right, .. } => {
+                searched += usize::from(answered && (many(left) || many(right)));
+            }
+            Case::Evidence { left, right, .. } | Case::Records { left, right, .. } => {
+                tables += usize::from(answered && (many(left) || many(right)));
+            }
+            _ => {}
+        }
+        let highest = match &case {
+            Case::Evidence { lists, .. } => {
+                let mut states = lists.left.iter().chain(&lists.right);
+                states.any(|state| state >> 63 == 1)
+            }
+            Case::Records { rows, .. } => rows.iter().any(|row| (row.left | row.right) >> 63 == 1),
+            _ => false,
+        };
+        last += usize::from(answered && highest);
+    }
+    assert!(
+        searched > 40 && tables > 40 && last > 5,
+        "{searched} {tables} {last}"
+    );
 }
 
 #[test]
@@ -136,7 +176,7 @@ fn refusals_leave_lists_as_found() {
             Case::Evidence { lists, .. } if !untouched => {
                 assert!(lists.work.iter().all(|&word| word == 0));
             }
-            Case::Trace { work, .. } if !untouched => {
+            Case::Records { work, .. } | Case::Trace { work, .. } if !untouched => {
                 assert!(work.iter().all(|&word| word == 0));
             }
             Case::Values { .. } if answer[0] == 9 => assert_eq!(before, after),

@@ -4,8 +4,8 @@
 use std::collections::BTreeSet;
 
 use netkat_reference::answer::{Holders, Refusal, Ruling, Side, Verdict};
-use netkat_reference::evidence::{self, Table};
-use netkat_reference::generate::tree::{changed, renumbered, same, tree};
+use netkat_reference::evidence::{self, Record, Table};
+use netkat_reference::generate::tree::{changed, renumbered, same, tree, widened, Tree};
 use netkat_reference::policy::{kind, OwnedLists};
 use netkat_reference::random::Random;
 use netkat_reference::search::{search, Lists, LEAST_WORK};
@@ -163,8 +163,8 @@ fn reached(term: &Term, from: &Packet) -> BTreeSet<(usize, Packet)> {
 }
 
 /// The remainders that a state marks.
-fn remainders(term: &Term, state: u32) -> Vec<Term> {
-    (0..32)
+fn remainders(term: &Term, state: u64) -> Vec<Term> {
+    (0..64)
         .filter(|bit| state >> bit & 1 == 1)
         .map(|bit| match bit {
             0 => term.clone(),
@@ -173,14 +173,14 @@ fn remainders(term: &Term, state: u32) -> Vec<Term> {
         .collect()
 }
 
-fn output(term: &Term, state: u32, from: &Packet) -> BTreeSet<Packet> {
+fn output(term: &Term, state: u64, from: &Packet) -> BTreeSet<Packet> {
     remainders(term, state)
         .iter()
         .flat_map(|rest| single(rest, from))
         .collect()
 }
 
-fn next(term: &Term, state: u32, from: &Packet, at: &Packet) -> u32 {
+fn next(term: &Term, state: u64, from: &Packet, at: &Packet) -> u64 {
     remainders(term, state)
         .iter()
         .flat_map(|rest| reached(rest, from))
@@ -189,7 +189,7 @@ fn next(term: &Term, state: u32, from: &Packet, at: &Packet) -> u32 {
 }
 
 /// A row with its parent.
-type Row = (usize, u32, u32, usize);
+type Row = (usize, u64, u64, usize);
 
 /// The row order, up to a bound on its length, and whether it ends at a row whose outputs differ.
 fn row_order(sizes: &[u16], left: &Term, right: &Term, most: usize) -> (Vec<Row>, Option<usize>) {
@@ -228,9 +228,20 @@ fn pair(random: &mut Random, sizes: &[u16]) -> (OwnedLists, OwnedLists) {
         1 => changed(random, sizes, &left),
         _ => same(random, sizes, &left),
     };
+    // Some with many dups, of which most mean the same.
+    let (left, right) = match random.below(6) {
+        0 => (left, wide(random, &right)),
+        1 => (wide(random, &left), wide(random, &right)),
+        _ => (left, right),
+    };
     let (left, right) = (left.lists(), right.lists());
     let left = renumbered(random, left.lists());
     (left, right)
+}
+
+fn wide(random: &mut Random, policy: &Tree) -> Tree {
+    let dups = random.between(32, 63);
+    widened(random, policy, dups)
 }
 
 const SIZES: [&[u16]; 6] = [&[1], &[2], &[3], &[2, 2], &[1, 2], &[4]];
@@ -374,10 +385,10 @@ fn ruling(
     left: &Term,
     right: &Term,
     dups: [usize; 2],
-    rows: &[(usize, u32, u32)],
+    rows: &[(usize, u64, u64)],
 ) -> Ruling {
     let packets = packets(sizes);
-    let in_range = |mask: u32, dups: usize| u64::from(mask) < 1 << (dups + 1);
+    let in_range = |mask: u64, dups: usize| u128::from(mask) < 1 << (dups + 1);
     for (row, &(packet, l, r)) in rows.iter().enumerate() {
         if packet >= packets.len() || !in_range(l, dups[0]) || !in_range(r, dups[1]) {
             return Ruling::OutOfRange { row };
@@ -412,7 +423,7 @@ fn tables_are_ruled_on_by_the_row_rules() {
         let (left, right) = pair(&mut random, sizes);
         let (left_term, right_term) = (term(&left), term(&right));
         let (order, _) = row_order(sizes, &left_term, &right_term, 40);
-        let mut rows: Vec<(usize, u32, u32)> =
+        let mut rows: Vec<(usize, u64, u64)> =
             order.iter().map(|row| (row.0, row.1, row.2)).collect();
         random.shuffle(&mut rows);
         if random.one_in(3) {
@@ -422,8 +433,8 @@ fn tables_are_ruled_on_by_the_row_rules() {
         let place = random.below(rows.len());
         match random.below(7) {
             0 => drop(rows.remove(place)),
-            1 => rows[place].1 ^= 1 << random.below(4),
-            2 => rows[place].2 ^= 1 << random.below(4),
+            1 => rows[place].1 ^= 1 << random.pick(&[0, 1, 2, 3, 32, 63]),
+            2 => rows[place].2 ^= 1 << random.pick(&[0, 1, 2, 3, 31, 62]),
             3 => rows[place].0 += 1,
             _ => {}
         }
@@ -438,8 +449,8 @@ fn tables_are_ruled_on_by_the_row_rules() {
             Ruling::NextMissing { .. } => 4,
         }] += 1;
         let packet: Vec<u16> = rows.iter().map(|row| row.0 as u16).collect();
-        let left_states: Vec<u32> = rows.iter().map(|row| row.1).collect();
-        let right_states: Vec<u32> = rows.iter().map(|row| row.2).collect();
+        let left_states: Vec<u64> = rows.iter().map(|row| row.1).collect();
+        let right_states: Vec<u64> = rows.iter().map(|row| row.2).collect();
         let table = Table {
             packet: &packet,
             left: &left_states,
@@ -447,6 +458,16 @@ fn tables_are_ruled_on_by_the_row_rules() {
         };
         let mut work = vec![1; LEAST_WORK];
         let answer = evidence::check(sizes, left.lists(), right.lists(), table, &mut work);
+        assert_eq!(answer, Ok(expected));
+        let record = |&(packet, left, right): &(usize, u64, u64)| Record {
+            packet: packet as u16,
+            left,
+            right,
+            parent: random.bits() as u16,
+        };
+        let records: Vec<Record> = rows.iter().map(record).collect();
+        let (left, right) = (left.lists(), right.lists());
+        let answer = evidence::check_records(sizes, left, right, &records, &mut work);
         assert_eq!(answer, Ok(expected));
     }
     assert!(seen.iter().all(|&count| count > 50), "{seen:?}");

@@ -4,6 +4,7 @@ mod common;
 
 use common::nodes;
 use netkat_reference::answer::Refusal;
+use netkat_reference::generate::heavy;
 use netkat_reference::policy::{self, OwnedLists};
 use netkat_reference::program;
 use netkat_reference::{packets, search, text};
@@ -97,8 +98,11 @@ fn node_lists() {
     assert_eq!(check(&shuffled), Ok(2));
     // Dups.
     let dups = |count: usize| nodes(&vec!["dup"; count].join("+"));
-    assert_eq!(policy::check(&[1], dups(31).lists()), Ok(31));
-    assert_eq!(policy::check(&[1], dups(32).lists()), refusal(9, 61));
+    for count in [31, 32, 33, 62, 63] {
+        assert_eq!(policy::check(&[1], dups(count).lists()), Ok(count));
+    }
+    assert_eq!(policy::check(&[1], dups(64).lists()), refusal(9, 125));
+    assert_eq!(policy::check(&[1], dups(200).lists()), refusal(9, 125));
     // Lengths.
     let mut long = lists(&[(1, 0, 0)]);
     while long.kind.len() < 512 {
@@ -180,7 +184,7 @@ fn causes_go_before_sides() {
     let child = lists(&[(8, 0, 0)]);
     let twice = lists(&[(1, 0, 0), (1, 0, 0)]);
     let negated = nodes("!dup");
-    let dups = nodes(&["dup"; 32].join("+"));
+    let dups = nodes(&["dup"; 64].join("+"));
     let legal = lists(&[(1, 0, 0)]);
     let in_order = [
         (4, 0, &empty),
@@ -189,7 +193,7 @@ fn causes_go_before_sides() {
         (7, 0, &child),
         (8, 0, &twice),
         (19, 1, &negated),
-        (9, 61, &dups),
+        (9, 125, &dups),
     ];
     for (at, &(number, place, earlier)) in in_order.iter().enumerate() {
         let refused = Refusal::new(number, place);
@@ -509,4 +513,22 @@ fn the_program_lends_4096_rows() {
     let run = |dups| program(&format!("1024\n{0}\n{0}", chain(dups)));
     assert!(run(3).starts_with("equal,4096,0\r\n"));
     assert_eq!(run(4), "refused,11,4096\r\n");
+}
+
+#[test]
+fn the_program_prints_states_of_64_bits() {
+    let pair = heavy::long_lines();
+    let output = program(&pair.input());
+    assert!(output.starts_with("equal,4065,0\r\n0,1,1\r\n"));
+    // Every state but the first has twenty digits.
+    assert_eq!(output.len(), 14 + 5 * 7 + 4060 * 45);
+    let dups = |count: usize| vec!["dup"; count].join("+");
+    assert_eq!(
+        program(&format!("1\n{}\n{}\n", dups(63), dups(62))),
+        "equal,2,0\r\n0,1,1\r\n0,18446744073709551614,9223372036854775806\r\n"
+    );
+    assert_eq!(
+        program(&format!("1\nid\n{}\n", dups(64))),
+        "refused,9,125\r\n"
+    );
 }

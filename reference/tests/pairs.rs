@@ -2,15 +2,18 @@
 
 mod common;
 
+use std::collections::BTreeSet;
+
 use common::{nodes, search, search_with, Outcome};
 use netkat_reference::answer::{Holders, Refusal, Ruling, Side, Verdict};
-use netkat_reference::evidence::{self, Table};
-use netkat_reference::generate::heavy;
+use netkat_reference::evidence::{self, Record, Table};
+use netkat_reference::generate::{case, heavy, Extent};
 use netkat_reference::policy;
+use netkat_reference::random::Random;
 use netkat_reference::search::{search_texts, Lists, LEAST_WORK};
 use netkat_reference::traces;
 
-fn equal(sizes: &[u16], left: &str, right: &str, rows: &[(u16, u32, u32)]) {
+fn equal(sizes: &[u16], left: &str, right: &str, rows: &[(u16, u64, u64)]) {
     let outcome = search(sizes, left, right);
     assert_eq!(outcome.answer, Ok(Verdict::Equal { rows: rows.len() }));
     assert_eq!(outcome.rows(rows.len()), rows);
@@ -55,7 +58,7 @@ fn p1() {
     different(&[2], "drop", "id", Side::Right, 0, &[0]);
 }
 
-const P2_ROWS: [(u16, u32, u32); 4] = [(0, 1, 1), (1, 1, 1), (0, 2, 2), (1, 0, 2)];
+const P2_ROWS: [(u16, u64, u64); 4] = [(0, 1, 1), (1, 1, 1), (0, 2, 2), (1, 0, 2)];
 
 #[test]
 fn p2() {
@@ -92,11 +95,11 @@ fn p7_to_p10() {
     equal(&[1], "dup;drop", "drop", &[(0, 1, 1), (0, 2, 0)]);
 }
 
-const NEGATED_ROWS: [(u16, u32, u32); 4] = [(0, 1, 1), (1, 1, 1), (0, 2, 0), (1, 2, 2)];
+const NEGATED_ROWS: [(u16, u64, u64); 4] = [(0, 1, 1), (1, 1, 1), (0, 2, 0), (1, 2, 2)];
 
 #[test]
 fn negations() {
-    let starting: Vec<(u16, u32, u32)> = (0..4).map(|packet| (packet, 1, 1)).collect();
+    let starting: Vec<(u16, u64, u64)> = (0..4).map(|packet| (packet, 1, 1)).collect();
     let (left, right) = ("!(f0=0;f1=0)", "f0!=0+f1!=0");
     equal(&[2, 2], left, right, &starting);
     equal(&[2], "dup;!f0=0", "!f0=0;dup", &NEGATED_ROWS);
@@ -116,7 +119,7 @@ fn negations() {
 #[test]
 fn the_sets_of_negations_end_at_the_last_packet() {
     for size in [1, 63, 64, 65, 127, 128, 129, 1024] {
-        let starting: Vec<(u16, u32, u32)> = (0..size).map(|packet| (packet, 1, 1)).collect();
+        let starting: Vec<(u16, u64, u64)> = (0..size).map(|packet| (packet, 1, 1)).collect();
         equal(&[size], "!drop", "id", &starting);
         equal(&[size], "!!f0=0", "f0=0", &starting);
     }
@@ -125,7 +128,7 @@ fn the_sets_of_negations_end_at_the_last_packet() {
 #[test]
 fn negated_kinds_are_tested_after_8_and_before_9() {
     let answer = |left: &str, right: &str| search(&[2], left, right).answer.unwrap_err();
-    let dups = ["dup"; 32].join(";");
+    let dups = ["dup"; 64].join(";");
     assert_eq!(answer(&dups, "!dup"), Refusal::new(19, 1).on(2));
     assert_eq!(answer("!dup", &dups), Refusal::new(19, 1).on(1));
     assert_eq!(answer("!(f0=0*)", "!!dup"), Refusal::new(19, 2).on(1));
@@ -155,6 +158,8 @@ fn every_call_on_policies_tests_what_is_negated() {
     // Before 10.
     let answer = evidence::check(&[2], left, right, table, &mut []);
     assert_eq!(answer, Err(refused.on(2)));
+    let answer = evidence::check_records(&[2], left, right, &[], &mut []);
+    assert_eq!(answer, Err(refused.on(2)));
 }
 
 #[test]
@@ -168,10 +173,11 @@ fn nested_negations_cost_nothing() {
     assert!(start.elapsed().as_secs() < 5);
 }
 
-fn ruling(sizes: &[u16], left: &str, right: &str, rows: &[(u16, u32, u32)]) -> Ruling {
+/// What is said of a table; it is lent as three lists, and then as records.
+fn ruling(sizes: &[u16], left: &str, right: &str, rows: &[(u16, u64, u64)]) -> Ruling {
     let packet: Vec<u16> = rows.iter().map(|row| row.0).collect();
-    let left_states: Vec<u32> = rows.iter().map(|row| row.1).collect();
-    let right_states: Vec<u32> = rows.iter().map(|row| row.2).collect();
+    let left_states: Vec<u64> = rows.iter().map(|row| row.1).collect();
+    let right_states: Vec<u64> = rows.iter().map(|row| row.2).collect();
     let table = Table {
         packet: &packet,
         left: &left_states,
@@ -181,12 +187,30 @@ fn ruling(sizes: &[u16], left: &str, right: &str, rows: &[(u16, u32, u32)]) -> R
     let (left, right) = (nodes(left), nodes(right));
     let ruling = evidence::check(sizes, left.lists(), right.lists(), table, &mut work).unwrap();
     assert!(work.iter().all(|&word| word == 0));
+    for parent in [0, 65_535] {
+        let rows = records(rows, |_| parent);
+        work.fill(3);
+        let (left, right) = (left.lists(), right.lists());
+        let answer = evidence::check_records(sizes, left, right, &rows, &mut work);
+        assert_eq!(answer, Ok(ruling));
+        assert!(work.iter().all(|&word| word == 0));
+    }
     ruling
+}
+
+fn records(rows: &[(u16, u64, u64)], parent: impl Fn(usize) -> u16) -> Vec<Record> {
+    let record = |(row, &(packet, left, right)): (usize, &(u16, u64, u64))| Record {
+        packet,
+        left,
+        right,
+        parent: parent(row),
+    };
+    rows.iter().enumerate().map(record).collect()
 }
 
 #[test]
 fn p11_and_the_row_rules() {
-    let check = |rows: &[(u16, u32, u32)]| ruling(&[2], "f0=0;dup", "dup;f0=0", rows);
+    let check = |rows: &[(u16, u64, u64)]| ruling(&[2], "f0=0;dup", "dup;f0=0", rows);
     assert_eq!(check(&P2_ROWS), Ruling::Accepted);
     assert_eq!(
         check(&P2_ROWS[..3]),
@@ -223,7 +247,7 @@ fn p11_and_the_row_rules() {
 
 #[test]
 fn tables_of_negations() {
-    let check = |rows: &[(u16, u32, u32)]| ruling(&[2], "dup;!f0=0", "!f0=0;dup", rows);
+    let check = |rows: &[(u16, u64, u64)]| ruling(&[2], "dup;!f0=0", "!f0=0;dup", rows);
     assert_eq!(check(&NEGATED_ROWS), Ruling::Accepted);
     assert_eq!(
         check(&NEGATED_ROWS[..3]),
@@ -242,18 +266,110 @@ fn tables_of_negations() {
 
 #[test]
 fn a_mask_may_use_every_bit() {
-    let dups = ["dup"; 31].join("+");
-    let rows = [(0, 1, 1), (0, u32::MAX - 1, u32::MAX - 1), (0, 1 << 31, 1)];
+    let (most, fewer) = (["dup"; 63].join("+"), ["dup"; 62].join("+"));
+    let rows = [(0, 1, 1), (0, u64::MAX - 1, u64::MAX - 1), (0, 1 << 63, 1)];
     assert_eq!(
-        ruling(&[1], &dups, &dups, &rows),
+        ruling(&[1], &most, &most, &rows),
         Ruling::OutputsDiffer { row: 2 }
     );
-    assert_eq!(ruling(&[1], &dups, &dups, &rows[..2]), Ruling::Accepted);
-    let dups = ["dup"; 30].join("+");
+    assert_eq!(ruling(&[1], &most, &most, &rows[..2]), Ruling::Accepted);
     assert_eq!(
-        ruling(&[1], &dups, &dups, &rows),
+        ruling(&[1], &fewer, &fewer, &rows),
         Ruling::OutOfRange { row: 1 }
     );
+    // 2^63 is a mark of the 63rd dup, and of no policy with fewer.
+    let (all, less) = (u64::MAX - 1, (1 << 63) - 2);
+    let last = (0, 1 << 63, 1 << 62);
+    let rows = [(0, 1, 1), (0, all, less), last, (0, 1 << 63, 2)];
+    assert_eq!(ruling(&[1], &most, &fewer, &rows), Ruling::Accepted);
+    let rows = [(0, 1, 1), (0, all, all), (0, 1 << 63, 1 << 63)];
+    assert_eq!(ruling(&[1], &most, &most, &rows), Ruling::Accepted);
+    let rows = [(0, 1, 1), (0, less, less), (0, 1 << 63, 2)];
+    let stray = Ruling::OutOfRange { row: 2 };
+    assert_eq!(ruling(&[1], &fewer, &fewer, &rows), stray);
+    let rows = [(0, 1, 1), (0, all, less), (0, 2, 1 << 63)];
+    assert_eq!(ruling(&[1], &most, &fewer, &rows), stray);
+}
+
+#[test]
+fn sixty_three_dups() {
+    let dups = |count: usize, join: &str| vec!["dup"; count].join(join);
+    // A chain: one bit after the other, to the last.
+    let chain: Vec<(u16, u64, u64)> = (0..64).map(|bit| (0, 1 << bit, 1 << bit)).collect();
+    equal(&[1], &dups(63, ";"), &dups(63, ";"), &chain);
+    let check = |rows: &[(u16, u64, u64)]| ruling(&[1], &dups(63, ";"), &dups(63, ";"), rows);
+    assert_eq!(check(&chain), Ruling::Accepted);
+    assert_eq!(
+        check(&chain[..63]),
+        Ruling::NextMissing { row: 62, packet: 0 }
+    );
+    // A sum: every bit at once.
+    let rows = [(0, 1, 1), (0, u64::MAX - 1, 2)];
+    equal(&[1], &dups(63, "+"), "dup", &rows);
+    let rows = [(0, 1, 1), (0, (1 << 33) - 2, (1 << 34) - 2)];
+    equal(&[1], &dups(32, "+"), &dups(33, "+"), &rows);
+    // 63 packets recorded and one more.
+    let trace = [0; 63];
+    different(&[1], &dups(62, ";"), &dups(63, ";"), Side::Left, 0, &trace);
+    // The bit of a dup goes by its node, not by its place in the policy.
+    let unreached = format!("drop;{}+dup;f0=0", dups(62, ";"));
+    let rows = [(0, 1, 1), (1, 1, 1), (0, 1 << 63, 2), (1, 1 << 63, 0)];
+    equal(&[2], &unreached, "f0=0;dup", &rows);
+}
+
+#[test]
+fn tables_of_records() {
+    let (left, right) = (nodes("f0=0;dup"), nodes("dup;f0=0"));
+    let check = |rows: &[Record], work| {
+        let mut work = vec![3; work];
+        let (left, right) = (left.lists(), right.lists());
+        let answer = evidence::check_records(&[2], left, right, rows, &mut work);
+        let left_as_was = work.iter().all(|&word| word == 3);
+        assert_eq!(left_as_was, answer == Err(Refusal::new(10, 0)));
+        answer
+    };
+    let p11 = Ok(Ruling::NextMissing { row: 1, packet: 1 });
+    let parents: [fn(usize) -> u16; 3] = [|_| 65_535, |row| row as u16, |row| 65_535 - row as u16];
+    for parent in parents {
+        let rows = records(&P2_ROWS, parent);
+        assert_eq!(check(&rows, LEAST_WORK), Ok(Ruling::Accepted));
+        assert_eq!(check(&rows[..3], LEAST_WORK), p11);
+        assert_eq!(check(&rows, LEAST_WORK - 1), Err(Refusal::new(10, 0)));
+    }
+    let no_start = Ok(Ruling::NoStart { packet: 0 });
+    assert_eq!(check(&[], LEAST_WORK), no_start);
+    let mut rows = records(&P2_ROWS, |_| 7);
+    rows.resize(65_535, rows[3]);
+    assert_eq!(check(&rows, LEAST_WORK), Ok(Ruling::Accepted));
+    rows.push(rows[3]);
+    assert_eq!(check(&rows, LEAST_WORK), Err(Refusal::new(10, 0)));
+    rows.pop();
+    rows[65_534].right = 1 << 63;
+    let stray = Ok(Ruling::OutOfRange { row: 65_534 });
+    assert_eq!(check(&rows, LEAST_WORK), stray);
+    assert_eq!(std::mem::size_of::<Record>(), 32);
+}
+
+#[test]
+fn both_ways_of_lending_agree() {
+    let mut random = Random::new(63);
+    let mut kinds = BTreeSet::new();
+    let mut compared = 0;
+    while compared < 1500 {
+        let one = case(&mut random, Extent::Small);
+        let (mut one, mut other) = match one.lent_otherwise() {
+            Some(other) => (one, other),
+            None => continue,
+        };
+        let (answer, checksums) = (one.run(), one.checksums());
+        assert_eq!((answer, checksums), (other.run(), other.checksums()));
+        kinds.insert((answer[0], answer[1]));
+        compared += 1;
+    }
+    for rule in 1..=4 {
+        assert!(kinds.contains(&(5, rule)), "{rule}");
+    }
+    assert!(kinds.contains(&(0, 0)) && kinds.contains(&(9, 9)) && kinds.contains(&(9, 10)));
 }
 
 fn resize(lists: &mut Lists, rows: usize) {
@@ -321,13 +437,13 @@ fn texts_are_tested_before_policies() {
     assert_eq!(answer("f0=2", "id id"), Refusal::new(16, 3));
     assert_eq!(answer("f0=2", "f1=0"), Refusal::new(6, 0).on(1));
     assert_eq!(answer("id;f0=1", "id;f1=0"), Refusal::new(6, 1).on(2));
-    let dups = ["dup"; 32].join(";");
+    let dups = ["dup"; 64].join(";");
     assert_eq!(answer(&dups, "id;f1=0"), Refusal::new(6, 1).on(2));
-    assert_eq!(answer(&dups, "id"), Refusal::new(9, 61).on(1));
-    assert_eq!(answer("id", &dups), Refusal::new(9, 61).on(2));
+    assert_eq!(answer(&dups, "id"), Refusal::new(9, 125).on(1));
+    assert_eq!(answer("id", &dups), Refusal::new(9, 125).on(2));
     assert_eq!(search(&[], "?", "?").answer, Err(Refusal::new(1, 0)));
     assert_eq!(search(&[5, 205], "?", "?").answer, Err(Refusal::new(3, 1)));
-    let dups = ["dup"; 31].join(";");
+    let dups = ["dup"; 63].join(";");
     assert!(search(&[2], &dups, &dups).answer.is_ok());
 }
 

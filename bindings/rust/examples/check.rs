@@ -2,7 +2,7 @@
 
 use std::error::Error;
 
-use netkat::{Checker, Holders, Policy, Rows, Ruling, Side, Verdict};
+use netkat::{Checker, Holders, Policy, Row, Rows, Ruling, Side, Verdict};
 
 fn check(left_text: &str, right_text: &str) -> Result<(), Box<dyn Error>> {
     let left = Policy::read(left_text.as_bytes())?;
@@ -22,6 +22,11 @@ fn check(left_text: &str, right_text: &str) -> Result<(), Box<dyn Error>> {
                 right: Vec::new(),
             };
             println!("  table {}", said(checker.evidence(&left, &right, &rows)?));
+            let records = records(&rows);
+            println!(
+                "  table of records {}",
+                said(checker.evidence_rows(&left, &right, &records)?)
+            );
             println!(
                 "  empty table {}",
                 said(checker.evidence(&left, &right, &empty)?)
@@ -46,6 +51,17 @@ fn check(left_text: &str, right_text: &str) -> Result<(), Box<dyn Error>> {
         }
     }
     Ok(())
+}
+
+/// The rows as records; nobody reads their parents.
+fn records(rows: &Rows) -> Vec<Row> {
+    let record = |row| Row {
+        packet: rows.packet[row],
+        left: rows.left[row],
+        right: rows.right[row],
+        parent: 0,
+    };
+    (0..rows.packet.len()).map(record).collect()
 }
 
 fn said(ruling: Ruling) -> &'static str {

@@ -15,7 +15,7 @@
 //! [`Checker`] and [`Policy`] own their lists and give typed answers; [`lists`] lends slices of any lengths and gives the eight
 //! numbers of the C interface; [`raw`] is that interface itself. The library is proved, this wrapper is not.
 //!
-//! A call needs up to 4 MiB of stack, measured at most 891 KiB: a thread that makes calls is started with at least [`STACK`] (Rust
+//! A call needs up to 4 MiB of stack, measured at most 2029 KiB: a thread that makes calls is started with at least [`STACK`] (Rust
 //! starts threads with 2 MiB). It runs to its end, on the costliest policies for minutes, and can't be cancelled.
 
 #![warn(missing_docs)]
@@ -27,6 +27,7 @@ pub mod lists;
 pub mod raw;
 
 use lists::{Columns, Lent, Nodes, Numbers};
+pub use raw::Row;
 
 /// Most nodes of a policy.
 pub const MOST_NODES: usize = 512;
@@ -69,9 +70,9 @@ impl Refusal {
             6 => ("a wrong field, value or unused entry", Some("node")),
             7 => ("a child not below its parent", Some("parent node")),
             8 => ("not a child exactly once", Some("node")),
-            9 => ("more than 31 dups", Some("node")),
+            9 => ("more than 63 dups", Some("node")),
             10 => (
-                "row lists unequal or over 65,535 rows, or a short work list",
+                "row lists unequal, over 65,535 rows, or a short work list",
                 None,
             ),
             11 => ("more rows needed than were lent", Some("rows lent:")),
@@ -128,6 +129,18 @@ fn not_answered(answer: Numbers) -> ! {
     unreachable!("the library answers no {answer:?}")
 }
 
+/// What the evidence checker answers.
+fn ruled(answer: Numbers) -> Result<Ruling, Refusal> {
+    match accepted(answer)? {
+        [0, ..] => Ok(Ruling::Accepted),
+        [5, 1, row, ..] => Ok(Ruling::OutOfRange(row as u16)),
+        [5, 2, packet, ..] => Ok(Ruling::NoStart(packet as u16)),
+        [5, 3, row, ..] => Ok(Ruling::OutputsDiffer(row as u16)),
+        [5, 4, row, packet, ..] => Ok(Ruling::NextMissing(row as u16, packet as u16)),
+        other => not_answered(other),
+    }
+}
+
 /// A policy as node lists; they are tested by each call that takes them.
 #[derive(Clone, Debug, PartialEq, Eq)]
 pub struct Policy {
@@ -168,15 +181,15 @@ impl Policy {
     }
 }
 
-/// A table of rows.
+/// A table of rows, in columns. A state has bit 0 for the whole policy, bit i for what remains after dup i.
 #[derive(Clone, Debug, PartialEq, Eq)]
 pub struct Rows {
     /// Packets.
     pub packet: Vec<u16>,
     /// Left states.
-    pub left: Vec<u32>,
+    pub left: Vec<u64>,
     /// Right states.
-    pub right: Vec<u32>,
+    pub right: Vec<u64>,
 }
 
 /// What a search found.
@@ -345,14 +358,19 @@ impl Checker {
         };
         let work = &mut self.work;
         let answer = lists::evidence(&self.sizes, left.nodes(), right.nodes(), columns, work);
-        match accepted(answer)? {
-            [0, ..] => Ok(Ruling::Accepted),
-            [5, 1, row, ..] => Ok(Ruling::OutOfRange(row as u16)),
-            [5, 2, packet, ..] => Ok(Ruling::NoStart(packet as u16)),
-            [5, 3, row, ..] => Ok(Ruling::OutputsDiffer(row as u16)),
-            [5, 4, row, packet, ..] => Ok(Ruling::NextMissing(row as u16, packet as u16)),
-            other => not_answered(other),
-        }
+        ruled(answer)
+    }
+
+    /// The same of a table of records, whose parents are not read. Refused by 1 to 10, 19.
+    pub fn evidence_rows(
+        &mut self,
+        left: &Policy,
+        right: &Policy,
+        rows: &[Row],
+    ) -> Result<Ruling, Refusal> {
+        let work = &mut self.work;
+        let answer = lists::evidence_rows(&self.sizes, left.nodes(), right.nodes(), rows, work);
+        ruled(answer)
     }
 
     /// Which of two policies has a trace from the entering packet? Refused by 1 to 10, 13, 19.

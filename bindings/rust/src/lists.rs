@@ -3,7 +3,7 @@
 //! The signatures keep what the C interface asks: slices point to their entries, and no slice that is lent for writing
 //! overlaps another. Every length and every content is allowed.
 
-use crate::raw;
+use crate::raw::{self, Row};
 
 /// An answer's eight numbers, as `include/netkat.h` says.
 pub type Numbers = [u64; 8];
@@ -25,9 +25,9 @@ pub struct Lent<'a> {
     /// Packets of the rows.
     pub packet: &'a mut [u16],
     /// Left states of the rows.
-    pub left: &'a mut [u32],
+    pub left: &'a mut [u64],
     /// Right states of the rows.
-    pub right: &'a mut [u32],
+    pub right: &'a mut [u64],
     /// Parents of the rows.
     pub parent: &'a mut [u16],
     /// For the telling trace.
@@ -42,9 +42,9 @@ pub struct Columns<'a> {
     /// Packets of the rows.
     pub packet: &'a [u16],
     /// Left states of the rows.
-    pub left: &'a [u32],
+    pub left: &'a [u64],
     /// Right states of the rows.
-    pub right: &'a [u32],
+    pub right: &'a [u64],
 }
 
 /// A packet's number turned into values.
@@ -246,6 +246,42 @@ pub fn evidence(
             rows.left.len(),
             rows.right.as_ptr(),
             rows.right.len(),
+            work.as_mut_ptr(),
+            work.len(),
+            answer.as_mut_ptr(),
+        );
+    }
+    answer
+}
+
+/// A table of records checked.
+pub fn evidence_rows(
+    sizes: &[u16],
+    left: Nodes,
+    right: Nodes,
+    rows: &[Row],
+    work: &mut [u32],
+) -> Numbers {
+    let mut answer = [0; 8];
+    // SAFETY: as in `values`.
+    unsafe {
+        raw::netkat_evidence_rows(
+            sizes.as_ptr(),
+            sizes.len(),
+            left.kind.as_ptr(),
+            left.kind.len(),
+            left.first.as_ptr(),
+            left.first.len(),
+            left.second.as_ptr(),
+            left.second.len(),
+            right.kind.as_ptr(),
+            right.kind.len(),
+            right.first.as_ptr(),
+            right.first.len(),
+            right.second.as_ptr(),
+            right.second.len(),
+            rows.as_ptr(),
+            rows.len(),
             work.as_mut_ptr(),
             work.len(),
             answer.as_mut_ptr(),

@@ -5,6 +5,16 @@
 
 #![allow(missing_docs)]
 
+/// `netkat_row`: a row of a table, as a record.
+#[derive(Clone, Copy, Debug, Default, PartialEq, Eq, Hash)]
+#[repr(C)]
+pub struct Row {
+    pub packet: u16,
+    pub left: u64,
+    pub right: u64,
+    pub parent: u16,
+}
+
 extern "C" {
     pub fn netkat_values(
         sizes: *const u16,
@@ -82,9 +92,9 @@ extern "C" {
         right_second_length: usize,
         packet: *mut u16,
         packet_length: usize,
-        left: *mut u32,
+        left: *mut u64,
         left_length: usize,
-        right: *mut u32,
+        right: *mut u64,
         right_length: usize,
         parent: *mut u16,
         parent_length: usize,
@@ -104,9 +114,9 @@ extern "C" {
         right_text_length: usize,
         packet: *mut u16,
         packet_length: usize,
-        left: *mut u32,
+        left: *mut u64,
         left_length: usize,
-        right: *mut u32,
+        right: *mut u64,
         right_length: usize,
         parent: *mut u16,
         parent_length: usize,
@@ -134,10 +144,32 @@ extern "C" {
         right_second_length: usize,
         packet: *const u16,
         packet_length: usize,
-        left: *const u32,
+        left: *const u64,
         left_length: usize,
-        right: *const u32,
+        right: *const u64,
         right_length: usize,
+        work: *mut u32,
+        work_length: usize,
+        answer: *mut u64,
+    );
+
+    pub fn netkat_evidence_rows(
+        sizes: *const u16,
+        sizes_length: usize,
+        left_kind: *const u8,
+        left_kind_length: usize,
+        left_first: *const u16,
+        left_first_length: usize,
+        left_second: *const u16,
+        left_second_length: usize,
+        right_kind: *const u8,
+        right_kind_length: usize,
+        right_first: *const u16,
+        right_first_length: usize,
+        right_second: *const u16,
+        right_second_length: usize,
+        rows: *const Row,
+        rows_length: usize,
         work: *mut u32,
         work_length: usize,
         answer: *mut u64,

@@ -3,7 +3,7 @@
 
 use std::thread;
 
-use netkat::{Checker, Holders, Policy, Refusal, Rows, Ruling, Side, Verdict, STACK};
+use netkat::{Checker, Holders, Policy, Refusal, Row, Rows, Ruling, Side, Verdict, STACK};
 
 /// Rows lent to a search.
 const ROWS: usize = 64;
@@ -101,6 +101,99 @@ fn equal_with_evidence() {
         short.packet.pop();
         let ruling = checker.evidence(&one, &same, &short);
         assert_eq!(ruling, Err(refusal(10, None, 0)));
+    });
+}
+
+/// A table as records with these parents.
+fn records(rows: &Rows, parent: fn(usize) -> u16) -> Vec<Row> {
+    let record = |row| Row {
+        packet: rows.packet[row],
+        left: rows.left[row],
+        right: rows.right[row],
+        parent: parent(row),
+    };
+    (0..rows.packet.len()).map(record).collect()
+}
+
+#[test]
+fn evidence_of_records() {
+    within_bound(|| {
+        let (one, same, _) = policies();
+        let mut checker = checker();
+        let rows = match checker.search(&one, &same, ROWS) {
+            Ok(Verdict::Equal(rows)) => rows,
+            other => panic!("equal policies, and {other:?}"),
+        };
+        let parents: [fn(usize) -> u16; 2] = [|_| 65_535, |row| row as u16];
+        for parent in parents {
+            let mut table = records(&rows, parent);
+            let ruling = checker.evidence_rows(&one, &same, &table);
+            assert_eq!(ruling, Ok(Ruling::Accepted));
+            let ruling = checker.evidence_rows(&one, &same, &table[..11]);
+            assert_eq!(ruling, Ok(Ruling::NextMissing(5, 5)));
+            let ruling = checker.evidence_rows(&one, &same, &table[1..]);
+            assert_eq!(ruling, Ok(Ruling::NoStart(0)));
+            table[7].right = 1;
+            let ruling = checker.evidence_rows(&one, &same, &table);
+            assert_eq!(ruling, Ok(Ruling::NextMissing(1, 1)));
+            table[7].left = 1 << 63;
+            let ruling = checker.evidence_rows(&one, &same, &table);
+            assert_eq!(ruling, Ok(Ruling::OutOfRange(7)));
+            table.resize(netkat::MOST_ROWS + 1, table[0]);
+            let ruling = checker.evidence_rows(&one, &same, &table);
+            assert_eq!(ruling, Err(refusal(10, None, 0)));
+        }
+        let ruling = checker.evidence_rows(&one, &same, &[]);
+        assert_eq!(ruling, Ok(Ruling::NoStart(0)));
+        let refused = checker.evidence_rows(&one, &policy("f2=0"), &[]);
+        assert_eq!(refused, Err(refusal(6, Some(Side::Right), 0)));
+    });
+    assert_eq!(std::mem::size_of::<Row>(), 32);
+}
+
+#[test]
+fn sixty_three_dups() {
+    within_bound(|| {
+        let dups = |count: usize, join: &str| policy(&vec!["dup"; count].join(join));
+        let mut checker = Checker::new(&[1]);
+        assert_eq!(checker.dups(&dups(63, "+")), Ok(63));
+        assert_eq!(checker.dups(&dups(64, "+")), Err(refusal(9, None, 125)));
+        // the mask 2^63 is one of 63 dups, and of no fewer
+        let starts = Rows {
+            packet: vec![0; 3],
+            left: vec![1, u64::MAX - 1, 1 << 63],
+            right: vec![1, 2, 2],
+        };
+        let one = policy("dup");
+        let verdict = checker.search(&dups(63, "+"), &one, ROWS);
+        let rows = match verdict {
+            Ok(Verdict::Equal(rows)) => rows,
+            other => panic!("equal policies, and {other:?}"),
+        };
+        assert_eq!(rows.left, starts.left[..2]);
+        let ruling = checker.evidence(&dups(63, "+"), &one, &starts);
+        assert_eq!(ruling, Ok(Ruling::Accepted));
+        let mut starts = records(&starts, |_| 9);
+        let ruling = checker.evidence_rows(&dups(63, "+"), &one, &starts);
+        assert_eq!(ruling, Ok(Ruling::Accepted));
+        starts[1].left = (1 << 63) - 2;
+        let ruling = checker.evidence_rows(&dups(62, "+"), &one, &starts);
+        assert_eq!(ruling, Ok(Ruling::OutOfRange(2)));
+        // a chain comes to the last bit
+        let verdict = checker.search(&dups(63, ";"), &dups(63, ";"), ROWS);
+        let states: Vec<u64> = (0..64).map(|bit| 1 << bit).collect();
+        assert!(matches!(verdict, Ok(Verdict::Equal(Rows { left, .. })) if left == states));
+        let verdict = checker.search(&dups(62, ";"), &dups(63, ";"), ROWS);
+        let trace = vec![0; 63];
+        let side = Side::Left;
+        assert_eq!(
+            verdict,
+            Ok(Verdict::Different {
+                side,
+                entering: 0,
+                trace
+            })
+        );
     });
 }
 

@@ -8,7 +8,7 @@ use Rattle.packet.specs.Sizes.{product, badCount, zeroSize, productOver, fields
 use Rattle.packet.specs.Refusals.{refusal, refusedAt, atPlace, firstOf}
 use Rattle.packet.specs.Written.{written}
 use Rattle.policy.specs.NodeLists.{nodeCount, nodeOf, nodeAt, children, one, isDup, dupsBelow, grow, treeAt, treeOf, policyOf}
-use Rattle.policy.specs.Legality.{badLengths, badKind, badField, used, wrongEntries, badEntries, someNotBelow, badChild, occurrences, timesChild, notOnce, negatesOther, badNegation, maxDups, tooManyDups}
+use Rattle.policy.specs.Legality.{badLengths, badKind, badField, used, wrongEntries, badEntries, someNotBelow, badChild, occurrences, timesChild, notOnce, negatesOther, badNegation, tooManyDups}
 use Rattle.policy.specs.Tests.{isTest}
 use Rattle.policy.specs.Order.{order, inOrder, causes, sided, cause, policiesStage, stagesOf, policyTests, pairTests}
 use Rattle.turning.specs.Turning.{lengthTest, numberStage, valuesTests, valuesAnswer, keptUnless, valuesLeft, badValue, valuesStage, numberTests, numberAnswer}
@@ -28,6 +28,7 @@ use Rattle.pair.specs.TraceCheck.{answerOf, sideHas, traceAnswer}
 use Rattle.lent_lists.specs.LentLists.{misfit, rowsMisfit, listsStage, lentTests, workAfter}
 use Rattle.verdict.specs.Verdicts.{verdictOf, traceAfter}
 use Rattle.search.specs.Call.{filled, verdictAfter, lentAfter, searchTests, searchVerdict, searchLeaves}
+use Rattle.records.specs.Records.{column}
 use Rattle.evidence.specs.Calls as checking
 use Rattle.evidence.specs.Calls.{evidenceOf, evidenceTests, evidenceCall}
 use Rattle.traces.specs.Checking as following
@@ -41,5 +42,5 @@ use Rattle.search_texts.specs.Call.{textNodes, textStage, textsTests, textsVerd
 use Rattle.cases.specs.Cases.{Case, resultOf, bytes, dups, nested, nines, words, lending, thenNines, holding, compares, cases}
 
 pub all-as-stated : map (λ (c : Case). resultOf (c .call)) cases ≡ map (λ (c : Case). c .stated) cases
-unfolding xor lowest orAt valueAt changed valuesOf numberOf product nodeCount nodeOf nodeAt one isDup dupsBelow grow treeAt treeOf policyOf nodeEntry actionEntry treeSize entriesFrom listsOf nodesOf bit maskOf anyBelow setOf union takes image starRounds single unionOver labels rightSpine orElse followedBy remainder flow enter ofMarked outputSet enteredSet next outputMask nextMask runs hasTrace starts sameRow listed append appendNext lowestTelling turn handle runFrom run climbing climb path entering runAnswer answerWith held at onBoth outputAt nextAt sameStates bothZero inOneOutput bitsOfDups lastOf sideOf reported searchAnswer columnsOf heldColumns andThen brokenAt present breaksA breaksB breaksD checkRow checkRows checkRules evidenceAnswer answerOf sideHas traceAnswer misfit rowsMisfit listsStage lentTests workAfter verdictOf traceAfter filled verdictAfter lentAfter searchTests searchVerdict searchLeaves checking.asEvidence evidenceOf evidenceTests evidenceCall badPacket packetsStage checkedAs checkedUnless following.listsTests traceTests traceCall policyTests pairTests policyAnswer pairAnswer policyLegality pairLegality lengthTest numberStage valuesStage valuesTests valuesAnswer keptUnless valuesLeft badValue numberTests numberAnswer sided isBlank isLetter isDigit inWord fieldNames sameWord allDigits decimal leadingZero isNumber numberToken fieldToken fieldNamed wordToken singleMark isDouble doubleMark beginsDouble markToken wordOf frontToken isBad restOfToken placedFrom tokensFrom tokens constantPolicy fieldAction nothing joinSequence joinSum upTo whole negated negating itemRead start close step finish readOn badPlace openAfter deepPlace stopPlace treeRead tooMany answerAfter outcome textTree tested answerTo leftBy shortest textNodes textStage textsTests textsVerdict textsLeaves badCount zeroSize productOver fieldsStage productStage refusal refusedAt atPlace firstOf written children badLengths badKind badField used wrongEntries badEntries someNotBelow badChild occurrences timesChild notOnce isTest negatesOther badNegation maxDups tooManyDups cause policiesStage onlyBits resultOf bytes dups nested nines words lending thenNines holding compares cases order inOrder causes stagesOf
+unfolding xor lowest orAt valueAt changed valuesOf numberOf product nodeCount nodeOf nodeAt one isDup dupsBelow grow treeAt treeOf policyOf nodeEntry actionEntry treeSize entriesFrom listsOf nodesOf bit maskOf anyBelow setOf union takes image starRounds single unionOver labels rightSpine orElse followedBy remainder flow enter ofMarked outputSet enteredSet next outputMask nextMask runs hasTrace starts sameRow listed append appendNext lowestTelling turn handle runFrom run climbing climb path entering runAnswer answerWith held at onBoth outputAt nextAt sameStates bothZero inOneOutput bitsOfDups lastOf sideOf reported searchAnswer columnsOf heldColumns andThen brokenAt present breaksA breaksB breaksD checkRow checkRows checkRules evidenceAnswer answerOf sideHas traceAnswer misfit rowsMisfit listsStage lentTests workAfter verdictOf traceAfter filled verdictAfter lentAfter searchTests searchVerdict searchLeaves checking.asEvidence evidenceOf evidenceTests evidenceCall badPacket packetsStage checkedAs checkedUnless following.listsTests traceTests traceCall policyTests pairTests policyAnswer pairAnswer policyLegality pairLegality lengthTest numberStage valuesStage valuesTests valuesAnswer keptUnless valuesLeft badValue numberTests numberAnswer sided isBlank isLetter isDigit inWord fieldNames sameWord allDigits decimal leadingZero isNumber numberToken fieldToken fieldNamed wordToken singleMark isDouble doubleMark beginsDouble markToken wordOf frontToken isBad restOfToken placedFrom tokensFrom tokens constantPolicy fieldAction nothing joinSequence joinSum upTo whole negated negating itemRead start close step finish readOn badPlace openAfter deepPlace stopPlace treeRead tooMany answerAfter outcome textTree tested answerTo leftBy shortest textNodes textStage textsTests textsVerdict textsLeaves badCount zeroSize productOver fieldsStage productStage refusal refusedAt atPlace firstOf written children badLengths badKind badField used wrongEntries badEntries someNotBelow badChild occurrences timesChild notOnce isTest negatesOther badNegation tooManyDups cause policiesStage onlyBits resultOf bytes dups nested nines words lending thenNines holding compares cases order inOrder causes stagesOf column
 all-as-stated = refl

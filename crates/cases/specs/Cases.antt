@@ -31,6 +31,8 @@ use Rattle.verdict.specs.declared.Verdict.{Verdict}
 use Rattle.verdict.specs.declared.Verdict.the-variants.{Equal, Left, Right, Full, Refused}
 use Rattle.search.specs.Call.{SearchLists, lent, searchVerdict, searchLeaves}
 use Rattle.search_texts.specs.Call.{textNodes, textsVerdict, textsLeaves}
+use Rattle.records.specs.declared.RowRecord.{RowRecord}
+use Rattle.records.specs.Records.{packetsOf, leftsOf, rightsOf}
 use Rattle.evidence.specs.Calls.{evidenceTests, evidenceCall}
 use Rattle.evidence.specs.declared.Evidence.{Evidence}
 use Rattle.evidence.specs.declared.Evidence.the-variants.{Accepted, RuleA, RuleB, RuleC, RuleD, Refused as NotChecked}
@@ -171,6 +173,13 @@ compares sizes l r rows trace verdict held t =
 abbrev judges : List ℕ → NodeLists → NodeLists → List ℕ → List ℕ → List ℕ → Evidence → Case
 judges sizes l r packets lefts rights answer = gives (checkRows sizes l r packets lefts rights (nines words)) (judged answer (replicate words 0))
 
+-- a table in records, each packet, left, right, parent
+abbrev record4 : ℕ → ℕ → ℕ → ℕ → RowRecord
+record4 packet left right parent = record { packet = packet; left = left; right = right; parent = parent }
+
+abbrev judgesRecords : List ℕ → NodeLists → NodeLists → List RowRecord → Evidence → Case
+judgesRecords sizes l r rows answer = judges sizes l r (packetsOf rows) (leftsOf rows) (rightsOf rows) answer
+
 -- a trace from an entering packet: the trace checker's answer, the work list then all 0
 abbrev follows : List ℕ → NodeLists → NodeLists → ℕ → List ℕ → TraceChecked → Case
 follows sizes l r entering packets answer = gives (checkTrace sizes l r entering packets (nines words)) (followed answer (replicate words 0))
@@ -236,9 +245,9 @@ cases =
     ∷ gives (bothLegal (32 ∷ 32 ∷ []) pass pass) (legality (Legal 0 0))
     ∷ gives (bothLegal (5 ∷ 205 ∷ []) pass pass) (legality (PairRefused (refusal 3 0 1)))
     ∷ gives (search (5 ∷ 205 ∷ []) pass pass (lending 5 3)) (searched (Refused (refusal 3 0 1)) (lending 5 3))
-    -- 31 dups pass, 32 don't: the 32nd dup is node 61
-    ∷ gives (bothLegal (1 ∷ []) (textNodes (dups 30)) (textNodes (dups 30))) (legality (Legal 31 31))
-    ∷ gives (bothLegal (1 ∷ []) (textNodes (dups 30)) (textNodes (dups 31))) (legality (PairRefused (refusal 9 2 61)))
+    -- 63 dups pass, 64 don't: the 64th dup is node 125
+    ∷ gives (bothLegal (1 ∷ []) (textNodes (dups 62)) (textNodes (dups 62))) (legality (Legal 63 63))
+    ∷ gives (bothLegal (1 ∷ []) (textNodes (dups 62)) (textNodes (dups 63))) (legality (PairRefused (refusal 9 2 125)))
     -- 64 parentheses pass, 65 don't
     ∷ gives (read (nested 64) (nines 2) (nines 2) (nines 2)) (readAs (Nodes 1) (asLists (1 ∷ 9 ∷ []) (0 ∷ 9 ∷ []) (0 ∷ 9 ∷ [])))
     ∷ unread (nested 65) 2 15 64
@@ -316,7 +325,7 @@ cases =
     ∷ refuses pass (nodes "!!dup") 19 2 1
     ∷ refuses (nodes "!(f0=0+dup)") (nodes "!dup") 19 1 3
     ∷ refuses (nodes "!!(f0=0;f1<-2)") pass 19 1 3
-    ∷ gives (bothLegal (1 ∷ []) (textNodes (dups 31)) (nodes "!dup")) (legality (PairRefused (refusal 19 2 1)))
+    ∷ gives (bothLegal (1 ∷ []) (textNodes (dups 63)) (nodes "!dup")) (legality (PairRefused (refusal 19 2 1)))
     ∷ gives (oneLegal (2 ∷ []) (nodes "!dup")) (legalityOfOne (AloneRefused (refusal 19 0 1)))
     ∷ gives (oneLegal (2 ∷ []) (nodes "!(!f0=0+drop;f0!=1;id)")) (legalityOfOne (LegalAlone 0))
     ∷ gives (searchTexts (2 ∷ []) (bytes "id") (bytes "!dup") (lending 5 3)) (searched (Refused (refusal 19 2 1)) (lending 5 3))
@@ -329,4 +338,9 @@ cases =
     ∷ unread (bytes "!!=0") 9 16 1
     ∷ unread (bytes "!") 9 16 1
     ∷ unread (bytes "!!!id") 3 17 4
+    -- document 02, A.2: P2's table and P11 by records, parents unread; bit 63 keeps (a) with 63 dups and breaks it with 62
+    ∷ judgesRecords (2 ∷ []) P2-left P2-right (record4 0 1 1 65535 ∷ record4 1 1 1 65535 ∷ record4 0 2 2 65535 ∷ record4 1 0 2 65535 ∷ []) Accepted
+    ∷ judgesRecords (2 ∷ []) P2-left P2-right (record4 0 1 1 0 ∷ record4 1 1 1 1 ∷ record4 0 2 2 0 ∷ []) (RuleD 1 1)
+    ∷ judges (1 ∷ []) (textNodes (dups 62)) pass (0 ∷ []) (9223372036854775808 ∷ []) (0 ∷ []) (RuleB 0)
+    ∷ judges (1 ∷ []) pass (textNodes (dups 61)) (0 ∷ []) (1 ∷ []) (9223372036854775808 ∷ []) (RuleA 0)
     ∷ []

@@ -12,7 +12,7 @@ use lib.Arith.{digits-div, digits-mod}
 use lib.Bits.{bitOr, bitAnd}
 use lib.Dec.{T, eqb, ltb}
 use lib.ListN.{length, getD, set, replicate, length-set}
-use lib.Pow.{field, low, high, mod-mod-pow}
+use lib.Pow.{low, high}
 use lib.Seq.{getD-set-same, getD-set-other}
 use Rattle.packet.specs.Packets.{valueAt, changed, stride}
 use Rattle.packet.specs.Sizes.{product, LegalSizes}
@@ -21,6 +21,7 @@ use Rattle.packet.proofs.Tests.{T-true, true-T, and-true, or-true}
 use Rattle.packet_set.specs.Bits.{bit}
 use Rattle.packet_set.specs.InnerMembers.{member, wordsFor, emptySet}
 use Rattle.packet_set.proofs.Digits.{bit-or, bit-and, bit-shift, bit-of-zero}
+use Rattle.packet_set.proofs.Masks.{bit-low}
 use Rattle.spans.proofs.Sets.{no-packet}
 use Rattle.loaded.specs.Loading.{HasMembers, withValue}
 use Rattle.loaded.proofs.Runs.{empty-wide, period-small}
@@ -30,22 +31,9 @@ use Rattle.changes.proofs.Walking.{digit-within, in-field, stride-some,
 
 -- ---- two words
 
--- the bits below w are those of the remainder
-bit-rest : (x j i : ℕ) → bit (x % 2 ^ (suc j + i)) i ≡ bit x i
-unfolding bit
-bit-rest x j i =
-    let e : j + 1 ≡ suc j = omega arith in
-    ap (λ (y : ℕ). eqb (y % 2) 1) (field x (suc j) i ∙ ap (λ (y : ℕ). x / 2 ^ i % 2 ^ y) (sym e))
-    ∙ ap (λ (y : ℕ). eqb y 1) (mod-mod-pow (x / 2 ^ i) j 1)
-
-bit-below : (w x i : ℕ) → i < w → bit (x % 2 ^ w) i ≡ bit x i
-bit-below w x i l =
-    let e : suc (w - suc i) + i ≡ w = omega arith in
-    ap (λ (y : ℕ). bit (x % 2 ^ y) i) (sym e) ∙ bit-rest x (w - suc i) i
-
 module _ (a b : ℕ) (fits : a < 2 ^ 32) where
   bit-first : (i : ℕ) → i < 32 → bit (b * 2 ^ 32 + a) i ≡ bit a i
-  bit-first i l = sym (bit-below 32 (b * 2 ^ 32 + a) i l) ∙ ap (λ (x : ℕ). bit x i) (low b 32 fits)
+  bit-first i l = sym (bit-low 32 (b * 2 ^ 32 + a) i l) ∙ ap (λ (x : ℕ). bit x i) (low b 32 fits)
 
   bit-second : (i : ℕ) → bit (b * 2 ^ 32 + a) (32 + i) ≡ bit b i
   bit-second i = sym (bit-shift (b * 2 ^ 32 + a) 32 i) ∙ ap (λ (x : ℕ). bit x i) (high b 32 fits)
@@ -57,7 +45,7 @@ joined-bits a b k fits = record {
 }
   where
     from : (j : ℕ) → j < 32 → bit ((b * 4294967296 + a) / 2 ^ k % 4294967296) j ≡ bit (b * 4294967296 + a) (k + j)
-    from j l = bit-below 32 ((b * 4294967296 + a) / 2 ^ k) j l ∙ bit-shift (b * 4294967296 + a) k j
+    from j l = bit-low 32 ((b * 4294967296 + a) / 2 ^ k) j l ∙ bit-shift (b * 4294967296 + a) k j
 
 pub window : (pad : List ℕ) (at word : ℕ) → JoinedWord (getD pad (at / 32) 0) (getD pad (at / 32 + 1) 0) (at % 32) word → Window pad at word
 unfolding member

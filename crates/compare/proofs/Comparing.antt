@@ -198,7 +198,7 @@ module _ {sizes : List ℕ} {nodes tests : List (List ℕ)} {β : ℕ} {next : L
 
 -- lists that nothing was written to
 pub load-asks : {sizes : List ℕ} {L R : NodeLists} {count : ℕ} → LegalSizes sizes → Legal sizes L → Legal sizes R → count ≡ product sizes
-    → LoadReady sizes L R count (replicate 2 (replicate 544 0)) (replicate 2 (replicate 8224 0))
+    → LoadReady sizes L R count (replicate 2 (replicate 576 0)) (replicate 2 (replicate 8224 0))
 load-asks s l r e =
     record {
       legal-sizes = s;
@@ -207,18 +207,18 @@ load-asks s l r e =
       packets = e;
       nodes-two = refl;
       tests-two = refl;
-      left-nodes = length-replicate {A = ℕ} 544 0;
+      left-nodes = length-replicate {A = ℕ} 576 0;
       left-tests = length-replicate {A = ℕ} 8224 0;
-      right-nodes = length-replicate {A = ℕ} 544 0;
+      right-nodes = length-replicate {A = ℕ} 576 0;
       right-tests = length-replicate {A = ℕ} 8224 0;
     }
 
 module _ {sizes : List ℕ} {L R : NodeLists} {count : ℕ} {nodes tests : List (List ℕ)} (P : LoadReady sizes L R count nodes tests) where
-  pub load-left : LegalSizes sizes × Legal sizes L × (count ≡ product sizes) × (length (leftOf nodes) ≡ 544) × (length (leftOf tests) ≡ 8224)
+  pub load-left : LegalSizes sizes × Legal sizes L × (count ≡ product sizes) × (length (leftOf nodes) ≡ 576) × (length (leftOf tests) ≡ 8224)
   load-left = (P .legal-sizes, P .left-legal, P .packets, P .left-nodes, P .left-tests)
 
   module _ (nodesL testsL : List ℕ) where
-    pub load-right : LegalSizes sizes × Legal sizes R × (count ≡ product sizes) × (length (rightOf (set nodes 0 nodesL)) ≡ 544) × (length (rightOf (set tests 0 testsL)) ≡ 8224)
+    pub load-right : LegalSizes sizes × Legal sizes R × (count ≡ product sizes) × (length (rightOf (set nodes 0 nodesL)) ≡ 576) × (length (rightOf (set tests 0 testsL)) ≡ 8224)
     load-right = (P .legal-sizes, P .right-legal, P .packets, ap length (right-stays nodes nodesL) ∙ P .right-nodes, ap length (right-stays tests testsL) ∙ P .right-tests)
 
     pub load-both : (nodesR testsR : List ℕ) → Loaded sizes L nodesL testsL → Loaded sizes R nodesR testsR → BothLoaded sizes L R (set (set nodes 0 nodesL) 1 nodesR) (set (set tests 0 testsL) 1 testsR)

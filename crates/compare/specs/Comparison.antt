@@ -43,9 +43,9 @@ pub record LoadReady (sizes : List ℕ) (L R : NodeLists) (count : ℕ) (nodes t
   pub packets : count ≡ product sizes
   pub nodes-two : length nodes ≡ 2
   pub tests-two : length tests ≡ 2
-  pub left-nodes : length (leftOf nodes) ≡ 544
+  pub left-nodes : length (leftOf nodes) ≡ 576
   pub left-tests : length (leftOf tests) ≡ 8224
-  pub right-nodes : length (rightOf nodes) ≡ 544
+  pub right-nodes : length (rightOf nodes) ≡ 576
   pub right-tests : length (rightOf tests) ≡ 8224
 
 -- both policies are loaded: no cause before 10 holds

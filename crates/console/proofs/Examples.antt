@@ -10,7 +10,7 @@ use Rattle.packet.specs.Packets.{valueAt, changed, valuesOf, numberOf}
 use Rattle.packet.specs.Sizes.{product, badCount, zeroSize, productOver, fieldsStage, productStage}
 use Rattle.packet.specs.Refusals.{refusal, refusedAt, atPlace, firstOf}
 use Rattle.policy.specs.NodeLists.{nodeCount, nodeOf, nodeAt, children, one, isDup, dupsBelow, grow, treeAt, treeOf, policyOf}
-use Rattle.policy.specs.Legality.{badLengths, badKind, badField, used, wrongEntries, badEntries, someNotBelow, badChild, occurrences, timesChild, notOnce, negatesOther, badNegation, maxDups, tooManyDups}
+use Rattle.policy.specs.Legality.{badLengths, badKind, badField, used, wrongEntries, badEntries, someNotBelow, badChild, occurrences, timesChild, notOnce, negatesOther, badNegation, tooManyDups}
 use Rattle.policy.specs.Tests.{isTest}
 use Rattle.policy.specs.Order.{order, inOrder, causes, sided, cause, policiesStage, stagesOf}
 use Rattle.policy.specs.NodesOfTree.{nodeEntry, actionEntry, treeSize, entriesFrom, listsOf, nodesOf}
@@ -92,5 +92,5 @@ cases =
     ∷ []
 
 all-as-stated : map (λ (c : Case). programOutput (c .input)) cases ≡ map (λ (c : Case). c .stated) cases
-unfolding xor lowest orAt valueAt changed valuesOf numberOf product nodeCount nodeOf nodeAt one isDup dupsBelow grow treeAt treeOf policyOf nodeEntry actionEntry treeSize entriesFrom listsOf nodesOf bit maskOf anyBelow setOf union takes image starRounds single unionOver labels rightSpine orElse followedBy remainder flow enter ofMarked outputSet enteredSet next outputMask nextMask starts sameRow listed append appendNext lowestTelling turn handle runFrom run climbing climb path entering runAnswer answerWith held at onBoth outputAt nextAt sameStates bothZero inOneOutput bitsOfDups lastOf sideOf reported searchAnswer columnsOf heldColumns sided isBlank isLetter isDigit inWord fieldNames sameWord allDigits decimal leadingZero isNumber numberToken fieldToken fieldNamed wordToken singleMark isDouble doubleMark beginsDouble markToken wordOf frontToken isBad restOfToken placedFrom tokensFrom tokens constantPolicy fieldAction nothing joinSequence joinSum upTo whole negated negating itemRead start close step finish readOn badPlace openAfter deepPlace stopPlace treeRead tooMany outcome textTree tested badCount zeroSize productOver fieldsStage productStage refusal refusedAt atPlace firstOf children badLengths badKind badField used wrongEntries badEntries someNotBelow badChild occurrences timesChild notOnce isTest negatesOther badNegation maxDups tooManyDups order inOrder causes cause policiesStage stagesOf onlyBits misfit rowsMisfit listsStage textNodes textStage textsTests beginsLF isCR onto linesOf splitByCommas isSize allSizes sizesOf askedOf askedByLines asked digitsUpTo numeral lineRest numberLine wordEqual wordLeft wordRight wordRefused wordOfSide verdictLine rowLines lastFlag traceLines refusalLine tellingLines answerLines outputAfter programLent outputOf programOutput bytes lf crlf cases
+unfolding xor lowest orAt valueAt changed valuesOf numberOf product nodeCount nodeOf nodeAt one isDup dupsBelow grow treeAt treeOf policyOf nodeEntry actionEntry treeSize entriesFrom listsOf nodesOf bit maskOf anyBelow setOf union takes image starRounds single unionOver labels rightSpine orElse followedBy remainder flow enter ofMarked outputSet enteredSet next outputMask nextMask starts sameRow listed append appendNext lowestTelling turn handle runFrom run climbing climb path entering runAnswer answerWith held at onBoth outputAt nextAt sameStates bothZero inOneOutput bitsOfDups lastOf sideOf reported searchAnswer columnsOf heldColumns sided isBlank isLetter isDigit inWord fieldNames sameWord allDigits decimal leadingZero isNumber numberToken fieldToken fieldNamed wordToken singleMark isDouble doubleMark beginsDouble markToken wordOf frontToken isBad restOfToken placedFrom tokensFrom tokens constantPolicy fieldAction nothing joinSequence joinSum upTo whole negated negating itemRead start close step finish readOn badPlace openAfter deepPlace stopPlace treeRead tooMany outcome textTree tested badCount zeroSize productOver fieldsStage productStage refusal refusedAt atPlace firstOf children badLengths badKind badField used wrongEntries badEntries someNotBelow badChild occurrences timesChild notOnce isTest negatesOther badNegation tooManyDups order inOrder causes cause policiesStage stagesOf onlyBits misfit rowsMisfit listsStage textNodes textStage textsTests beginsLF isCR onto linesOf splitByCommas isSize allSizes sizesOf askedOf askedByLines asked digitsUpTo numeral lineRest numberLine wordEqual wordLeft wordRight wordRefused wordOfSide verdictLine rowLines lastFlag traceLines refusalLine tellingLines answerLines outputAfter programLent outputOf programOutput bytes lf crlf cases
 all-as-stated = refl

@@ -61,7 +61,7 @@ fn show(output: &[u8], n: usize) {
 fn one_case(input: &[u8], from: usize, given: &mut [u8]) -> usize {
     let b = harness::build(input, from, given);
     let len = b.len;
-    let mut output = [7u8; 131072];
+    let mut output = [7u8; 262208];
     let n = console::answer(&given[..len], &mut output);
     show(&output, n);
     b.at

@@ -1,46 +1,26 @@
 -- A step from an empty set and an empty next list: what they hold then is the output and next. Assumes nothing.
-use Prim.Native.Nat.{ℕ, zero, suc, _+_, _^_, _≤_, _<_}
-use mathlib.Core.Bool.{Bool, true, false, _||_, _&&_}
+use Prim.Native.Nat.{ℕ, _≤_, _<_}
+use mathlib.Core.Bool.{false, _||_, _&&_}
 use mathlib.Core.List.{List}
-use mathlib.Core.Path.{_≡_, refl, sym, ap, _∙_, subst}
-use native.Mathlib.Nat.{lt-of-lt-of-le}
+use mathlib.Core.Path.{_≡_, sym, ap, _∙_, subst}
 use native.Mathlib.Omega.{arith}
-use lib.Dec.{T, ltb}
+use lib.Dec.{T}
 use lib.ListN.{getD}
-use lib.Pow.{pow-pos, pow-mono}
 use borrow.Author.Tests.{lt-ltb}
 use Rattle.packet.specs.Sizes.{product}
 use Rattle.packet.proofs.Tests.{T-false}
 use Rattle.policy.specs.NodeLists.{NodeLists, nodeCount, dupsBelow, policyOf}
 use Rattle.packet_set.specs.Bits.{bit}
 use Rattle.packet_set.specs.InnerMembers.{member, emptySet}
-use Rattle.packet_set.proofs.Digits.{bit-high, bit-of-zero, bits-same}
+use Rattle.packet_set.proofs.Digits.{bit-high, same-bits, no-bits}
 use Rattle.packet_set.proofs.Words.{member-empty}
 use Rattle.automaton.specs.State.{outputMask, nextMask}
 use Rattle.automaton.proofs.Laws.{outputMask-fits}
 use Rattle.automaton.proofs.Trees.{policy-evaluable}
 use Rattle.spans.specs.Spans.{hasMark, touched}
-use Rattle.spans.proofs.Rewriting.{no-bits}
-use Rattle.marks.specs.Marks.{Marking, Unmarked, Blank}
-use Rattle.marks.proofs.Touched.{unmarked-untouched}
+use Rattle.marks.specs.Marks.{Marking, Blank}
+use Rattle.marks.proofs.Touched.{no-marks}
 use Rattle.engine.specs.Stepping.{Stands, Stepped}
-
--- numbers with the same bits are one
-under-power : (n : ℕ) → n < 2 ^ n
-under-power zero = pow-pos 0
-under-power (suc n) = omega (arith, under-power n)
-
-same-bits : (a b : ℕ) → ((i : ℕ) → bit a i ≡ bit b i) → a ≡ b
-same-bits a b h =
-    bits-same (a + b) a b (lt-of-lt-of-le (under-power a) (pow-mono (let l : a ≤ a + b = omega arith in l))) (lt-of-lt-of-le (under-power b) (pow-mono (let l : b ≤ a + b = omega arith in l))) (λ i l. h i)
-
-no-marks : (next : List ℕ) → Unmarked next → (i γ : ℕ) → hasMark next i γ ≡ false
-unfolding hasMark Unmarked
-no-marks next h i γ = ap (λ m. ltb γ 1024 && bit m i) (h γ) ∙ go (ltb γ 1024)
-  where
-    go : (b : Bool) → (b && bit 0 i) ≡ false
-    go true = bit-of-zero i
-    go false = refl
 
 module _ {sizes nodes tests : List ℕ} {state β : ℕ} {next work : List ℕ} {f t : ℕ} {out next′ work′ : List ℕ} (bl : Blank next)
     (sp : Stepped sizes nodes tests state β emptySet next work f t out next′ work′) where
@@ -53,7 +33,7 @@ module _ {sizes nodes tests : List ℕ} {state β : ℕ} {next work : List ℕ} 
   step-marking =
       record {
         rest = λ γ l e. no-bits (getD next′ γ 0) (λ i. T-false (bit (getD next′ γ 0) i) (λ h. subst T e (marks-touched i γ (subst (λ b. T (b && bit (getD next′ γ 0) i)) (sym (lt-ltb γ 1024 l)) h))));
-        below = sp .touching-below (λ γ h. absurd (subst T (unmarked-untouched next (bl .unmarked) γ) h));
+        below = sp .touching-below (λ γ h. absurd (subst T (bl .unmarked .untouched γ) h));
       }
 
   module _ {M : NodeLists} (st : Stands sizes M nodes tests β) where

@@ -6,6 +6,7 @@ use mathlib.Core.Path.{_≡_, refl, sym, ap, _∙_, subst}
 use native.Mathlib.Omega.{arith}
 use lib.Dec.{T, eqb, eqb→eq, eqb-refl}
 use lib.ListN.{length, getD}
+use Rattle.packet_set.specs.Bits.{maskBits}
 use Rattle.packet.specs.Sizes.{product}
 use Rattle.policy.specs.declared.Node.{Node}
 use Rattle.policy.specs.declared.Node.the-variants.{Seq, Star}
@@ -89,11 +90,11 @@ module _ (sizes nodes tests : List ℕ) (i d β : ℕ) (work₀ seen₀ next₀ 
     pub recorded : Recorded sizes work₀ seen₀ next₀ work seen next
 
 module _ {sizes nodes tests : List ℕ} {i d β : ℕ} where
-  dup-at : {L : NodeLists} → Stands sizes L nodes tests β → 0 < i → i < 32 → d ≡ placeAt nodes i → (d ≡ 512 → ⊥) → DupAt L i d
+  dup-at : {L : NodeLists} → Stands sizes L nodes tests β → 0 < i → i < maskBits → d ≡ placeAt nodes i → (d ≡ 512 → ⊥) → DupAt L i d
   dup-at {L} st p b e z = subst (DupAt L i) (sym e) (placed-at (st .loaded) (st .legal) i p b (λ q. z (e ∙ q)))
 
 module _ {sizes nodes tests : List ℕ} {i d β : ℕ} {work₀ seen₀ next₀ : List ℕ} where
-  pub climb-start : 0 < i → i < 32 → d ≡ placeAt nodes i → (d ≡ 512 → ⊥) → {set : List ℕ} {f t : ℕ} → set ≡ withPacket emptySet β → Spanned f t set
+  pub climb-start : 0 < i → i < maskBits → d ≡ placeAt nodes i → (d ≡ 512 → ⊥) → {set : List ℕ} {f t : ℕ} → set ≡ withPacket emptySet β → Spanned f t set
       → ClimbingLists sizes nodes tests i d β work₀ seen₀ next₀ d set work₀ seen₀ next₀ f t
   climb-start p b e z {set} q s =
       record {
@@ -178,7 +179,7 @@ module _ {sizes nodes tests : List ℕ} {i d β : ℕ} {work₀ seen₀ next₀ 
         }
 
     -- it has come out of the root
-    pub climb-out : 0 < i → i < 32 → (q : d ≡ placeAt nodes i) → (d ≡ 512 → ⊥) → {above : ℕ} → above ≡ upIn (getD nodes n 0) → above ≡ 512
+    pub climb-out : 0 < i → i < maskBits → (q : d ≡ placeAt nodes i) → (d ≡ 512 → ⊥) → {above : ℕ} → above ≡ upIn (getD nodes n 0) → above ≡ 512
         → {out out′ : List ℕ} {f′ t′ : ℕ} → Holds f′ t′ out′ (λ γ. member out γ || member set γ) → RemainderStepped sizes nodes tests i β out work₀ seen₀ next₀ f′ t′ out′ work seen next
     unfolding upAt
     climb-out p b q z e u {out} {out′} h =
@@ -191,7 +192,7 @@ module _ {sizes nodes tests : List ℕ} {i d β : ℕ} {work₀ seen₀ next₀ 
         }
 
     -- nothing is left on the way
-    pub climb-lost : 0 < i → i < 32 → (q : d ≡ placeAt nodes i) → (d ≡ 512 → ⊥) → t ≤ f → {out : List ℕ} {f′ t′ : ℕ} → Spanned f′ t′ out → RemainderStepped sizes nodes tests i β out work₀ seen₀ next₀ f′ t′ out work seen next
+    pub climb-lost : 0 < i → i < maskBits → (q : d ≡ placeAt nodes i) → (d ≡ 512 → ⊥) → t ≤ f → {out : List ℕ} {f′ t′ : ℕ} → Spanned f′ t′ out → RemainderStepped sizes nodes tests i β out work₀ seen₀ next₀ f′ t′ out work seen next
     climb-lost p b q z l s =
         record {
           spanned = s;

@@ -7,12 +7,13 @@ use mathlib.Core.Path.{_≡_, refl, sym, ap, _∙_, subst}
 use native.Mathlib.Omega.{arith}
 use lib.Dec.{T, eqb}
 use lib.ListN.{length, getD}
+use Rattle.packet_set.specs.Bits.{maskBits}
 use Rattle.packet.specs.Sizes.{product}
 use Rattle.policy.specs.declared.FieldAction.{FieldAction}
 use Rattle.policy.specs.declared.FieldAction.the-variants.{Equals, Differs, Set}
 use Rattle.policy.specs.declared.Node.{Node}
 use Rattle.policy.specs.declared.Node.the-variants.{Drop, Id, Field, Dup, Sum, Seq, Star, Neg}
-use Rattle.policy.specs.Legality.{InFields, badField, fieldOf, valueOf, maxDups}
+use Rattle.policy.specs.Legality.{InFields, badField, fieldOf, valueOf}
 use Rattle.policy.specs.InnerEach.{Each}
 use Rattle.policy.specs.NodeLists.{NodeLists, nodeCount, nodeAt, dupsBelow, children, grow, treeOf}
 use Rattle.policy.proofs.LabelLaws.{dups-more}
@@ -179,9 +180,8 @@ module _ {sizes nodes tests : List ℕ} {n from to : ℕ} {set work : List ℕ} 
       is-label : label ≡ dupsBelow L (suc n)
       is-label = el ∙ moving .label e
 
-      pub label-small : label < 32
-      unfolding maxDups
-      label-small = subst (λ k. k < 32) (sym is-label) (let h = rd .legal .wellFormed .dups in let g = dups-more L (suc n) (nodeCount L) (rd .node) in omega arith)
+      pub label-small : label < maskBits
+      label-small = subst (λ k. k < maskBits) (sym is-label) (let h = rd .legal .wellFormed .dups in let g = dups-more L (suc n) (nodeCount L) (rd .node) in omega arith)
 
       pub leave-dup : {next next′ set₃ : List ℕ} → GotMark label set₂ next next′ → set₃ ≡ emptySet → ThroughLists sizes L nodes tests n set work seen next 0 0 set₃ work₁ seen₁ next′
       unfolding emptySet

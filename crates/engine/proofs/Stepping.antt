@@ -10,9 +10,8 @@ use lib.Dec.{T, eqb}
 use borrow.Author.Tests.{eqb-true}
 use lib.ListN.{length, getD}
 use lib.Seq.{ext-getD}
-use Rattle.policy.specs.Legality.{maxDups}
 use Rattle.policy.specs.NodeLists.{NodeLists, nodeCount, dupsBelow}
-use Rattle.packet_set.specs.Bits.{bit}
+use Rattle.packet_set.specs.Bits.{maskBits, bit}
 use Rattle.packet_set.specs.InnerMembers.{member}
 use Rattle.packet_set.proofs.Digits.{bit-of-zero, bit-shift}
 use Rattle.automaton.proofs.Tests.{true-T}
@@ -34,10 +33,10 @@ slots-clear work zeros m γ l = go (decLt γ 1024)
 
 -- ---- the marks of a state
 
-pub none-left : (state i : ℕ) → 31 < i → MarksLeft state i false
+pub none-left : (state i : ℕ) → maskBits ≤ i → MarksLeft state i false
 none-left state i l = record { inside = λ e. absurd (true≢false (sym e)); none = λ e j a b. absurd (omega arith) }
 
-pub some-left : (state i : ℕ) → i ≤ 31 → MarksLeft state i (not (eqb (state / 2 ^ i) 0))
+pub some-left : (state i : ℕ) → i < maskBits → MarksLeft state i (not (eqb (state / 2 ^ i) 0))
 some-left state i l = record { inside = λ e. omega arith; none = λ e j a b. here j a (eqb-true (state / 2 ^ i) 0 (not-false (eqb (state / 2 ^ i) 0) e)) }
   where
     here : (j : ℕ) → i ≤ j → state / 2 ^ i ≡ 0 → bit state j ≡ false
@@ -61,7 +60,7 @@ module _ {sizes nodes tests : List ℕ} {state i β : ℕ} {out work seen next :
 
 -- the remainders below i have been stepped
 pub record StepsLists (sizes nodes tests : List ℕ) (state β : ℕ) (out₀ work₀ seen₀ next₀ out work seen next : List ℕ) (f t i : ℕ) : Type 0 where
-  pub few : i ≤ 32
+  pub few : i ≤ maskBits
   pub spanned : Spanned f t out
   pub same : length work ≡ length work₀
   pub long : (length seen ≡ 16) × (length next ≡ 1056)
@@ -81,7 +80,7 @@ module _ {sizes nodes tests : List ℕ} {state β : ℕ} {out₀ work₀ seen₀
       }
 
   module _ {out work seen next : List ℕ} {f t from : ℕ} (sl : StepsLists sizes nodes tests state β out₀ work₀ seen₀ next₀ out work seen next f t from) where
-    pub step-more : {f′ t′ : ℕ} {out′ work′ seen′ next′ : List ℕ} → from < 32 → Visited sizes nodes tests state from β out work seen next f′ t′ out′ work′ seen′ next′ → length work′ ≡ length work
+    pub step-more : {f′ t′ : ℕ} {out′ work′ seen′ next′ : List ℕ} → from < maskBits → Visited sizes nodes tests state from β out work seen next f′ t′ out′ work′ seen′ next′ → length work′ ≡ length work
         → StepsLists sizes nodes tests state β out₀ work₀ seen₀ next₀ out′ work′ seen′ next′ f′ t′ (from + 1)
     step-more {out′ = out′} {work′} {seen′} {next′} l vi q =
         record {
@@ -94,9 +93,8 @@ module _ {sizes nodes tests : List ℕ} {state β : ℕ} {out₀ work₀ seen₀
               (vi .visited L st (member out₀) (hasMark next₀) (sl .steps L st));
         }
 
-    module _ (none : (j : ℕ) → from ≤ j → j < 32 → bit state j ≡ false) where
+    module _ (none : (j : ℕ) → from ≤ j → j < maskBits → bit state j ≡ false) where
       all : (L : NodeLists) → Stands sizes L nodes tests β → (j : ℕ) → j ≤ dupsBelow L (nodeCount L) → T (bit state j) → j < from
-      unfolding maxDups
       all L st j l m = go (decLt j from)
         where
           go : Dec (j < from) → j < from

@@ -14,7 +14,7 @@ use Rattle.policy.specs.Legality.{Legal}
 use Rattle.policy.specs.Meaning.{numbered}
 use Rattle.policy.specs.NodeLists.{NodeLists, nodeCount, dupsBelow, policyOf, treeOf}
 use Rattle.policy.specs.Tree.{Policy}
-use Rattle.packet_set.specs.Bits.{bit}
+use Rattle.packet_set.specs.Bits.{maskBits, bit}
 use Rattle.packet_set.specs.InnerMembers.{Members, Within}
 use Rattle.automaton.specs.Remainder.{remainder, Evaluable}
 use Rattle.automaton.specs.Reaches.{Passes, Reaches}
@@ -57,7 +57,7 @@ module _ {sizes : List ℕ} {L : NodeLists} {nodes tests : List ℕ} (ld : Loade
   dups-iff i j β γ = Iff·trans (meets-iff (numbered sizes) (remainder policy (suc i)) j β γ) (remainder-meets (numbered sizes) policy (evaluable .labelled) i j β γ)
 
   -- the dup of a remainder that there is
-  pub placed-at : (i : ℕ) → 0 < i → i < 32 → (placeAt nodes i ≡ 512 → ⊥) → DupAt L i (placeAt nodes i)
+  pub placed-at : (i : ℕ) → 0 < i → i < maskBits → (placeAt nodes i ≡ 512 → ⊥) → DupAt L i (placeAt nodes i)
   placed-at i p b z = go (decLt (dupsBelow L (nodeCount L)) i)
     where
       go : Dec (dupsBelow L (nodeCount L) < i) → DupAt L i (placeAt nodes i)

@@ -11,7 +11,7 @@ use Rattle.packet.specs.Sizes.{product, LegalSizes}
 use Rattle.policy.specs.Legality.{Legal}
 use Rattle.policy.specs.Meaning.{numbered}
 use Rattle.policy.specs.NodeLists.{NodeLists, nodeCount, dupsBelow, policyOf}
-use Rattle.packet_set.specs.Bits.{bit}
+use Rattle.packet_set.specs.Bits.{maskBits, bit}
 use Rattle.packet_set.specs.InnerMembers.{Members, Within, member}
 use Rattle.automaton.specs.Remainder.{remainder}
 use Rattle.automaton.specs.Reaches.{Passes, Reaches}
@@ -35,8 +35,8 @@ pub record Steps (sizes : List ℕ) (L : NodeLists) (nodes tests : List ℕ) (R�
 
 -- whether remainder i or a later one is marked; `left` false: none is
 pub record MarksLeft (state i : ℕ) (left : Bool) : Type 0 where
-  pub inside : left ≡ true → i < 32
-  pub none : left ≡ false → (j : ℕ) → i ≤ j → j < 32 → bit state j ≡ false
+  pub inside : left ≡ true → i < maskBits
+  pub none : left ≡ false → (j : ℕ) → i ≤ j → j < maskBits → bit state j ≡ false
 
 -- the policy is loaded, and the packet is one
 pub record Stands (sizes : List ℕ) (L : NodeLists) (nodes tests : List ℕ) (β : ℕ) : Type 0 where

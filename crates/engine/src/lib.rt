@@ -5,6 +5,7 @@ ghost use mathlib.Core.Bool.{false, _&&_};
 ghost use mathlib.Core.Path.{_≡_};
 ghost use lib.ListN.{length, getD};
 ghost use Rattle.policy.specs.Legality.{fieldOf, valueOf};
+ghost use Rattle.packet_set.specs.Bits.{maskBits};
 ghost use Rattle.packet_set.specs.InnerMembers.{member};
 ghost use Rattle.spans.specs.Spans.{Spanned};
 ghost use Rattle.loaded.specs.Nodes.{setIn, guardAt};
@@ -224,7 +225,7 @@ fn follow_dup(
     seen: &mut Seen,
     next: &mut Next,
 ) -> Span
-    requires { ⌜ (0 < i) × (i < 32) × RemainderReady (now sizes) (now nodes) (now tests) packet (span .from) (span .to) (now out) (now work) (now seen) (now next) ⌝ }
+    requires { ⌜ (0 < i) × (i < maskBits) × RemainderReady (now sizes) (now nodes) (now tests) packet (span .from) (span .to) (now out) (now work) (now seen) (now next) ⌝ }
     ensures { λ r. ⌜ RemainderStepped (now (sizes .entry)) (now (nodes .entry)) (now (tests .entry)) i packet (now (out .entry)) (now (work .entry)) (now (seen .entry)) (now (next .entry)) (r .from) (r .to) (now (out .exit)) (now (work .exit)) (now (seen .exit)) (now (next .exit)) ⌝ }
 {
     let place = nodes[512 + i as usize] as usize;
@@ -253,7 +254,7 @@ fn follow_dup(
 fn marks_left(state: Mask, i: u16) -> bool
     ensures { λ r. ⌜ MarksLeft state i r ⌝ }
 {
-    if 31 < i {
+    if 64 <= i {
         return false;
     }
     state >> i != 0
@@ -273,7 +274,7 @@ fn follow(
     seen: &mut Seen,
     next: &mut Next,
 ) -> Span
-    requires { ⌜ (i < 32) × RemainderReady (now sizes) (now nodes) (now tests) packet (span .from) (span .to) (now out) (now work) (now seen) (now next) ⌝ }
+    requires { ⌜ (i < maskBits) × RemainderReady (now sizes) (now nodes) (now tests) packet (span .from) (span .to) (now out) (now work) (now seen) (now next) ⌝ }
     ensures { λ r. ⌜ Visited (now (sizes .entry)) (now (nodes .entry)) (now (tests .entry)) state i packet (now (out .entry)) (now (work .entry)) (now (seen .entry)) (now (next .entry)) (r .from) (r .to) (now (out .exit)) (now (work .exit)) (now (seen .exit)) (now (next .exit)) ⌝ }
 {
     if !packet_set::is_marked(state, i as u32) {

@@ -1,8 +1,9 @@
 // Runs the steps of its input through the engine: the sizes, a policy's kinds, first and second entries, each list after
-// its length, then a state and a packet. It writes the packets of the output, and each packet with the state next there.
+// its length, then a state, as its four quarters, and a packet. It writes the packets of the output, and each packet with the state next there.
 use legality::PolicyAnswer;
 use marks::Next;
 use packet_set::Lowest;
+use packet_set::Mask;
 use packet_set::PacketWords;
 use spans::Span;
 
@@ -30,13 +31,13 @@ fn states(next: &Next) {
             harness::space();
             harness::number(i as u64);
             io::write_all(1, b":");
-            harness::number(harness::wide32(next[i]));
+            harness::number(next[i]);
         }
         i += 1;
     }
 }
 
-fn step(sizes: &[u16], kind: &[u8], first: &[u16], second: &[u16], state: u32, packet: u16) {
+fn step(sizes: &[u16], kind: &[u8], first: &[u16], second: &[u16], state: Mask, packet: u16) {
     let PolicyAnswer::Legal(_) = legality::policy_legality(sizes, kind, first, second) else {
         io::write_all(1, b"refused\n");
         return;
@@ -47,11 +48,11 @@ fn step(sizes: &[u16], kind: &[u8], first: &[u16], second: &[u16], state: u32, p
         io::write_all(1, b"no packet\n");
         return;
     }
-    let mut nodes = [0u64; 544];
+    let mut nodes = [0u64; 576];
     let mut tests = [0u32; 8224];
     loaded::load(sizes, count, kind, first, second, &mut nodes, &mut tests);
     let mut out = [0u32; 32];
-    let mut next = [0u32; 1056];
+    let mut next = [0; 1056];
     let mut work = [0u32; 16384];
     engine::step(
         &nodes,
@@ -80,7 +81,7 @@ fn one_case(input: &[u8], from: usize) -> usize {
     let firsts = harness::scan_list(input, kinds.at, &mut first);
     let mut second = [0u16; 520];
     let seconds = harness::scan_list(input, firsts.at, &mut second);
-    let state = harness::scan(input, seconds.at);
+    let state = harness::scan_mask(input, seconds.at);
     let packet = harness::scan(input, state.at);
     let d = declared.len;
     let k = kinds.len;

@@ -9,6 +9,7 @@ use mathlib.Core.Logic.{_↔_}
 use mathlib.Core.Path.{_≡_, refl, sym, _∙_, ap, ap₂, subst}
 use lib.ListN.{length, take, length-take, length-map}
 use borrow.Author.Tests.{eqb-true, eq-eqb, ltb-false, le-ltb, not-false}
+use Rattle.packet.specs.Lowest.{lowest}
 use Rattle.packet.specs.Refusals.{refusedAt, atPlace}
 use Rattle.packet.specs.declared.Refusal.{Refusal}
 use Rattle.packet.specs.declared.Tested.{Tested}
@@ -31,12 +32,16 @@ use Rattle.pair.specs.Rules.{RulesAnswer, accepted, ruleA, ruleB, ruleC, ruleD,
 use Rattle.pair.specs.Evidence.{tableOf, evidenceAnswer, RowRules}
 use Rattle.pair.proofs.Lawful.{EvaluablePair, legal-pair}
 use Rattle.pair.proofs.Evidence.{evidence-judged, accepted-same, evidence-iff, search-accepted, row-order-accepted}
+use Rattle.index.specs.Columns.{EvenColumns}
 use Rattle.lent_lists.specs.LentLists.{misfit, rowsMisfit, listsStage, workAfter}
 use Rattle.lent_lists.proofs.Testing.{front-tests, tests-passed, pair-lent, lent-pair}
 use Rattle.evidence.specs.declared.Evidence.{Evidence}
 use Rattle.evidence.specs.declared.Evidence.the-variants.{Accepted, RuleA, RuleB, RuleC, RuleD, Refused as NotChecked}
 use Rattle.evidence.specs.Calls.{asEvidence, evidenceOf, evidenceTests, evidenceCall, HoldRowOrder, CheckedRows}
-use Rattle.evidence.specs.InnerSteps.{LentTable, TableChecked}
+use Rattle.row_rules.specs.declared.Spot.{Spot}
+use Rattle.row_rules.specs.Presence.{spotOf, DupsFit, strays}
+use Rattle.evidence.specs.InnerSteps.{dupsOf, StrayIs, LentTable, TableChecked}
+use Rattle.evidence.proofs.Stepping.{dups-few}
 
 -- ---- the cases of the answer tell the rule and the spot
 
@@ -72,11 +77,11 @@ take-few n l = omega (arith, length-take n l)
 
 -- ---- cause 10
 
-lists-pass : (n work : ℕ) → n ≤ 65535 → 16384 ≤ work → listsStage (n ∷ n ∷ n ∷ []) work ≡ Passed
+pub lists-pass : (n work : ℕ) → n ≤ 65535 → 16384 ≤ work → listsStage (n ∷ n ∷ n ∷ []) work ≡ Passed
 unfolding listsStage rowsMisfit misfit refusedAt atPlace
 lists-pass n work few long = rw (eq-eqb n n refl, le-ltb 65535 n few, le-ltb work 16384 long) refl
 
-lists-passed : (a b c work : ℕ) → listsStage (a ∷ b ∷ c ∷ []) work ≡ Passed → (b ≡ a) × (c ≡ a) × (a ≤ 65535) × (16384 ≤ work)
+pub lists-passed : (a b c work : ℕ) → listsStage (a ∷ b ∷ c ∷ []) work ≡ Passed → (b ≡ a) × (c ≡ a) × (a ≤ 65535) × (16384 ≤ work)
 unfolding listsStage rowsMisfit misfit
 lists-passed a b c work e =
     let x = or-false _ _ (atPlace-none 0 _ (refusedAt-passed 10 0 _ e)) in
@@ -228,6 +233,18 @@ module _ (sizes : List ℕ) (L R : NodeLists) where
               numbered = n .2;
               long = n .3;
             }
+
+        -- what the search for a row that breaks rule (a) asks, with the dups of the policies
+        module _ {dups : List ℕ} (e : dups ≡ q .«left_dups» ∷ q .«right_dups» ∷ []) where
+          dups-known : DupsFit dups × (dups ≡ dupsOf L R)
+          dups-known = dups-few sizes L R packets lefts rights lent (front .left-dups passed) (front .right-dups passed) e
+
+          pub stray-asks : EvenColumns packets lefts rights × ((length packets ≤ 65535) × DupsFit dups)
+          stray-asks = (lent .table, (lent .numbered, dups-known .0))
+
+          pub table-asks : {spot : Spot} → spotOf spot ≡ lowest (strays packets lefts rights (q .packets) dups) (length packets)
+              → LentTable sizes L R packets lefts rights (q .packets) work × StrayIs L R packets lefts rights (q .packets) spot
+          table-asks f = (lent, record { first = f ∙ ap (λ (ds : List ℕ). lowest (strays packets lefts rights (q .packets) ds) (length packets)) (dups-known .1) })
 
         pub table-answered : (answer : Evidence) (work′ : List ℕ) → TableChecked sizes L R packets lefts rights work answer work′ → CheckedRows sizes L R packets lefts rights work answer work′
         unfolding evidenceOf workAfter

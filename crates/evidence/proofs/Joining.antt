@@ -23,7 +23,8 @@ use Rattle.pair.specs.Pair.{bothZero, bitsOfDups, pairSystem}
 use Rattle.pair.specs.Rules.{Table, present, breaksA, breaksB}
 use Rattle.pair.specs.Evidence.{tableOf}
 use Rattle.index.specs.Columns.{Small, rowAt, masksAgree, rowsAgree, listedBelow}
-use Rattle.row_rules.specs.Presence.{maskRow, rowInRange, zeroStates, inColumns, strays, startMissing, nextMissing}
+use Rattle.evidence.specs.InnerSteps.{dupsOf}
+use Rattle.row_rules.specs.Presence.{maskRow, statesInRange, rowInRange, zeroStates, inColumns, strays, startMissing, nextMissing}
 
 -- tests that agree below n find the same
 pub lowest-agree : (test other : ℕ → Bool) (n m : ℕ) → n ≡ m → ((i : ℕ) → i < m → test i ≡ other i) → lowest test n ≡ lowest other m
@@ -50,16 +51,16 @@ module _ (sizes : List ℕ) (L R : NodeLists) (packets lefts rights : List ℕ) 
   columns-present = scan-is (length packets)
 
   -- rule (a)
-  module _ (count leftDups rightDups : ℕ) (n : count ≡ product sizes) (dl : leftDups ≡ dupsBelow L (nodeCount L)) (dr : rightDups ≡ dupsBelow R (nodeCount R)) where
-    strays-is : (i : ℕ) → strays packets lefts rights count leftDups rightDups i ≡ breaksA S T i
-    unfolding strays rowInRange breaksA bitsOfDups onBoth at
-    strays-is i = rw (n, dl, dr) refl
+  module _ (count : ℕ) (n : count ≡ product sizes) where
+    strays-is : (i : ℕ) → strays packets lefts rights count (dupsOf L R) i ≡ breaksA S T i
+    unfolding strays rowInRange statesInRange breaksA bitsOfDups onBoth at
+    strays-is i = rw n refl
 
-    pub lowest-stray : lowest (strays packets lefts rights count leftDups rightDups) (length packets) ≡ lowest (breaksA S T) (length packets)
+    pub lowest-stray : lowest (strays packets lefts rights count (dupsOf L R)) (length packets) ≡ lowest (breaksA S T) (length packets)
     lowest-stray = lowest-agree _ _ (length packets) (length packets) refl (λ i h. strays-is i)
 
     -- where rule (a) is kept, each packet is below N
-    pub packets-small : lowest (strays packets lefts rights count leftDups rightDups) (length packets) ≡ none → Small packets count
+    pub packets-small : lowest (strays packets lefts rights count (dupsOf L R)) (length packets) ≡ none → Small packets count
     unfolding strays rowInRange
     packets-small e = record { small = λ i h. ltb-true _ _ (and-true _ _ (not-false _ (lowest-none _ _ e i h)) .0) }
 

@@ -3,3 +3,4 @@ pub mod Repeats
 pub mod Rows
 pub mod Stepping
 pub mod Answering
+pub mod Reading

@@ -1,15 +1,14 @@
 -- The checker's steps over the node lists: the starting rows, the table.
 -- Assumes nothing.
-use Prim.Native.Nat.{ℕ, _/_, _≤_, _<_}
+use Prim.Native.Nat.{ℕ, _/_, _≤_}
 use native.Mathlib.Nat.{le-refl}
 use native.Mathlib.Omega.{arith}
-use mathlib.Core.List.{List}
+use mathlib.Core.List.{List, [], _∷_}
 use mathlib.Core.Option.{Option}
-use mathlib.Core.Path.{_≡_, refl, sym, _∙_, ap, subst}
+use mathlib.Core.Path.{_≡_, refl, sym, _∙_, ap, ap₂, subst}
 use lib.ListN.{length, getD, replicate, length-replicate, getD-replicate}
 use Rattle.packet.specs.Lowest.{lowest}
 use Rattle.packet.specs.Sizes.{product}
-use Rattle.policy.specs.Legality.{maxDups}
 use Rattle.policy.specs.NodeLists.{NodeLists, nodeCount, dupsBelow}
 use Rattle.system.specs.System.{System}
 use Rattle.pair.specs.Sides.{policies}
@@ -24,9 +23,10 @@ use Rattle.evidence.specs.declared.Evidence.{Evidence}
 use Rattle.evidence.specs.declared.Evidence.the-variants.{RuleA, RuleB}
 use Rattle.row_rules.specs.declared.Spot.{Spot}
 use Rattle.row_rules.specs.declared.Spot.the-variants.{At, Nowhere}
-use Rattle.row_rules.specs.Presence.{spotOf, strays, startMissing}
+use Rattle.row_rules.specs.Presence.{spotOf, DupsFit, startMissing}
+use Rattle.row_rules.proofs.Looking.{two-fit}
 use Rattle.evidence.specs.Calls.{asEvidence}
-use Rattle.evidence.specs.InnerSteps.{LentTable, Cleared, Vacant, TableReady, RowsChecked, StartsChecked, TableChecked}
+use Rattle.evidence.specs.InnerSteps.{dupsOf, StrayIs, LentTable, Cleared, Vacant, TableReady, RowsChecked, StartsChecked, TableChecked}
 use Rattle.evidence.proofs.Joining.{lowest-stray, packets-small, lowest-start}
 
 -- the spot found, as the lowest of a test
@@ -54,7 +54,7 @@ module _ (sizes : List ℕ) (L R : NodeLists) (packets lefts rights : List ℕ) 
           all = record { within = le-refl (length packets); room = subst (λ m. length packets ≤ m / 3) (sym (length-replicate {A = ℕ} k 0)) room; small = C .small .small };
         }
 
-    pub load-ready : LoadReady sizes L R count (replicate 2 (replicate 544 0)) (replicate 2 (replicate 8224 0))
+    pub load-ready : LoadReady sizes L R count (replicate 2 (replicate 576 0)) (replicate 2 (replicate 8224 0))
     load-ready = load-asks (C .lent .allowed .legal) (C .lent .allowed .left-legal) (C .lent .allowed .right-legal) (C .lent .allowed .packet-count)
 
     pub loaded-ready : {nodes tests : List (List ℕ)} {trees : List ℕ} → BothLoaded sizes L R nodes tests → Indexed packets lefts rights count (length packets) trees
@@ -80,15 +80,18 @@ module _ (sizes : List ℕ) (L R : NodeLists) (packets lefts rights : List ℕ) 
 
   -- ---- the table
 
-  -- a mask has room for a bit of each dup
-  pub dups-few : {count : ℕ} {work : List ℕ} (lent : LentTable sizes L R packets lefts rights count work) {dl dr : ℕ} → dl ≡ dupsBelow L (nodeCount L) → dr ≡ dupsBelow R (nodeCount R) → (dl < 32) × (dr < 32)
-  unfolding maxDups
-  dups-few lent el er = let a = lent .allowed .left-legal .wellFormed .dups in let b = lent .allowed .right-legal .wellFormed .dups in (omega arith, omega arith)
+  -- a state has room for a bit of each dup
+  pub dups-few : {count : ℕ} {work : List ℕ} (lent : LentTable sizes L R packets lefts rights count work) {dl dr : ℕ} → dl ≡ dupsBelow L (nodeCount L) → dr ≡ dupsBelow R (nodeCount R)
+      → {dups : List ℕ} → dups ≡ dl ∷ dr ∷ [] → DupsFit dups × (dups ≡ dupsOf L R)
+  dups-few lent {dl} {dr} el er e =
+      let a = lent .allowed .left-legal .wellFormed .dups in
+      let b = lent .allowed .right-legal .wellFormed .dups in
+      (subst DupsFit (sym e) (two-fit {l = dl} {r = dr} (omega arith) (omega arith)), e ∙ ap₂ (λ (x y : ℕ). x ∷ y ∷ []) el er)
 
-  module _ {count : ℕ} {work clear : List ℕ} (lent : LentTable sizes L R packets lefts rights count work) (isClear : clear ≡ replicate (length work) 0) {dl dr : ℕ} (isLeft : dl ≡ dupsBelow L (nodeCount L)) (isRight : dr ≡ dupsBelow R (nodeCount R))
-      {spot : Spot} (stray : spotOf spot ≡ lowest (strays packets lefts rights count dl dr) (length packets)) where
+  module _ {count : ℕ} {work clear : List ℕ} (lent : LentTable sizes L R packets lefts rights count work) (isClear : clear ≡ replicate (length work) 0)
+      {spot : Spot} (stray : StrayIs L R packets lefts rights count spot) where
     stray-is : {s : Spot} → spot ≡ s → lowest (breaksA S T) (length packets) ≡ spotOf s
-    stray-is = found stray (lowest-stray sizes L R packets lefts rights count dl dr (lent .allowed .packet-count) isLeft isRight)
+    stray-is = found (stray .first) (lowest-stray sizes L R packets lefts rights count (lent .allowed .packet-count))
 
     pub table-broken : (i : ℕ) → spot ≡ At i → TableChecked sizes L R packets lefts rights work (RuleA i) clear
     unfolding spotOf asEvidence evidenceAnswer checkRules andThen brokenAt
@@ -103,7 +106,7 @@ module _ (sizes : List ℕ) (L R : NodeLists) (packets lefts rights : List ℕ) 
     table-cleared e =
         record {
           lent = record { allowed = lent .allowed; table = lent .table; numbered = lent .numbered; long = subst (λ (n : ℕ). 16384 ≤ n) (sym (ap length isClear ∙ length-replicate (length work) 0)) (lent .long) };
-          small = packets-small sizes L R packets lefts rights count dl dr (lent .allowed .packet-count) isLeft isRight (sym stray ∙ ap spotOf e);
+          small = packets-small sizes L R packets lefts rights count (lent .allowed .packet-count) (sym (stray .first) ∙ ap spotOf e);
           zero = λ i h. ap (λ (w : List ℕ). getD w i 0) isClear ∙ getD-replicate (length work) i 0 0 (omega (arith, lent .long));
         }
 

@@ -1,18 +1,20 @@
 // The evidence checker (document 01, "Row rules for evidence"): do rows that anybody made show that two policies are equal?
+ghost use mathlib.Core.List.{[], _∷_};
+ghost use mathlib.Core.Path.{_≡_};
 ghost use Prim.Native.Nat.{_<_};
 ghost use lib.ListN.{length};
 ghost use Rattle.policy.specs.AsLists.{asLists, policyAtEntry};
 ghost use Rattle.compare.specs.Comparison.{BothBlank};
 ghost use Rattle.evidence.specs.Calls.{CheckedRows};
-ghost use Rattle.evidence.specs.InnerSteps.{DupsAre, LentTable, Cleared, Vacant, TableReady, RowChecked, RowsChecked, StartsChecked, TableChecked};
+ghost use Rattle.evidence.specs.InnerSteps.{BoundsOf, ReadTable, ReadChecked, StrayIs, LentTable, Cleared, Vacant, TableReady, RowChecked, RowsChecked, StartsChecked, TableChecked};
 use compare::Compared;
-use index::Mask;
 use index::POLICIES;
 use loaded::Nodes;
 use loaded::Tests;
 use marks::Next;
 use packet::Refusal;
 use packet::Tested;
+use packet_set::Mask;
 use row_rules::Spot;
 
 // Accepted; or the broken rule with its spot: (a) row, (b) packet, (c) row, (d) row and packet; or a refusal.
@@ -81,7 +83,7 @@ fn rows_checked(
     requires { ⌜ TableReady (now sizes) (now nodes) (now tests) (now packets) (now lefts) (now rights) count (now trees) (now work) ⌝ }
     ensures { λ r. ⌜ RowsChecked (now (sizes .entry)) (now (nodes .entry)) (now (tests .entry)) (now (packets .entry)) (now (lefts .entry)) (now (rights .entry)) (now (work .entry)) r (now (work .exit)) ⌝ }
 {
-    let mut next = [[0u32; 1056]; POLICIES];
+    let mut next = [[0; 1056]; POLICIES];
     let mut i = 0;
     while i < packets.len() {
         if row_rules::repeated(packets, lefts, rights, i, count, trees) {
@@ -133,7 +135,7 @@ fn starts_checked(
     match row_rules::first_start_missing(packets, lefts, rights, count, trees) {
         Spot::At(alpha) => Evidence::RuleB(alpha),
         Spot::Nowhere => {
-            let mut nodes = [[0u64; 544]; POLICIES];
+            let mut nodes = [[0u64; 576]; POLICIES];
             let mut tests = [[0u32; 8224]; POLICIES];
             compare::load(
                 sizes,
@@ -217,7 +219,7 @@ fn index_chosen(
     )
 }
 
-// The four row rules, (a) over all rows first.
+// The four row rules, (a) first: the lowest row that breaks it has been found.
 fn table_checked(
     sizes: &[u16],
     left_kind: &[u8],
@@ -230,23 +232,15 @@ fn table_checked(
     lefts: &[Mask],
     rights: &[Mask],
     count: u16,
-    left_dups: u8,
-    right_dups: u8,
+    stray: Spot,
     work: &mut [u32],
 ) -> Evidence
     requires { ⌜ LentTable (now sizes) (asLists (now «left_kind») (now «left_first») (now «left_second»)) (asLists (now «right_kind») (now «right_first») (now «right_second»)) (now packets) (now lefts) (now rights) count (now work) ⌝ }
-    requires { ⌜ DupsAre (asLists (now «left_kind») (now «left_first») (now «left_second»)) (asLists (now «right_kind») (now «right_first») (now «right_second»)) «left_dups» «right_dups» ⌝ }
+    requires { ⌜ StrayIs (asLists (now «left_kind») (now «left_first») (now «left_second»)) (asLists (now «right_kind») (now «right_first») (now «right_second»)) (now packets) (now lefts) (now rights) count stray ⌝ }
     ensures { λ r. ⌜ TableChecked (now (sizes .entry)) (policyAtEntry «left_kind» «left_first» «left_second») (policyAtEntry «right_kind» «right_first» «right_second») (now (packets .entry)) (now (lefts .entry)) (now (rights .entry)) (now (work .entry)) r (now (work .exit)) ⌝ }
 {
     lent_lists::clear(work);
-    match row_rules::first_stray(
-        packets,
-        lefts,
-        rights,
-        count,
-        left_dups as u32,
-        right_dups as u32,
-    ) {
+    match stray {
         Spot::At(i) => Evidence::RuleA(i),
         Spot::Nowhere => index_chosen(
             sizes,
@@ -263,6 +257,12 @@ fn table_checked(
             work,
         ),
     }
+}
+
+fn wide(left_dups: u8, right_dups: u8) -> [u32; POLICIES]
+    ensures { λ r. ⌜ r ≡ «left_dups» ∷ «right_dups» ∷ [] ⌝ }
+{
+    [left_dups as u32, right_dups as u32]
 }
 
 // Do the rows, whoever made them, keep the row rules for the two policies? The work list is all 0 on return, or as found on a refusal.
@@ -296,6 +296,115 @@ pub fn check(
     let count = found.packets;
     match tested {
         Tested::Refused(r) => Evidence::Refused(r),
+        Tested::Passed => {
+            let dups = wide(found.left_dups, found.right_dups);
+            let stray = row_rules::first_stray(packets, lefts, rights, count, dups);
+            table_checked(
+                sizes,
+                left_kind,
+                left_first,
+                left_second,
+                right_kind,
+                right_first,
+                right_second,
+                packets,
+                lefts,
+                rights,
+                count,
+                stray,
+                work,
+            )
+        }
+    }
+}
+
+// The numbers that rule (a) compares a record with, and how many records are read. Inner.
+pub struct Bounds {
+    pub rows: usize,
+    pub count: u16,
+    pub left_dups: u32,
+    pub right_dups: u32,
+}
+
+// Inner: the bounds of so many records; none is read where a cause before 10 refuses, or there are too many. The work list is tested by
+// `check_read`: here it counts as long enough.
+pub fn bounds_of(
+    sizes: &[u16],
+    left_kind: &[u8],
+    left_first: &[u16],
+    left_second: &[u16],
+    right_kind: &[u8],
+    right_first: &[u16],
+    right_second: &[u16],
+    rows: usize,
+) -> Bounds
+    ensures { λ r. ⌜ BoundsOf (now (sizes .entry)) (policyAtEntry «left_kind» «left_first» «left_second») (policyAtEntry «right_kind» «right_first» «right_second») rows r ⌝ }
+{
+    let lists = lent_lists::evidence_lists(rows, rows, rows, 16384);
+    let found = legality::front(
+        sizes,
+        left_kind,
+        left_first,
+        left_second,
+        right_kind,
+        right_first,
+        right_second,
+        lists,
+    );
+    let tested = found.tested;
+    match tested {
+        Tested::Refused(_) => Bounds {
+            rows: 0,
+            count: 0,
+            left_dups: 0,
+            right_dups: 0,
+        },
+        Tested::Passed => {
+            let dups = wide(found.left_dups, found.right_dups);
+            Bounds {
+                rows,
+                count: found.packets,
+                left_dups: dups[0],
+                right_dups: dups[1],
+            }
+        }
+    }
+}
+
+// Inner: as `check`, of so many records, whose columns were read, with the first record that breaks rule (a).
+pub fn check_read(
+    sizes: &[u16],
+    left_kind: &[u8],
+    left_first: &[u16],
+    left_second: &[u16],
+    right_kind: &[u8],
+    right_first: &[u16],
+    right_second: &[u16],
+    packets: &[u16],
+    lefts: &[Mask],
+    rights: &[Mask],
+    rows: usize,
+    stray: usize,
+    work: &mut [u32],
+) -> Evidence
+    requires { ⌜ ReadTable (now sizes) (asLists (now «left_kind») (now «left_first») (now «left_second»)) (asLists (now «right_kind») (now «right_first») (now «right_second»)) (now packets) (now lefts) (now rights) rows stray ⌝ }
+    ensures { λ r. ⌜ ReadChecked (now (sizes .entry)) (policyAtEntry «left_kind» «left_first» «left_second») (policyAtEntry «right_kind» «right_first» «right_second») (now (packets .entry)) (now (lefts .entry)) (now (rights .entry)) rows (now (work .entry)) r (now (work .exit)) ⌝ }
+{
+    let lists = lent_lists::evidence_lists(rows, rows, rows, work.len());
+    let found = legality::front(
+        sizes,
+        left_kind,
+        left_first,
+        left_second,
+        right_kind,
+        right_first,
+        right_second,
+        lists,
+    );
+    let tested = found.tested;
+    let count = found.packets;
+    match tested {
+        Tested::Refused(r) => Evidence::Refused(r),
         Tested::Passed => table_checked(
             sizes,
             left_kind,
@@ -304,12 +413,11 @@ pub fn check(
             right_kind,
             right_first,
             right_second,
-            packets,
-            lefts,
-            rights,
+            &packets[..rows],
+            &lefts[..rows],
+            &rights[..rows],
             count,
-            found.left_dups,
-            found.right_dups,
+            row_rules::stray_spot(rows, stray),
             work,
         ),
     }

@@ -2,12 +2,17 @@
 ghost use mathlib.Core.Path.{_≡_};
 ghost use lib.ListN.{length};
 ghost use Rattle.packet.specs.Packets.{numberOf};
-ghost use Rattle.policy.specs.AsLists.{policyAtEntry};
+ghost use Rattle.policy.specs.AsLists.{asLists, policyAtEntry};
 ghost use Rattle.legality.specs.Answers.{policyLegality, pairLegality};
 ghost use Rattle.turning.specs.Turning.{valuesTests, valuesAnswer, valuesLeft, numberTests, numberAnswer};
 ghost use Rattle.search.specs.Call.{lentAtEntry, lentAtExit};
+ghost use Rattle.records.specs.Records.{packetsOf, leftsOf, rightsOf};
+ghost use Rattle.evidence.specs.InnerSteps.{ReadTable};
 ghost use Rattle.answer_numbers.specs.Numbers.{valuesNumbers, numberNumbers, policyNumbers, pairNumbers};
 ghost use Rattle.exports.specs.Promises.{ReadOut, SearchedOut, TextsOut, EvidenceOut, TraceOut};
+ghost use Rattle.exports.specs.InnerColumns.{ColumnsOut};
+use packet_set::Mask;
+use records::RowRecord;
 
 // A packet's number turned into its values.
 #[no_mangle]
@@ -95,8 +100,8 @@ pub extern "C" fn netkat_search(
     right_first: &[u16],
     right_second: &[u16],
     packet: &mut [u16],
-    left: &mut [u32],
-    right: &mut [u32],
+    left: &mut [Mask],
+    right: &mut [Mask],
     parent: &mut [u16],
     trace: &mut [u16],
     work: &mut [u32],
@@ -128,8 +133,8 @@ pub extern "C" fn netkat_search_texts(
     left_text: &[u8],
     right_text: &[u8],
     packet: &mut [u16],
-    left: &mut [u32],
-    right: &mut [u32],
+    left: &mut [Mask],
+    right: &mut [Mask],
     parent: &mut [u16],
     trace: &mut [u16],
     work: &mut [u32],
@@ -161,8 +166,8 @@ pub extern "C" fn netkat_evidence(
     right_first: &[u16],
     right_second: &[u16],
     packet: &[u16],
-    left: &[u32],
-    right: &[u32],
+    left: &[Mask],
+    right: &[Mask],
     work: &mut [u32],
     answer: &mut [u64; 8],
 )
@@ -181,6 +186,101 @@ pub extern "C" fn netkat_evidence(
         right,
         work,
     ));
+}
+
+// A table of so many records checked, whose columns were read, with the first record that breaks rule (a).
+fn evidence_read(
+    sizes: &[u16],
+    left_kind: &[u8],
+    left_first: &[u16],
+    left_second: &[u16],
+    right_kind: &[u8],
+    right_first: &[u16],
+    right_second: &[u16],
+    packets: &[u16],
+    lefts: &[Mask],
+    rights: &[Mask],
+    rows: usize,
+    stray: usize,
+    work: &mut [u32],
+    answer: &mut [u64; 8],
+)
+    requires { ⌜ ReadTable (now sizes) (asLists (now «left_kind») (now «left_first») (now «left_second»)) (asLists (now «right_kind») (now «right_first») (now «right_second»)) (now packets) (now lefts) (now rights) rows stray ⌝ }
+    ensures { λ _. ⌜ ColumnsOut (now (sizes .entry)) (policyAtEntry «left_kind» «left_first» «left_second») (policyAtEntry «right_kind» «right_first» «right_second») (now (packets .entry)) (now (lefts .entry)) (now (rights .entry)) rows (now (work .entry)) (now (answer .exit)) (now (work .exit)) ⌝ }
+{
+    *answer = answer_numbers::of_evidence(evidence::check_read(
+        sizes,
+        left_kind,
+        left_first,
+        left_second,
+        right_kind,
+        right_first,
+        right_second,
+        packets,
+        lefts,
+        rights,
+        rows,
+        stray,
+        work,
+    ));
+}
+
+// A table of row records checked: as `netkat_evidence` on the columns of the records. Their columns are read to lists of its own, where
+// the index looks rows up.
+#[no_mangle]
+pub extern "C" fn netkat_evidence_rows(
+    sizes: &[u16],
+    left_kind: &[u8],
+    left_first: &[u16],
+    left_second: &[u16],
+    right_kind: &[u8],
+    right_first: &[u16],
+    right_second: &[u16],
+    rows: &[RowRecord],
+    work: &mut [u32],
+    answer: &mut [u64; 8],
+)
+    ensures { λ _. ⌜ EvidenceOut (now (sizes .entry)) (policyAtEntry «left_kind» «left_first» «left_second») (policyAtEntry «right_kind» «right_first» «right_second») (packetsOf (now (rows .entry))) (leftsOf (now (rows .entry))) (rightsOf (now (rows .entry))) (now (work .entry)) (now (answer .exit)) (now (work .exit)) ⌝ }
+{
+    let mut packets = [0u16; 65535];
+    let mut lefts = [0; 65535];
+    let mut rights = [0; 65535];
+    let bounds = evidence::bounds_of(
+        sizes,
+        left_kind,
+        left_first,
+        left_second,
+        right_kind,
+        right_first,
+        right_second,
+        rows.len(),
+    );
+    let stray = records::read_records(
+        rows,
+        bounds.rows,
+        bounds.count,
+        bounds.left_dups,
+        bounds.right_dups,
+        &mut packets,
+        &mut lefts,
+        &mut rights,
+    );
+    evidence_read(
+        sizes,
+        left_kind,
+        left_first,
+        left_second,
+        right_kind,
+        right_first,
+        right_second,
+        &packets,
+        &lefts,
+        &rights,
+        rows.len(),
+        stray,
+        work,
+        answer,
+    );
 }
 
 // A trace checked.

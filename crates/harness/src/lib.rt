@@ -1,7 +1,7 @@
 // Reading the numbers of cases from standard input and writing the answers, for the programs that run cases. What such a
 // program writes is held to its stored output.
 ghost use mathlib.Core.Path.{_≡_};
-ghost use Prim.Native.Nat.{_≤_};
+ghost use Prim.Native.Nat.{_<_, _≤_};
 ghost use lib.ListN.{length};
 
 // A number of the input, and the place behind it.
@@ -53,6 +53,32 @@ fn wide8(x: u8) -> u32
 // The next number; 0 at the input's end.
 pub fn scan(input: &[u8], from: usize) -> Scanned {
     digits(input, next_digit(input, from))
+}
+
+// A number of 64 bits, and the place behind it.
+pub struct ScannedMask {
+    pub value: u64,
+    pub at: usize,
+}
+
+fn quarter(x: u32) -> u64
+    ensures { λ r. ⌜ r < 65536 ⌝ }
+{
+    (x % 65536) as u64
+}
+
+// The next number of 64 bits: its four quarters, the highest first.
+pub fn scan_mask(input: &[u8], from: usize) -> ScannedMask {
+    let a = scan(input, from);
+    let b = scan(input, a.at);
+    let c = scan(input, b.at);
+    let d = scan(input, c.at);
+    let upper = quarter(a.value) * 65536 + quarter(b.value);
+    let lower = quarter(c.value) * 65536 + quarter(d.value);
+    ScannedMask {
+        value: upper * 4294967296 + lower,
+        at: d.at,
+    }
 }
 
 // How many entries a list has so far, and the place of the input behind what was read.

@@ -3,14 +3,17 @@ use mathlib.Core.Path.{_≡_, refl, sym, _∙_, ap, ap₂, subst}
 use mathlib.Core.Bool.{true, false, _&&_, and-false}
 use mathlib.Core.List.{List}
 use mathlib.Core.Logic.{_⊎_, inl, inr}
-use Prim.Native.Nat.{ℕ, zero, suc, _+_, _/_, _%_, _^_, _≤_, _<_}
-use native.Mathlib.Nat.{not-suc-le-zero, le-antisymm, mod-lt}
+use Prim.Native.Nat.{ℕ, zero, suc, _+_, _*_, _/_, _%_, _^_, _≤_, _<_}
+use native.Mathlib.Nat.{not-suc-le-zero, le-antisymm, mod-lt, mod-eq-of-lt}
 use native.Mathlib.Numerals.{add-one}
 use native.Mathlib.Omega.{arith}
+use lib.Arith.{digits-div, digits-mod}
 use lib.Dec.{eqb}
 use lib.ListN.{getD}
 use borrow.Author.Tests.{eqb-true, eq-eqb, ne-eqb}
 use Rattle.system.proofs.Basics.{and-true, last-or-before}
+use Rattle.packet_set.specs.Bits.{maskBits, bit}
+use Rattle.packet_set.proofs.Digits.{bits-same}
 use Rattle.index.specs.declared.Row.{Row}
 use Rattle.index.specs.Columns.{policyCount, masksAgree, rowsAgree}
 use Rattle.index.specs.Index.{sideAt}
@@ -94,4 +97,25 @@ module _ (a b : Row) (same : rowsAgree a b ≡ true) where
 
   pub same-side : (depth : ℕ) → sideAt depth (a .states) ≡ sideAt depth (b .states)
   unfolding sideAt
-  same-side depth = ap (λ x. x / 2 ^ (depth / policyCount % 32) % 2) (same-at (depth % policyCount) (mod-lt depth (omega arith)))
+  same-side depth = ap (λ x. x / 2 ^ (depth / policyCount % maskBits) % 2) (same-at (depth % policyCount) (mod-lt depth (omega arith)))
+
+-- Rows that a look takes the same way at every depth below twice the width have the same states. The rows of a bucket have one packet, so no
+-- look passes more than so many of them.
+module _ (a b : List ℕ) (fit : (k : ℕ) → (getD a k 0 < 2 ^ maskBits) × (getD b k 0 < 2 ^ maskBits)) (same : (depth : ℕ) → depth < policyCount * maskBits → sideAt depth a ≡ sideAt depth b) where
+  -- the depth at which a look goes by bit j of policy k's state
+  at-depth : (x : List ℕ) (j k : ℕ) → j < maskBits → k < policyCount → sideAt (j * policyCount + k) x ≡ getD x k 0 / 2 ^ j % 2
+  unfolding sideAt
+  at-depth x j k l h =
+      ap₂ (λ (u v : ℕ). getD x u 0 / 2 ^ v % 2) (digits-mod j h) (ap (λ (u : ℕ). u % maskBits) (digits-div j h) ∙ mod-eq-of-lt l)
+
+  same-bit : (j k : ℕ) → j < maskBits → k < policyCount → bit (getD a k 0) j ≡ bit (getD b k 0) j
+  unfolding bit
+  same-bit j k l h = ap (λ (d : ℕ). eqb d 1) (sym (at-depth a j k l h) ∙ same (j * policyCount + k) (omega arith) ∙ at-depth b j k l h)
+
+  sides-upto : (n : ℕ) → n ≤ policyCount → masksAgree n a b ≡ true
+  unfolding masksAgree
+  sides-upto zero l = refl
+  sides-upto (suc n) l = ap₂ _&&_ (sides-upto n (omega arith)) (eq-eqb _ _ (bits-same maskBits (getD a n 0) (getD b n 0) (fit n .0) (fit n .1) (λ j h. same-bit j n h (omega arith))))
+
+  pub sides-tell : masksAgree policyCount a b ≡ true
+  sides-tell = sides-upto policyCount (omega arith)

@@ -10,6 +10,7 @@ use lib.ListN.{length, getD, set}
 use lib.Seq.{getD-set-same, getD-set-other}
 use borrow.Author.Tests.{eqb-true, eqb-false, ne-eqb}
 use Rattle.system.proofs.Basics.{clash}
+use Rattle.packet_set.specs.Bits.{maskBits}
 use Rattle.index.specs.declared.Row.{Row}
 use Rattle.index.specs.Columns.{policyCount, rowsAgree, listedBelow}
 use Rattle.index.specs.Index.{childSlot, sideAt, ends, lookFrom, Rising}
@@ -89,7 +90,7 @@ pub side-below : (depth : ℕ) (a : List ℕ) → sideAt depth a < 2
 unfolding sideAt
 side-below depth a = mod-lt _ (omega arith)
 
-pub side-is : (a : List ℕ) (depth w : ℕ) → w ≡ getD a (depth % policyCount) 0 / 2 ^ (depth / policyCount % 32) → (w % 2 ≡ sideAt depth a) × (w % 2 < 2)
+pub side-is : (a : List ℕ) (depth w : ℕ) → w ≡ getD a (depth % policyCount) 0 / 2 ^ (depth / policyCount % maskBits) → (w % 2 ≡ sideAt depth a) × (w % 2 < 2)
 unfolding sideAt
 side-is a depth w e = (ap (λ x. x % 2) e, mod-lt w (omega arith))
 

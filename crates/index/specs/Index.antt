@@ -6,6 +6,7 @@ use mathlib.Core.List.{List}
 use Prim.Native.Nat.{ℕ, zero, suc, _+_, _-_, _*_, _/_, _%_, _^_, _≤_, _<_}
 use lib.Dec.{eqb, ltb}
 use lib.ListN.{length, getD, set}
+use Rattle.packet_set.specs.Bits.{maskBits}
 use Rattle.index.specs.declared.Row.{Row}
 use Rattle.index.specs.declared.Lookup.{Lookup}
 use Rattle.index.specs.declared.Lookup.the-variants.{Listed, Vacant}
@@ -18,10 +19,18 @@ hashFactor = 1640531527
 abbrev pub hashPrime : ℕ
 hashPrime = 4294967291
 
--- the states of the first k policies, hashed
+-- half a state, a number below 2 ^ 32, goes into a hash
+unfoldable pub mixed : ℕ → ℕ → ℕ
+mixed h half = (h + half) * hashFactor % hashPrime
+
+-- the upper half of a state goes into it if it has a bit
+unfoldable pub mixedUpper : ℕ → ℕ → ℕ
+mixedUpper h upper = cond (eqb upper 0) h (mixed h upper)
+
+-- the states of the first k policies, hashed half by half
 unfoldable pub hashOf : ℕ → List ℕ → ℕ
 hashOf zero a = 0
-hashOf (suc k) a = (hashOf k a + getD a k 0) * hashFactor % hashPrime
+hashOf (suc k) a = mixedUpper (mixed (hashOf k a) (getD a k 0 % 4294967296)) (getD a k 0 / 4294967296)
 
 -- the row's bucket of `size` buckets: each packet has a range of its own, and the states are hashed within it
 unfoldable pub bucketOf : ℕ → ℕ → Row → ℕ
@@ -37,7 +46,7 @@ childSlot size i side = size + 2 * i + side
 
 -- the child that a look goes on to from a depth: a bit of a state, the policies in turn
 unfoldable pub sideAt : ℕ → List ℕ → ℕ
-sideAt depth a = getD a (depth % policyCount) 0 / 2 ^ (depth / policyCount % 32) % 2
+sideAt depth a = getD a (depth % policyCount) 0 / 2 ^ (depth / policyCount % maskBits) % 2
 
 -- a look for a row ends at an entry: none, or the row
 unfoldable pub ends : (ℕ → Row) → ℕ → Row → Bool

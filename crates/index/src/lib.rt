@@ -3,14 +3,12 @@ ghost use mathlib.Core.Path.{_≡_};
 ghost use Prim.Native.Nat.{_+_, _<_, _≤_};
 ghost use lib.ListN.{length, getD, set};
 ghost use Rattle.index.specs.Columns.{policyCount, EvenColumns, rowAt, masksAgree, rowsAgree, listedBelow};
-ghost use Rattle.index.specs.Index.{hashOf, bucketOf, sideAt, Indexed, Indexable, RoomFor, LookEnds};
+ghost use Rattle.index.specs.Index.{hashPrime, mixed, mixedUpper, hashOf, bucketOf, sideAt, Indexed, Indexable, RoomFor, LookEnds};
 ghost use Rattle.index.specs.Appending.{NewPlaced, listsAtEntry, listsAtExit, Appending};
+use packet_set::Mask;
 
 // How many policies a row follows.
 pub const POLICIES: usize = 2;
-
-// A state: bit 0 for the whole policy, bit i for what remains after dup i.
-pub type Mask = u32;
 
 // A row: a packet and a state of each policy.
 pub struct Row {
@@ -26,7 +24,7 @@ pub fn wide(x: u16) -> usize
 }
 
 fn wide_mask(x: Mask) -> usize
-    ensures { λ r. ⌜ (r ≡ x) × (r < 4294967296) ⌝ }
+    ensures { λ r. ⌜ (r ≡ x) × (r < 18446744073709551616) ⌝ }
 {
     x as usize
 }
@@ -86,13 +84,33 @@ const HASH_FACTOR: usize = 1640531527;
 
 const HASH_PRIME: usize = 4294967291;
 
+// Half a state goes into a hash: the product of a sum of two numbers below 2 ^ 32 and the factor does not overflow.
+fn mix(h: usize, half: usize) -> usize
+    requires { ⌜ (h < hashPrime) × (half < 4294967296) ⌝ }
+    ensures { λ r. ⌜ (r ≡ mixed h half) × (r < hashPrime) ⌝ }
+{
+    (h + half) * HASH_FACTOR % HASH_PRIME
+}
+
+// The upper half goes in if it has a bit: with up to 31 dups a state costs no more than its lower half.
+fn mix_upper(h: usize, upper: usize) -> usize
+    requires { ⌜ (h < hashPrime) × (upper < 4294967296) ⌝ }
+    ensures { λ r. ⌜ r ≡ mixedUpper h upper ⌝ }
+{
+    if upper == 0 {
+        return h;
+    }
+    mix(h, upper)
+}
+
 fn hash(states: [Mask; POLICIES]) -> usize
     ensures { λ r. ⌜ r ≡ hashOf policyCount states ⌝ }
 {
     let mut h = 0;
     let mut k = 0;
     while k < POLICIES {
-        h = (h + wide_mask(states[k])) * HASH_FACTOR % HASH_PRIME;
+        let state = wide_mask(states[k]);
+        h = mix_upper(mix(h, state % 4294967296), state / 4294967296);
         k += 1;
     }
     h
@@ -110,11 +128,11 @@ fn bucket(size: usize, count: u16, row: Row) -> usize
 }
 
 // Which child a look goes on to: a bit of a state, the policies in turn. The rows of a bucket have one packet, and those that agree in all
-// 64 bits too are the same, so a look passes at most 64 rows, whoever chose them.
+// 128 bits too are the same, so a look passes at most 128 rows, whoever chose them.
 fn side_at(states: [Mask; POLICIES], depth: usize) -> usize
     ensures { λ r. ⌜ (r ≡ sideAt depth states) × (r < 2) ⌝ }
 {
-    wide_mask(states[depth % POLICIES] >> (depth / POLICIES % 32)) % 2
+    wide_mask(states[depth % POLICIES] >> (depth / POLICIES % 64)) % 2
 }
 
 // Where a look for a row ends: at the row, listed with this number, or at a slot of the trees where it would be attached. Inner.

@@ -8,11 +8,11 @@ ghost use Rattle.index.specs.Appending.{listsAtEntry, listsAtExit};
 ghost use Rattle.marks.specs.Marks.{Marking};
 ghost use Rattle.listed_rows.specs.Standing.{Started, NextAppended};
 use index::Appended;
-use index::Mask;
 use index::POLICIES;
 use index::Row;
 use index::append;
 use marks::Next;
+use packet_set::Mask;
 
 // Inner: lists the starting rows (α, 1, 1), each its own parent.
 pub fn start(

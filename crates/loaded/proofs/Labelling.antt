@@ -8,6 +8,7 @@ use native.Mathlib.Numerals.{add-one}
 use native.Mathlib.Omega.{arith}
 use lib.ListN.{length, getD, set, replicate, length-set, getD-replicate}
 use lib.Seq.{getD-set-same, getD-set-other}
+use Rattle.packet_set.specs.Bits.{maskBits}
 use Rattle.policy.specs.declared.Node.{Node}
 use Rattle.policy.specs.declared.Node.the-variants.{Drop, Id, Field, Dup, Sum, Seq, Star, Neg}
 use Rattle.policy.specs.NodeLists.{NodeLists, nodeCount, nodeAt, isDup, one, dupsBelow}
@@ -39,7 +40,7 @@ module _ (L : NodeLists) (f : Formed L) where
   counting-start labels l = record { at = omega arith; long = l; count = refl; done = λ j h. absurd (omega arith) }
 
   module _ (labels : List ℕ) (d n : ℕ) (m : Counting L labels d n) where
-    pub count-small : d < 32
+    pub count-small : d < maskBits
     count-small = let h = few-dups L f n (m .at) in omega (arith, m .count)
 
     pub counting-turn : n < nodeCount L → (node : Node) → node ≡ nodeAt L n → (d′ : ℕ) → d′ ≡ d + one (isDup node) → Counting L (set labels n d′) d′ (n + 1)
@@ -97,36 +98,36 @@ is-dup (Neg x) h = absurd (true≢false (sym h))
 -- the dups among the first n nodes have their places
 pub record Placing (L : NodeLists) (places : List ℕ) (n : ℕ) : Type 0 where
   pub at : n ≤ nodeCount L
-  pub long : length places ≡ 32
+  pub long : length places ≡ maskBits
   pub whole : getD places 0 0 ≡ pred (nodeCount L)
   pub dups : (i : ℕ) → 0 < i → i ≤ dupsBelow L n → DupAt L i (getD places i 0)
-  pub none : (i : ℕ) → dupsBelow L n < i → i < 32 → getD places i 0 ≡ 512
+  pub none : (i : ℕ) → dupsBelow L n < i → i < maskBits → getD places i 0 ≡ 512
   pub short : (i : ℕ) → getD places i 0 ≤ 512
 
 module _ (L : NodeLists) (f : Formed L) where
-  pub placing-start : (r : ℕ) → r ≡ nodeCount L - 1 → Placing L (set (replicate 32 512) 0 r) 0
+  pub placing-start : (r : ℕ) → r ≡ nodeCount L - 1 → Placing L (set (replicate maskBits 512) 0 r) 0
   unfolding dupsBelow
   placing-start r e = record {
     at = omega arith;
-    long = length-set (replicate 32 512) 0 r;
+    long = length-set (replicate maskBits 512) 0 r;
     whole = let h = some L f in root;
     dups = λ i a b. absurd (omega arith);
-    none = λ i a b. unset i (omega arith) ∙ getD-replicate 32 i 512 0 b;
+    none = λ i a b. unset i (omega arith) ∙ getD-replicate maskBits i 512 0 b;
     short = λ i. bound i (ℕ-discrete i 0);
   }
     where
-      root : getD (set (replicate 32 512) 0 r) 0 0 ≡ pred (nodeCount L)
-      root = getD-set-same (replicate 32 512) 0 r 0 (omega arith) ∙ omega arith
+      root : getD (set (replicate maskBits 512) 0 r) 0 0 ≡ pred (nodeCount L)
+      root = getD-set-same (replicate maskBits 512) 0 r 0 (omega arith) ∙ omega arith
 
-      unset : (i : ℕ) → (i ≡ 0 → ⊥) → getD (set (replicate 32 512) 0 r) i 0 ≡ getD (replicate 32 512) i 0
-      unset i h = getD-set-other (replicate 32 512) 0 i r 0 h
+      unset : (i : ℕ) → (i ≡ 0 → ⊥) → getD (set (replicate maskBits 512) 0 r) i 0 ≡ getD (replicate maskBits 512) i 0
+      unset i h = getD-set-other (replicate maskBits 512) 0 i r 0 h
 
       within : (k i : ℕ) → getD (replicate k 512) i 0 ≤ 512
       within k i = replicate-le k i 512
 
-      bound : (i : ℕ) → Dec (i ≡ 0) → getD (set (replicate 32 512) 0 r) i 0 ≤ 512
-      bound i (yes q) = subst (λ (x : ℕ). getD (set (replicate 32 512) 0 r) x 0 ≤ 512) (sym q) (let h = few L f in omega (arith, root))
-      bound i (no q) = let h = within 32 i in omega (arith, unset i q)
+      bound : (i : ℕ) → Dec (i ≡ 0) → getD (set (replicate maskBits 512) 0 r) i 0 ≤ 512
+      bound i (yes q) = subst (λ (x : ℕ). getD (set (replicate maskBits 512) 0 r) x 0 ≤ 512) (sym q) (let h = few L f in omega (arith, root))
+      bound i (no q) = let h = within maskBits i in omega (arith, unset i q)
 
   module _ (places : List ℕ) (n : ℕ) (m : Placing L places n) (l : n < nodeCount L) where
     module _ (o : nodeAt L n ≡ Dup) where
@@ -180,7 +181,7 @@ module _ (L : NodeLists) (f : Formed L) where
         go true o = subst (λ (x : List ℕ). Placing L x (suc n)) (placed-dup (dupsBelow L (suc n)) n places (nodeAt L n) (is-dup (nodeAt L n) o)) (dup-turn (is-dup (nodeAt L n) o))
         go false o = subst (λ (x : List ℕ). Placing L x (suc n)) (placed-none (dupsBelow L (suc n)) n places (nodeAt L n) o) (other-turn o)
 
-    pub label-fits : (labels : List ℕ) → Labels L labels → getD labels n 0 < 32
+    pub label-fits : (labels : List ℕ) → Labels L labels → getD labels n 0 < maskBits
     label-fits labels g = let h = few-dups L f (suc n) l in omega (arith, g .labelled n l)
 
   pub placing-end : (places : List ℕ) (n : ℕ) → Placing L places n → nodeCount L ≤ n → Places L places
@@ -189,6 +190,6 @@ module _ (L : NodeLists) (f : Formed L) where
       record {
         whole = m .whole;
         dups = subst (λ (k : ℕ). (i : ℕ) → 0 < i → i ≤ dupsBelow L k → DupAt L i (getD places i 0)) e (m .dups);
-        none = subst (λ (k : ℕ). (i : ℕ) → dupsBelow L k < i → i < 32 → getD places i 0 ≡ 512) e (m .none);
+        none = subst (λ (k : ℕ). (i : ℕ) → dupsBelow L k < i → i < maskBits → getD places i 0 ≡ 512) e (m .none);
         small = m .short;
       }

@@ -4,8 +4,9 @@ use mathlib.Core.List.{List}
 use mathlib.Core.Path.{_≡_, sym, ap, _∙_, subst}
 use native.Mathlib.Omega.{arith}
 use lib.ListN.{length}
+use Rattle.packet_set.specs.Bits.{maskBits}
 use Rattle.policy.specs.declared.Node.{Node}
-use Rattle.policy.specs.Legality.{Legal, maxDups}
+use Rattle.policy.specs.Legality.{Legal}
 use Rattle.policy.specs.NodeLists.{NodeLists, nodeCount, nodeAt, children, dupsBelow, grow, treeOf}
 use Rattle.policy.proofs.EachLaws.{each-map}
 use Rattle.policy.proofs.LabelLaws.{dups-more}
@@ -36,9 +37,8 @@ module _ (L : NodeLists) (f : Formed L) where
   pub some : 0 < nodeCount L
   some = f .legal .some
 
-  -- dups are numbered up to 31
-  pub few-dups : (n : ℕ) → n ≤ nodeCount L → dupsBelow L n < 32
-  unfolding maxDups
+  -- dups are numbered up to 63
+  pub few-dups : (n : ℕ) → n ≤ nodeCount L → dupsBelow L n < maskBits
   few-dups n l = let h = dups-more L n (nodeCount L) l in let k = f .legal .wellFormed .dups in omega arith
 
   module _ (n : ℕ) (l : n < nodeCount L) where

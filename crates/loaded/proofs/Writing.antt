@@ -7,6 +7,7 @@ use native.Mathlib.Omega.{arith}
 use borrow.Author.Tests.{ltb-false}
 use lib.ListN.{length, getD, set, length-set}
 use lib.Seq.{getD-set-same, getD-set-other}
+use Rattle.packet_set.specs.Bits.{maskBits}
 use Rattle.policy.specs.declared.FieldAction.{FieldAction}
 use Rattle.policy.specs.declared.Node.{Node}
 use Rattle.policy.specs.declared.Node.the-variants.{Drop, Id, Field, Dup, Sum, Seq, Star, Neg}
@@ -59,7 +60,7 @@ module _ (L : NodeLists) (guards alone labels ups nodes : List ℕ) where
   writing-start = record { at = omega arith; long = refl; each = λ j h. absurd (omega arith) }
 
   module _ (now : List ℕ) (n : ℕ) (m : Writing L guards alone labels ups nodes now n) where
-    pub writing-turn : Formed L → length nodes ≡ 544 → n < nodeCount L → (keeps : ℕ) → keeps ≤ 1 → ((c : ℕ) → nodeAt L n ≡ Star c → keeps ≡ 1)
+    pub writing-turn : Formed L → length nodes ≡ 576 → n < nodeCount L → (keeps : ℕ) → keeps ≤ 1 → ((c : ℕ) → nodeAt L n ≡ Star c → keeps ≡ 1)
         → (x : ℕ) → x ≡ packed (getD (L .kind) n 0) (getD (L .first) n 0) (getD (L .second) n 0) (getD guards n 0) (getD alone n 0) (getD labels n 0) (getD ups n 0) keeps
         → Writing L guards alone labels ups nodes (set now n x) (n + 1)
     writing-turn f w l keeps flag star x e = record { at = omega arith; long = length-set now n x ∙ m .long; each = λ j h. split j h (ℕ-discrete j n) }
@@ -77,7 +78,7 @@ module _ (L : NodeLists) (guards alone labels ups nodes : List ℕ) where
 
 -- i places are written
 pub record Listing (places nodes now : List ℕ) (i : ℕ) : Type 0 where
-  pub at : i ≤ 32
+  pub at : i ≤ maskBits
   pub long : length now ≡ length nodes
   pub after : (j : ℕ) → j < i → getD now (512 + j) 0 ≡ getD places j 0
   pub before : (n : ℕ) → n < 512 → getD now n 0 ≡ getD nodes n 0
@@ -87,7 +88,7 @@ module _ (places nodes : List ℕ) where
   listing-start = record { at = omega arith; long = refl; after = λ j h. absurd (omega arith); before = λ n h. refl }
 
   module _ (now : List ℕ) (i : ℕ) (m : Listing places nodes now i) where
-    pub listing-turn : length nodes ≡ 544 → i < 32 → (x : ℕ) → x ≡ getD places i 0 → Listing places nodes (set now (512 + i) x) (i + 1)
+    pub listing-turn : length nodes ≡ 576 → i < maskBits → (x : ℕ) → x ≡ getD places i 0 → Listing places nodes (set now (512 + i) x) (i + 1)
     listing-turn w l x e = subst (λ (v : ℕ). Listing places nodes (set now (512 + i) v) (i + 1)) (sym e) (record {
       at = omega arith;
       long = length-set now (512 + i) (getD places i 0) ∙ m .long;
@@ -101,5 +102,5 @@ module _ (places nodes : List ℕ) where
             (getD-set-same now (512 + i) (getD places i 0) 0 (omega (arith, m .long)))
         split j h (no e) = getD-set-other now (512 + i) (512 + j) (getD places i 0) 0 (λ q. e (omega arith)) ∙ m .after j (omega arith)
 
-    pub listing-end : 32 ≤ i → PlacedAll places nodes now
+    pub listing-end : maskBits ≤ i → PlacedAll places nodes now
     listing-end h = record { after = λ j l. m .after j (omega arith); before = m .before }

@@ -6,6 +6,7 @@ use mathlib.Core.Logic.{_↔_}
 use mathlib.Core.Path.{_≡_}
 use lib.Dec.{T}
 use lib.ListN.{getD}
+use Rattle.packet_set.specs.Bits.{maskBits}
 use Rattle.packet.specs.Sizes.{product}
 use Rattle.policy.specs.declared.FieldAction.the-variants.{Equals, Differs, Set}
 use Rattle.policy.specs.declared.Node.{Node}
@@ -110,4 +111,4 @@ module _ (sizes : List ℕ) (L : NodeLists) (nodes tests : List ℕ) where
     -- remainder 0 is the whole policy, remainder i follows dup i
     pub whole : placeAt nodes 0 ≡ pred (nodeCount L)
     pub placed : (i : ℕ) → 0 < i → i ≤ dupsBelow L (nodeCount L) → DupAt L i (placeAt nodes i)
-    pub absent : (i : ℕ) → dupsBelow L (nodeCount L) < i → i < 32 → placeAt nodes i ≡ 512
+    pub absent : (i : ℕ) → dupsBelow L (nodeCount L) < i → i < maskBits → placeAt nodes i ≡ 512

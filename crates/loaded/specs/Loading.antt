@@ -5,6 +5,7 @@ use mathlib.Core.List.{List}
 use mathlib.Core.Path.{_≡_}
 use lib.Dec.{eqb, leb, ltb}
 use lib.ListN.{length, getD, set}
+use Rattle.packet_set.specs.Bits.{maskBits}
 use Rattle.packet.specs.Packets.{valueAt}
 use Rattle.packet.specs.Sizes.{product, LegalSizes}
 use Rattle.policy.specs.declared.FieldAction.{FieldAction}
@@ -67,7 +68,7 @@ dupPlaced label n places (Neg c) = places
 pub record Places (L : NodeLists) (places : List ℕ) : Type 0 where
   pub whole : getD places 0 0 ≡ pred (nodeCount L)
   pub dups : (i : ℕ) → 0 < i → i ≤ dupsBelow L (nodeCount L) → DupAt L i (getD places i 0)
-  pub none : (i : ℕ) → dupsBelow L (nodeCount L) < i → i < 32 → getD places i 0 ≡ 512
+  pub none : (i : ℕ) → dupsBelow L (nodeCount L) < i → i < maskBits → getD places i 0 ≡ 512
   pub small : (i : ℕ) → getD places i 0 ≤ 512
 
 -- ---- sets
@@ -212,5 +213,5 @@ pub record PackedAll (L : NodeLists) (guards alone labels ups nodes nodes′ : L
 
 -- the places stand after the nodes, which are as they were
 pub record PlacedAll (places nodes nodes′ : List ℕ) : Type 0 where
-  pub after : (i : ℕ) → i < 32 → getD nodes′ (512 + i) 0 ≡ getD places i 0
+  pub after : (i : ℕ) → i < maskBits → getD nodes′ (512 + i) 0 ≡ getD places i 0
   pub before : (n : ℕ) → n < 512 → getD nodes′ n 0 ≡ getD nodes n 0

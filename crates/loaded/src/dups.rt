@@ -3,12 +3,14 @@ ghost use Prim.Native.Nat.{_+_, _<_};
 ghost use mathlib.Core.Path.{_≡_};
 ghost use Rattle.policy.specs.AsLists.{asLists, policyAtEntry};
 ghost use Rattle.policy.specs.NodeLists.{isDup, one};
+ghost use Rattle.packet_set.specs.Bits.{maskBits};
 ghost use Rattle.loaded.specs.Loading.{Formed, Labels, dupPlaced, Places};
+use crate::Remainders;
 use policy::Node;
 
 // Inner. The number of the dups up to and with a node, where there are d before it.
 fn label_after(node: Node, d: u16) -> u16
-    requires { ⌜ d < 32 ⌝ }
+    requires { ⌜ d < maskBits ⌝ }
     ensures { λ r. ⌜ r ≡ d + one (isDup node) ⌝ }
 {
     match node {
@@ -40,8 +42,8 @@ pub fn labels_of(kind: &[u8], first: &[u16], second: &[u16]) -> [u16; 512]
 }
 
 // Inner. A dup is put at the place of its number.
-fn put(node: Node, label: u16, n: usize, places: &mut [u16; 32])
-    requires { ⌜ (label < 32) × (n < 512) ⌝ }
+fn put(node: Node, label: u16, n: usize, places: &mut Remainders)
+    requires { ⌜ (label < maskBits) × (n < 512) ⌝ }
     ensures { λ _. ⌜ now (places .exit) ≡ dupPlaced label n (now (places .entry)) node ⌝ }
 {
     match node {
@@ -59,11 +61,11 @@ fn put(node: Node, label: u16, n: usize, places: &mut [u16; 32])
 }
 
 // Inner. The places of the remainders.
-pub fn places_of(kind: &[u8], first: &[u16], second: &[u16], labels: &[u16; 512]) -> [u16; 32]
+pub fn places_of(kind: &[u8], first: &[u16], second: &[u16], labels: &[u16; 512]) -> Remainders
     requires { ⌜ Formed (asLists (now kind) (now first) (now second)) × Labels (asLists (now kind) (now first) (now second)) (now labels) ⌝ }
     ensures { λ r. ⌜ Places (policyAtEntry kind first second) r ⌝ }
 {
-    let mut places = [512u16; 32];
+    let mut places = [512u16; 64];
     places[0] = (kind.len() - 1) as u16;
     let mut n = 0;
     while n < kind.len() {

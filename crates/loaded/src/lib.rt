@@ -20,7 +20,10 @@ use policy::FieldAction;
 use policy::Node;
 
 // The nodes of a policy, then the places of its remainders: the root's and those of the dups.
-pub type Nodes = [u64; 544];
+pub type Nodes = [u64; 576];
+
+// The places of a policy's remainders, by number.
+pub type Remainders = [u16; 64];
 
 // The packet sets of the tests: set k is slot k; slot 0 is not used.
 pub type Tests = [u32; 8224];
@@ -91,7 +94,7 @@ pub fn load(
     nodes: &mut Nodes,
     tests: &mut Tests,
 )
-    requires { ⌜ LegalSizes (now sizes) × Legal (now sizes) (asLists (now kind) (now first) (now second)) × (count ≡ product (now sizes)) × (length (now nodes) ≡ 544) × (length (now tests) ≡ 8224) ⌝ }
+    requires { ⌜ LegalSizes (now sizes) × Legal (now sizes) (asLists (now kind) (now first) (now second)) × (count ≡ product (now sizes)) × (length (now nodes) ≡ 576) × (length (now tests) ≡ 8224) ⌝ }
     ensures { λ _. ⌜ Loaded (now (sizes .entry)) (policyAtEntry kind first second) (now (nodes .exit)) (now (tests .exit)) ⌝ }
 {
     let alone = tree_causes::alone::tests_alone(kind, first, second);

@@ -5,6 +5,7 @@ ghost use lib.ListN.{length};
 ghost use Rattle.policy.specs.AsLists.{asLists, policyAtEntry};
 ghost use Rattle.loaded.specs.Loading.{packed, Fitting, PackedAll, PlacedAll};
 use crate::Nodes;
+use crate::Remainders;
 use crate::slots;
 
 // Inner. The parts of a node as one number.
@@ -43,7 +44,7 @@ pub fn pack_nodes(
     parts: &[u16; 512],
     nodes: &mut Nodes,
 )
-    requires { ⌜ Fitting (asLists (now kind) (now first) (now second)) (now guards) (now alone) (now labels) (now ups) (now parts) × (length (now nodes) ≡ 544) ⌝ }
+    requires { ⌜ Fitting (asLists (now kind) (now first) (now second)) (now guards) (now alone) (now labels) (now ups) (now parts) × (length (now nodes) ≡ 576) ⌝ }
     ensures { λ _. ⌜ PackedAll (policyAtEntry kind first second) (now (guards .entry)) (now (alone .entry)) (now (labels .entry)) (now (ups .entry)) (now (nodes .entry)) (now (nodes .exit)) ⌝ }
 {
     let mut n = 0;
@@ -71,12 +72,12 @@ fn wide(x: u16) -> u64
 }
 
 // Inner. The places of the remainders, after the nodes.
-pub fn pack_places(places: &[u16; 32], nodes: &mut Nodes)
-    requires { ⌜ length (now nodes) ≡ 544 ⌝ }
+pub fn pack_places(places: &Remainders, nodes: &mut Nodes)
+    requires { ⌜ length (now nodes) ≡ 576 ⌝ }
     ensures { λ _. ⌜ PlacedAll (now (places .entry)) (now (nodes .entry)) (now (nodes .exit)) ⌝ }
 {
     let mut i = 0;
-    while i < 32 {
+    while i < 64 {
         nodes[512 + i] = wide(places[i]);
         i += 1;
     }

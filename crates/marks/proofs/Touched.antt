@@ -6,7 +6,7 @@ use mathlib.Core.List.{List}
 use native.Mathlib.Decide.{decLt}
 use native.Mathlib.Omega.{arith}
 use lib.Bits.{bitOr}
-use lib.Dec.{T}
+use lib.Dec.{T, ltb}
 use lib.ListN.{length, getD, set, replicate, length-set, length-replicate, List·getD-eq-default}
 use lib.Seq.{getD-set-same, getD-set-other}
 use borrow.Author.Count.{below-more}
@@ -16,22 +16,23 @@ use Rattle.packet_set.specs.InnerMembers.{member, wordsFor, lowestIn, lowestAns
 use Rattle.packet_set.specs.declared.Lowest.{Lowest}
 use Rattle.packet_set.specs.declared.Lowest.the-variants.{At, Nothing}
 use Rattle.packet_set.proofs.Digits.{bit-or, bit-of-zero}
+use Rattle.packet_set.proofs.Masks.{bit-low}
 use Rattle.packet_set.proofs.Walk.{LowestIn, found-at, found-none}
 use Rattle.packet_set.proofs.Words.{words-hold, words-within}
-use Rattle.spans.specs.Spans.{slot, touched}
-use Rattle.spans.proofs.Sets.{zero-word}
+use Rattle.spans.specs.Spans.{hasMark, touched}
+use Rattle.spans.proofs.Sets.{zero-word, slot-word, slot-beyond}
 use Rattle.marks.specs.Marks.{Marking, Unmarked, Blank, NextMarked}
 
 -- ---- one next list
 
 module _ (next : List ℕ) where
   pub touched-bit : (γ : ℕ) → γ < 1024 → touched next γ ≡ bit (getD next (1024 + γ / 32) 0) (γ % 32)
-  unfolding touched slot
-  touched-bit γ l = ap (λ (b : Bool). b && bit (getD next (1024 + γ / 32) 0) (γ % 32)) (lt-ltb γ 1024 l)
+  unfolding touched
+  touched-bit = slot-word next 32
 
   pub touched-over : (γ : ℕ) → 1024 ≤ γ → touched next γ ≡ false
-  unfolding touched slot
-  touched-over γ l = ap (λ (b : Bool). b && bit (getD next (1024 + γ / 32) 0) (γ % 32)) (le-ltb γ 1024 l)
+  unfolding touched
+  touched-over = slot-beyond next 32
 
   -- word i of the touched packets holds those from 32 i on
   pub touched-in-word : (i j : ℕ) → i < 32 → j < 32 → touched next (32 * i + j) ≡ bit (getD next (1024 + i) 0) j
@@ -40,13 +41,13 @@ module _ (next : List ℕ) where
       let r : (32 * i + j) % 32 ≡ j = omega arith in
       touched-bit (32 * i + j) (omega arith) ∙ ap₂ (λ (x y : ℕ). bit (getD next (1024 + x) 0) y) q r
 
-  pub unmarked-untouched : Unmarked next → (γ : ℕ) → touched next γ ≡ false
-  unfolding Unmarked
-  unmarked-untouched U γ = go (decLt γ 1024)
+  pub no-marks : Unmarked next → (i γ : ℕ) → hasMark next i γ ≡ false
+  unfolding hasMark
+  no-marks U i γ = go (decLt γ 1024)
     where
-      go : Dec (γ < 1024) → touched next γ ≡ false
-      go (yes l) = touched-bit γ l ∙ ap (λ (x : ℕ). bit x (γ % 32)) (U (1024 + γ / 32)) ∙ bit-of-zero (γ % 32)
-      go (no l) = touched-over γ (omega arith)
+      go : Dec (γ < 1024) → ltb γ 1024 && bit (getD next γ 0) i ≡ false
+      go (yes l) = ap₂ (λ (b : Bool) (m : ℕ). b && bit m i) (lt-ltb γ 1024 l) (U .masks γ l) ∙ bit-of-zero i
+      go (no l) = ap (λ (b : Bool). b && bit (getD next γ 0) i) (le-ltb γ 1024 (omega arith))
 
   pub marking-wider : {N M : ℕ} → N ≤ M → Marking N next → Marking M next
   marking-wider {N} l A =
@@ -63,8 +64,14 @@ module _ (next : List ℕ) where
 
 -- a new next list
 pub blank-new : Blank (replicate 1056 0)
-unfolding Unmarked
-blank-new = record { long = length-replicate {A = ℕ} 1056 0; unmarked = zero-word 1056 }
+blank-new = record {
+  long = length-replicate {A = ℕ} 1056 0;
+  unmarked = record { masks = λ γ l. zero-word 1056 γ; untouched = λ γ. touch γ (decLt γ 1024) };
+}
+  where
+    touch : (γ : ℕ) → Dec (γ < 1024) → touched (replicate 1056 0) γ ≡ false
+    touch γ (yes l) = touched-bit (replicate 1056 0) γ l ∙ ap (λ (x : ℕ). bit x (γ % 32)) (zero-word 1056 (1024 + γ / 32)) ∙ bit-of-zero (γ % 32)
+    touch γ (no l) = touched-over (replicate 1056 0) γ (omega arith)
 
 -- ---- either of two
 
@@ -72,13 +79,13 @@ blank-new = record { long = length-replicate {A = ℕ} 1056 0; unmarked = zero-w
 pub record JoinedTo (left right now : List ℕ) (i : ℕ) : Type 0 where
   pub at : i ≤ 32
   pub long : length now ≡ 32
-  pub joined : (j : ℕ) → j < i → getD now j 0 ≡ bitOr (getD left (1024 + j) 0) (getD right (1024 + j) 0)
+  pub joined : (j : ℕ) → j < i → getD now j 0 ≡ bitOr (getD left (1024 + j) 0) (getD right (1024 + j) 0) % 4294967296
 
 module _ {left right now : List ℕ} where
   pub joined-none : length now ≡ 32 → JoinedTo left right now 0
   joined-none l = record { at = omega arith; long = l; joined = λ j h. absurd (omega arith) }
 
-  pub joined-more : {i : ℕ} → JoinedTo left right now i → i < 32 → JoinedTo left right (set now i (bitOr (getD left (1024 + i) 0) (getD right (1024 + i) 0))) (i + 1)
+  pub joined-more : {i : ℕ} → JoinedTo left right now i → i < 32 → JoinedTo left right (set now i (bitOr (getD left (1024 + i) 0) (getD right (1024 + i) 0) % 4294967296)) (i + 1)
   joined-more {i} J l =
       record {
         at = omega arith;
@@ -94,7 +101,7 @@ module _ {left right now : List ℕ} where
     where
       go : Dec (γ < 1024) → member now γ ≡ (touched left γ || touched right γ)
       go (yes h) =
-          ap (λ (x : ℕ). bit x (γ % 32)) (J .joined (γ / 32) (omega arith)) ∙ bit-or _ _ (γ % 32)
+          ap (λ (x : ℕ). bit x (γ % 32)) (J .joined (γ / 32) (omega arith)) ∙ bit-low 32 _ (γ % 32) (omega arith) ∙ bit-or _ _ (γ % 32)
           ∙ sym (ap₂ (λ (a b : Bool). a || b) (touched-bit left γ h) (touched-bit right γ h))
       go (no h) =
           ap (λ (x : ℕ). bit x (γ % 32)) (List·getD-eq-default now 0 (omega (arith, J .long))) ∙ bit-of-zero (γ % 32)

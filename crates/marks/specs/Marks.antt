@@ -15,9 +15,10 @@ pub record Marking (N : ℕ) (next : List ℕ) : Type 0 where
   pub rest : (γ : ℕ) → γ < 1024 → touched next γ ≡ false → getD next γ 0 ≡ 0
   pub below : (γ : ℕ) → T (touched next γ) → γ < N
 
--- nothing is marked
-unfoldable pub Unmarked : List ℕ → Type 0
-Unmarked next = (i : ℕ) → getD next i 0 ≡ 0
+-- nothing is marked, and nothing touched
+pub record Unmarked (next : List ℕ) : Type 0 where
+  pub masks : (γ : ℕ) → γ < 1024 → getD next γ 0 ≡ 0
+  pub untouched : (γ : ℕ) → touched next γ ≡ false
 
 -- an empty next list
 pub record Blank (next : List ℕ) : Type 0 where

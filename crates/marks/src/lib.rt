@@ -12,7 +12,7 @@ use packet_set::Lowest;
 use packet_set::Mask;
 use packet_set::PacketWords;
 
-// The masks of 1,024 packets, then the set of those that are touched.
+// The masks of 1,024 packets, then the set of those that are touched: 32 words, each in the lower half of an entry.
 pub type Next = [Mask; 1056];
 
 // Inner. The packets that have marks in one of two next lists.
@@ -22,7 +22,7 @@ pub fn either(left: &Next, right: &Next) -> PacketWords
     let mut set = [0u32; 32];
     let mut i = 0;
     while i < 32 {
-        set[i] = left[1024 + i] | right[1024 + i];
+        set[i] = ((left[1024 + i] | right[1024 + i]) % 4294967296) as u32;
         i += 1;
     }
     set
@@ -61,7 +61,7 @@ fn forget_words(next: &mut [Mask], words: usize)
 {
     let mut i = 0;
     while i < words {
-        let word = next[1024 + i];
+        let word = (next[1024 + i] % 4294967296) as u32;
         next[1024 + i] = 0;
         forget_word(next, 32 * i, word);
         i += 1;

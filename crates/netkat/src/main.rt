@@ -73,7 +73,7 @@ fn main() {
     // one byte more than an input may have: that it is too long is all that counts then
     let mut input = [0u8; 32769];
     let n = read_all(&mut input);
-    let mut output = [0u8; 131072];
+    let mut output = [0u8; 262208];
     let written = console::answer(&input[..n], &mut output);
     io::write_all(STDOUT_FILENO, &output[..written]);
 }

@@ -6,8 +6,8 @@ use native.Mathlib.Nat.{le-of-suc-le-suc, not-suc-le-zero, div-one, zero-div, di
 use native.Mathlib.Decide.{decLt}
 use native.Mathlib.Omega.{arith}
 use lib.Dec.{eqb, ltb, lit<, eqb·suc-zero, eqb·zero-suc, eqb·suc-suc}
-use borrow.Author.Tests.{ltb-true, lt-ltb, le-ltb}
-use lib.Arith.{lt-one, bin-ind}
+use borrow.Author.Tests.{lt-ltb, le-ltb}
+use lib.Arith.{lt-one}
 use lib.Pow.{pow-pos, pow-mono, shr-shr, shl-exact}
 use lib.Bits.{bitOr, bitAnd, bitXor, or-shr, or-mod, and-shr, and-mod, xor-shr, xor-mod, and-mask}
 use Rattle.packet_set.specs.Bits.{bit, marked, onlyBits}
@@ -118,27 +118,24 @@ bits-same (suc w) a b ha hb h =
     let low : a % 2 ≡ b % 2 = same-low (a % 2) (low-two a) (b % 2) (low-two b) (sym (bit-zero a) ∙ h 0 (omega arith) ∙ bit-zero b) in
     omega arith
 
+-- at all bits, whatever the width
+under-power : (n : ℕ) → n < 2 ^ n
+under-power zero = pow-pos 0
+under-power (suc n) = omega (arith, under-power n)
+
+pub same-bits : (a b : ℕ) → ((i : ℕ) → bit a i ≡ bit b i) → a ≡ b
+same-bits a b h =
+    bits-same (a + b) a b (lt-of-lt-of-le (under-power a) (pow-mono (let l : a ≤ a + b = omega arith in l))) (lt-of-lt-of-le (under-power b) (pow-mono (let l : b ≤ a + b = omega arith in l))) (λ i l. h i)
+
+pub no-bits : (m : ℕ) → ((i : ℕ) → bit m i ≡ false) → m ≡ 0
+no-bits m h = same-bits m 0 (λ i. h i ∙ sym (bit-of-zero i))
+
 -- no bit at or above w: a number below 2 ^ w
 pub bits-below : (w m : ℕ) → ((i : ℕ) → w ≤ i → bit m i ≡ false) → m < 2 ^ w
-bits-below zero m h = bin-ind (λ n. ((i : ℕ) → bit n i ≡ false) → n < 1) (λ f. omega arith) step m (λ i. h i (omega arith))
-  where
-    step : (n : ℕ) → (((i : ℕ) → bit (n / 2) i ≡ false) → n / 2 < 1) → ((i : ℕ) → bit n i ≡ false) → n < 1
-    step n ih f =
-        let rest : n / 2 < 1 = ih (λ i. sym (bit-suc n i) ∙ f (suc i)) in
-        let low : n % 2 ≡ 0 = same-low (n % 2) (low-two n) 0 (omega arith) (sym (bit-zero n) ∙ f 0) in
-        omega arith
+bits-below zero m h = omega (arith, no-bits m (λ i. h i (omega arith)))
 bits-below (suc w) m h =
     let half : m / 2 < 2 ^ w = bits-below w (m / 2) (λ i l. sym (bit-suc m i) ∙ h (suc i) (omega arith)) in
     omega (arith, pow-suc 2 w)
-
--- only bits 0 to d: every bit above d is 0
-pub only-bits : (m d : ℕ) → onlyBits m d ≡ true → (i : ℕ) → d < i → bit m i ≡ false
-unfolding onlyBits
-only-bits m d e i l = bit-high (suc d) m i (ltb-true m (2 ^ suc d) e) l
-
-pub bits-only : (m d : ℕ) → ((i : ℕ) → d < i → bit m i ≡ false) → onlyBits m d ≡ true
-unfolding onlyBits
-bits-only m d h = lt-ltb m (2 ^ suc d) (bits-below (suc d) m h)
 
 -- ---- by shift, or and and, as the code has it
 

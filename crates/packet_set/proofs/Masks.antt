@@ -26,9 +26,9 @@ maskOf-lt (suc w) f = go (f w) (maskOf-lt w f)
     go false h = omega (arith, pow-pos w)
 
 -- bit i of a number depends on its digits up to i alone
-bit-low : (n w i : ℕ) → i < w → bit n i ≡ bit (n % 2 ^ w) i
+pub bit-low : (w n i : ℕ) → i < w → bit (n % 2 ^ w) i ≡ bit n i
 unfolding bit
-bit-low n w i h = ap (λ (d : ℕ). eqb d 1) (digits n ∙ ap (λ (x : ℕ). x / 2 ^ i) cut ∙ sym (digits (n % 2 ^ w)))
+bit-low w n i h = ap (λ (d : ℕ). eqb d 1) (digits (n % 2 ^ w) ∙ ap (λ (x : ℕ). x / 2 ^ i) (sym cut) ∙ sym (digits n))
   where
     digits : (x : ℕ) → x / 2 ^ i % 2 ≡ x % 2 ^ (1 + i) / 2 ^ i
     digits x = sym (field x 1 i)
@@ -62,7 +62,7 @@ bit-maskOf (suc w) f i h = go (eq-or-lt-of-le (le-of-suc-le-suc h)) (bit-maskOf 
 
     go : (i ≡ w) ⊎ (i < w) → (i < w → bit (maskOf w f) i ≡ f i) → bit (maskOf (suc w) f) i ≡ f i
     go (inl e) ih = rw (maskOf-suc w f, e) top
-    go (inr l) ih = rw (maskOf-suc w f) (bit-low (digit (f w) * 2 ^ w + maskOf w f) w i l ∙ ap (λ (x : ℕ). bit x i) (low (digit (f w)) w (maskOf-lt w f)) ∙ ih l)
+    go (inr l) ih = rw (maskOf-suc w f) (sym (bit-low w (digit (f w) * 2 ^ w + maskOf w f) i l) ∙ ap (λ (x : ℕ). bit x i) (low (digit (f w)) w (maskOf-lt w f)) ∙ ih l)
 
 pub bit-below : (w a i : ℕ) → a < 2 ^ w → T (bit a i) → i < w
 bit-below w a i h t = go (decLt i w)

@@ -1,5 +1,5 @@
 -- Laws of packet sets: what the word loops leave, membership, extensionality. Assumes nothing.
-use Prim.Native.Nat.{ℕ, zero, suc, _+_, _*_, _/_, _%_, _≤_, _<_}
+use Prim.Native.Nat.{ℕ, zero, suc, _+_, _*_, _/_, _%_, _^_, _≤_, _<_}
 use mathlib.Core.Path.{_≡_, refl, sym, ap, ap₂, _∙_}
 use mathlib.Core.Bool.{Bool, false, xor, _||_, or-false}
 use mathlib.Core.List.{List, [], _∷_}
@@ -13,7 +13,7 @@ use lib.Seq.{getD-set-same, getD-set-other}
 use lib.Bits.{bitOr, bitXor}
 use Rattle.packet_set.specs.Bits.{bit, marked}
 use Rattle.packet_set.specs.InnerMembers.{member, wordsFor, emptySet, withPacket, wordwise, unionOf, exclusiveOrOf}
-use Rattle.packet_set.proofs.Digits.{bit-or, bit-xor, bit-of-zero, bit-marked}
+use Rattle.packet_set.proofs.Digits.{bit-or, bit-xor, bit-of-zero, bit-marked, shift-marks}
 
 -- ---- a word loop: f done below i, the first set's words from i on
 
@@ -97,6 +97,11 @@ member-with s β γ h = go (ℕ-discrete (γ / 32) (β / 32))
     go (no e) =
         ap (λ (x : ℕ). bit x (γ % 32)) (getD-set-other s (β / 32) (γ / 32) (marked w (β % 32)) 0 e)
         ∙ sym (ap (λ (q : Bool). bit (getD s (γ / 32) 0) (γ % 32) || q) (ne-eqb γ β (λ q. e (ap (λ (x : ℕ). x / 32) q))) ∙ or-false (bit (getD s (γ / 32) 0) (γ % 32)))
+
+-- the store that marks packet γ
+pub stored-packet : (s : List ℕ) (γ : ℕ) → set s (γ / 32) (bitOr (getD s (γ / 32) 0) (1 * 2 ^ (γ % 32) % 2 ^ 32)) ≡ withPacket s γ
+unfolding withPacket
+stored-packet s γ = ap (set s (γ / 32)) (shift-marks 32 (getD s (γ / 32) 0) (γ % 32) (omega arith))
 
 -- ---- lengths
 

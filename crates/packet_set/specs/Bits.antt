@@ -6,7 +6,7 @@ use lib.Bits.{bitOr}
 
 -- the width of a state
 abbrev pub maskBits : ℕ
-maskBits = 32
+maskBits = 64
 
 -- bit i of m is 1
 unfoldable pub bit : ℕ → ℕ → Bool

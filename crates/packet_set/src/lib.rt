@@ -8,7 +8,7 @@ ghost use Rattle.packet_set.specs.InnerMembers.{member, wordsFor, emptyS
 pub type PacketWords = [u32; 32];
 
 // A state: bit 0 stands for the whole policy, bit i for what remains after dup i.
-pub type Mask = u32;
+pub type Mask = u64;
 
 // Inner. The mask with bit i marked.
 pub fn mark(mask: Mask, i: u32) -> Mask
@@ -26,7 +26,7 @@ pub fn is_marked(mask: Mask, i: u32) -> bool
     (mask >> i) & 1 == 1
 }
 
-// Inner. The mask has only bits 0 to dups. (A shift by dups + 1 would reach the width.)
+// Inner. The mask has only bits 0 to dups. (With all dups a shift by dups + 1 would be one by the width.)
 pub fn in_range(mask: Mask, dups: u32) -> bool
     requires { ⌜ dups < maskBits ⌝ }
     ensures { λ r. ⌜ r ≡ onlyBits mask dups ⌝ }

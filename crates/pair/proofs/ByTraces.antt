@@ -13,11 +13,11 @@ use lib.ListN.{length, getD}
 use Rattle.packet.specs.Sizes.{product}
 use Rattle.packet.proofs.Tests.{T-false}
 use Rattle.packet_set.specs.Bits.{bit}
-use Rattle.packet_set.proofs.Digits.{bit-high, bits-same, bits-below}
+use Rattle.packet_set.proofs.Digits.{same-bits, bits-below}
 use Rattle.packet_set.proofs.Masks.{bit-below}
 use Rattle.automaton.specs.State.{outputMask, nextMask, StateTraces}
 use Rattle.automaton.proofs.Tests.{same-test}
-use Rattle.automaton.proofs.Laws.{outputMask-fits, outputMask-iff, next-iff, nextMask-lt, nextMask-bit, dead-outputMask, dead-nextMask}
+use Rattle.automaton.proofs.Laws.{outputMask-iff, next-iff, nextMask-bit, dead-outputMask, dead-nextMask}
 use Rattle.system.specs.System.{System, Row, nextRow}
 use Rattle.pair.specs.Sides.{Side, left, right, Pair, at, NumberedPolicy}
 use Rattle.pair.specs.Pair.{outputAt, nextAt, inOneOutput, pairSystem}
@@ -49,14 +49,7 @@ module _ (sizes : List ℕ) (ps : Pair NumberedPolicy) (ok : EvaluablePair sizes
 
     pub next-only : (γ n : ℕ) → IsNext sizes ps s m β γ n → n ≡ nextMask sizes (at s ps .tree) (at s ps .dups) m β γ
     unfolding IsNext
-    next-only γ n f =
-        bits-same (suc (at s ps .dups)) n _ (bits-below (suc (at s ps .dups)) n (λ i h. same i ∙ bit-high (suc (at s ps .dups)) _ i fits h)) fits (λ i h. same i)
-      where
-        fits : nextMask sizes (at s ps .tree) (at s ps .dups) m β γ < 2 ^ suc (at s ps .dups)
-        fits = nextMask-lt sizes (at s ps .dups) (at s ps .tree) (ok s) m β γ
-
-        same : (i : ℕ) → bit n i ≡ bit (nextMask sizes (at s ps .tree) (at s ps .dups) m β γ) i
-        same i = let g = next-by-traces γ i in same-test _ _ (λ t. g .1 (f i .0 t)) (λ t. f i .1 (g .0 t))
+    next-only γ n f = same-bits n _ (λ i. let g = next-by-traces γ i in same-test _ _ (λ t. g .1 (f i .0 t)) (λ t. f i .1 (g .0 t)))
 
     -- nothing is reached exactly when the state next at γ is 0
     next-zero : (γ : ℕ) → (nextMask sizes (at s ps .tree) (at s ps .dups) m β γ ≡ 0) ↔ IsNext sizes ps s m β γ 0
@@ -68,15 +61,11 @@ module _ (sizes : List ℕ) (ps : Pair NumberedPolicy) (ok : EvaluablePair sizes
   unfolding at
   outputs-by-traces l r β h = (
     λ e γ. (λ t. out right r γ .0 (subst (λ x. T (bit x γ)) e (out left l γ .1 t)), λ t. out left l γ .0 (subst (λ x. T (bit x γ)) (sym e) (out right r γ .1 t))),
-    λ f. bits-same (product sizes) _ _ (fits left l) (fits right r)
-        (λ γ k. same-test _ _ (λ t. out right r γ .1 (f γ .0 (out left l γ .0 t))) (λ t. out left l γ .1 (f γ .1 (out right r γ .0 t)))),
+    λ f. same-bits _ _ (λ γ. same-test _ _ (λ t. out right r γ .1 (f γ .0 (out left l γ .0 t))) (λ t. out left l γ .1 (f γ .1 (out right r γ .0 t)))),
   )
     where
       out : (s : Side) (m γ : ℕ) → T (bit (outputMask sizes (at s ps .tree) m β) γ) ↔ Outputs sizes ps s m β γ
       out s m γ = output-by-traces s m β h γ
-
-      fits : (s : Side) (m : ℕ) → outputMask sizes (at s ps .tree) m β < 2 ^ product sizes
-      fits s m = outputMask-fits sizes (at s ps .dups) (at s ps .tree) (ok s) m β
 
   -- ---- the row order
   pub row-by-traces : (r : Row S) → r .packet < product sizes → RowByTraces sizes ps r

@@ -262,7 +262,7 @@ nodes-dups p =
     let e : 0 + treeSize p ≡ nodeCount (nodesOf p) = omega (arith, nodes-count p) in
     subst (λ (n : ℕ). dupsBelow (nodesOf p) n ≡ length (labels p)) e (stands-dups (nodesOf p) 0 p (nodes-stand p) ∙ zero-add _)
 
--- the nodes of a tree are legal where it has at most 512 nodes, its fields are declared, it negates tests alone and it has at most 31 dups
+-- the nodes of a tree are legal where it has at most 512 nodes, its fields are declared, it negates tests alone and it has at most 63 dups
 pub nodes-legal : (sizes : List ℕ) (p : Policy) → treeSize p ≤ 512 → InFields sizes p → negatesTests p ≡ true → length (labels p) ≤ maxDups
     → Legal sizes (nodesOf p)
 nodes-legal sizes p few fields negates dups =

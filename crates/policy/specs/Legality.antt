@@ -84,8 +84,8 @@ unfoldable pub badNegation : NodeLists → ℕ → Bool
 badNegation L i = negatesOther L (nodeAt L i)
 
 -- the most dups that a policy may have
-unfoldable pub maxDups : ℕ
-maxDups = 31
+abbrev pub maxDups : ℕ
+maxDups = 63
 
 -- cause 9: with node i there are too many dups
 unfoldable pub tooManyDups : NodeLists → ℕ → Bool

@@ -7,6 +7,10 @@ use Rattle.verdict.specs.declared.Verdict.the-variants.{Equal, Left, Right, Ful
 use Rattle.printing.specs.ThreeFields.{verdictLine, rowLines, traceLines}
 use Rattle.printed_verdict.specs.Output.{wordEqual, wordLeft, wordRight, refusalLine}
 
+-- the output has room for 4,097 lines of at most 64 bytes
+abbrev pub outputRoom : ℕ
+outputRoom = 262208
+
 -- the lines of a verdict, read off the lists that the search has left
 unfoldable pub verdictLines : Verdict → List ℕ → List ℕ → List ℕ → List ℕ → List ℕ
 verdictLines (Equal n) ps ls rs trace = verdictLine wordEqual n 0 ++ rowLines (take n ps) (take n ls) (take n rs)

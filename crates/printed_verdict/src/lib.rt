@@ -6,21 +6,22 @@ ghost use Rattle.packet.specs.Refusals.{refusal};
 ghost use Rattle.printing.specs.ThreeFields.{verdictLine, rowLines, traceLines};
 ghost use Rattle.printing.specs.InnerWrote.{Wrote};
 ghost use Rattle.printed_verdict.specs.Output.{wordEqual, refusalLine};
-ghost use Rattle.printed_verdict.specs.Inner.{verdictLines, Fits};
+ghost use Rattle.printed_verdict.specs.Inner.{outputRoom, verdictLines, Fits};
 use packet::Refusal;
+use packet_set::Mask;
 use verdict::Verdict;
 
 // A refusal's line.
 fn refused(out: &mut [u8], r: Refusal) -> usize
-    requires { ⌜ 131072 ≤ length (now out) ⌝ }
+    requires { ⌜ outputRoom ≤ length (now out) ⌝ }
     ensures { λ e. ⌜ Wrote (now (out .entry)) (now (out .exit)) 0 e (refusalLine r) ⌝ }
 {
     printing::verdict(out, b"refused", r.number as u64, r.place)
 }
 
-// The first n rows are all rows. They fit: 4,096 lines of at most 29 bytes and the first line.
-fn equal(out: &mut [u8], n: usize, packets: &[u16], lefts: &[u32], rights: &[u32]) -> usize
-    requires { ⌜ (131072 ≤ length (now out)) × (n ≤ 4096) × (n ≤ length (now packets)) × (n ≤ length (now lefts)) × (n ≤ length (now rights)) ⌝ }
+// The first n rows are all rows. They fit: 4,097 lines of at most 64 bytes.
+fn equal(out: &mut [u8], n: usize, packets: &[u16], lefts: &[Mask], rights: &[Mask]) -> usize
+    requires { ⌜ (outputRoom ≤ length (now out)) × (n ≤ 4096) × (n ≤ length (now packets)) × (n ≤ length (now lefts)) × (n ≤ length (now rights)) ⌝ }
     ensures { λ e. ⌜ Wrote (now (out .entry)) (now (out .exit)) 0 e (verdictLine wordEqual n 0 ++ rowLines (take n (now (packets .entry))) (take n (now (lefts .entry))) (take n (now (rights .entry)))) ⌝ }
 {
     let at = printing::verdict(out, b"equal", n as u64, 0);
@@ -29,7 +30,7 @@ fn equal(out: &mut [u8], n: usize, packets: &[u16], lefts: &[u32], rights: &[u32
 
 // The first n packets of the trace list tell the texts apart.
 fn telling(out: &mut [u8], word: &[u8], n: usize, entering: u16, trace: &[u16]) -> usize
-    requires { ⌜ (131072 ≤ length (now out)) × (length (now word) ≤ 7) × (n ≤ 4096) × (n ≤ length (now trace)) ⌝ }
+    requires { ⌜ (outputRoom ≤ length (now out)) × (length (now word) ≤ 7) × (n ≤ 4096) × (n ≤ length (now trace)) ⌝ }
     ensures { λ e. ⌜ Wrote (now (out .entry)) (now (out .exit)) 0 e (verdictLine (now (word .entry)) n entering ++ traceLines 0 (take n (now (trace .entry)))) ⌝ }
 {
     let at = printing::verdict(out, word, n as u64, entering as u64);
@@ -41,11 +42,11 @@ pub fn show(
     out: &mut [u8],
     verdict: Verdict,
     packets: &[u16],
-    lefts: &[u32],
-    rights: &[u32],
+    lefts: &[Mask],
+    rights: &[Mask],
     trace: &[u16],
 ) -> usize
-    requires { ⌜ (131072 ≤ length (now out)) × Fits verdict (now packets) (now lefts) (now rights) (now trace) ⌝ }
+    requires { ⌜ (outputRoom ≤ length (now out)) × Fits verdict (now packets) (now lefts) (now rights) (now trace) ⌝ }
     ensures { λ e. ⌜ Wrote (now (out .entry)) (now (out .exit)) 0 e (verdictLines verdict (now (packets .entry)) (now (lefts .entry)) (now (rights .entry)) (now (trace .entry))) ⌝ }
 {
     match verdict {
@@ -59,7 +60,7 @@ pub fn show(
 
 // Inner: cause 18.
 pub fn malformed(out: &mut [u8]) -> usize
-    requires { ⌜ 131072 ≤ length (now out) ⌝ }
+    requires { ⌜ outputRoom ≤ length (now out) ⌝ }
     ensures { λ e. ⌜ Wrote (now (out .entry)) (now (out .exit)) 0 e (refusalLine (refusal 18 0 0)) ⌝ }
 {
     refused(

@@ -158,7 +158,7 @@ rest-wrote {o₀ = o₀} {o₆ = o₆} {at} {e₁} {e₂} {e₃} {e₄} {e₅} {
 pub record RowsSoFar (packets lefts rights old new : List ℕ) (from at i : ℕ) : Type 0 where
   pub within : i ≤ length packets
   pub long : length new ≡ length old
-  pub low : at ≤ from + 29 * i
+  pub low : at ≤ from + 64 * i
   pub done : List ℕ
   pub wrote : Wrote old new from at done
   pub all : done ++ rowLines (drop i packets) (drop i lefts) (drop i rights) ≡ rowLines packets lefts rights
@@ -167,31 +167,16 @@ pub rows-none : (packets lefts rights old : List ℕ) (from : ℕ) → RowsSoFar
 rows-none packets lefts rights old from =
     record { within = omega arith; long = refl; low = omega arith; done = []; wrote = wrote-none old from; all = refl }
 
--- a line with numbers of at most so many digits
-line-short : (i j k a b c : ℕ) → a < 10 ^ suc i → b < 10 ^ suc j → c < 10 ^ suc k → length (numberLine a b c) ≤ i + j + k + 7
-unfolding numberLine lineRest
-line-short i j k a b c f g h =
-    let x : length (numeral a) ≤ suc i = numeral-few i a f in
-    let y : length (numeral b) ≤ suc j = numeral-few j b g in
-    let z : length (numeral c) ≤ suc k = numeral-few k c h in
-    omega (
-      arith,
-      length-append (numeral a) (44 ∷ numeral b ++ 44 ∷ numeral c ++ 13 ∷ 10 ∷ []),
-      length-append (44 ∷ numeral b ++ 44 ∷ numeral c) (13 ∷ 10 ∷ []),
-      length-append (44 ∷ numeral b) (44 ∷ numeral c),
-    )
-
 module _ {packets lefts rights old new : List ℕ} {from at i : ℕ} (s : RowsSoFar packets lefts rights old new from at i) (h : i < length packets) (l : length lefts ≡ length packets) (r : length rights ≡ length packets) where
-  pub row-room : from + 29 * length packets + 64 ≤ length old → at + 64 ≤ length new
-  row-room k = let e : length new ≡ length old = s .long in let f : at ≤ from + 29 * i = s .low in omega arith
+  pub row-room : from + 64 * length packets ≤ length old → at + 64 ≤ length new
+  row-room k = let e : length new ≡ length old = s .long in let f : at ≤ from + 64 * i = s .low in omega arith
 
-  pub rows-more : {next : List ℕ} {end a b c : ℕ} → a ≡ getD packets i 0 → b ≡ getD lefts i 0 → c ≡ getD rights i 0 → a < 65536 → b < 4294967296 → c < 4294967296
-      → from + 29 * length packets + 64 ≤ length old → Wrote new next at end (numberLine a b c) → length next ≡ length new → RowsSoFar packets lefts rights old next from end (i + 1)
+  pub rows-more : {next : List ℕ} {end a b c : ℕ} → a ≡ getD packets i 0 → b ≡ getD lefts i 0 → c ≡ getD rights i 0 → end ≤ at + 64
+      → from + 64 * length packets ≤ length old → Wrote new next at end (numberLine a b c) → length next ≡ length new → RowsSoFar packets lefts rights old next from end (i + 1)
   unfolding rowLines
-  rows-more {next} {end} {a} {b} {c} ea eb ec ha hb hc room w q =
-      let f : at ≤ from + 29 * i = s .low in
+  rows-more {next} {end} {a} {b} {c} ea eb ec short room w q =
+      let f : at ≤ from + 64 * i = s .low in
       let g : end ≡ at + length (numberLine a b c) = w .ends in
-      let n : length (numberLine a b c) ≤ 29 = line-short 4 9 9 a b c (omega arith) (omega arith) (omega arith) in
       let i′ : i + 1 ≡ suc i = add-one i in
       record {
         within = omega arith;
@@ -225,7 +210,7 @@ rows-all {packets} {lefts} {rights} {old} {new} {from} {at} {i} s h =
 pub record TraceSoFar (packets old new : List ℕ) (from at i : ℕ) : Type 0 where
   pub within : i ≤ length packets
   pub long : length new ≡ length old
-  pub low : at ≤ from + 29 * i
+  pub low : at ≤ from + 64 * i
   pub done : List ℕ
   pub wrote : Wrote old new from at done
   pub all : done ++ traceLines i (drop i packets) ≡ traceLines 0 packets
@@ -242,16 +227,15 @@ flag-is packets i h = go (eqb (i + 1) (length packets)) refl
     go false e = let q : i + 1 ≡ length packets → ⊥ = eqb-false _ _ e in ap lastFlag (drop-cons packets (suc i) 0 (omega (arith, q)))
 
 module _ {packets old new : List ℕ} {from at i : ℕ} (s : TraceSoFar packets old new from at i) (h : i < length packets) where
-  pub trace-room : from + 29 * length packets + 64 ≤ length old → at + 64 ≤ length new
-  trace-room k = let e : length new ≡ length old = s .long in let f : at ≤ from + 29 * i = s .low in omega arith
+  pub trace-room : from + 64 * length packets ≤ length old → at + 64 ≤ length new
+  trace-room k = let e : length new ≡ length old = s .long in let f : at ≤ from + 64 * i = s .low in omega arith
 
-  pub trace-more : {next : List ℕ} {end p flag : ℕ} → p ≡ getD packets i 0 → p < 65536 → length packets < 65536 → flag ≡ cond (eqb (i + 1) (length packets)) 1 0
-      → from + 29 * length packets + 64 ≤ length old → Wrote new next at end (numberLine (i + 1) p flag) → length next ≡ length new → TraceSoFar packets old next from end (i + 1)
+  pub trace-more : {next : List ℕ} {end p flag : ℕ} → p ≡ getD packets i 0 → end ≤ at + 64 → flag ≡ cond (eqb (i + 1) (length packets)) 1 0
+      → from + 64 * length packets ≤ length old → Wrote new next at end (numberLine (i + 1) p flag) → length next ≡ length new → TraceSoFar packets old next from end (i + 1)
   unfolding traceLines
-  trace-more {next} {end} {p} {flag} e small few ef room w q =
-      let f : at ≤ from + 29 * i = s .low in
+  trace-more {next} {end} {p} {flag} e short ef room w q =
+      let f : at ≤ from + 64 * i = s .low in
       let g : end ≡ at + length (numberLine (i + 1) p flag) = w .ends in
-      let n : length (numberLine (i + 1) p flag) ≤ 16 = line-short 4 4 1 (i + 1) p flag (omega arith) (omega arith) flag-small in
       record {
         within = omega arith;
         long = q ∙ s .long;
@@ -264,13 +248,6 @@ module _ {packets old new : List ℕ} {from at i : ℕ} (s : TraceSoFar packets 
             ∙ s .all;
       }
     where
-      flag-small : flag < 10 ^ 2
-      flag-small = subst (λ (n : ℕ). n < 10 ^ 2) (sym ef) (go (eqb (i + 1) (length packets)))
-        where
-          go : (b : Bool) → cond b 1 0 < 10 ^ 2
-          go true = omega arith
-          go false = omega arith
-
       front : traceLines i (drop i packets) ≡ numberLine (i + 1) p flag ++ traceLines (i + 1) (drop (i + 1) packets)
       front =
           ap (traceLines i) (drop-cons packets i 0 h)

@@ -7,6 +7,7 @@ ghost use Prim.Native.Nat.{_+_, _*_, _<_, _≤_};
 ghost use lib.ListN.{length};
 ghost use Rattle.printing.specs.ThreeFields.{numeral, lineRest, numberLine, verdictLine, rowLines, traceLines};
 ghost use Rattle.printing.specs.InnerWrote.{Wrote};
+use packet_set::Mask;
 
 // Writes a byte at a place, and returns the next place; so do all that write here.
 fn byte(out: &mut [u8], at: usize, b: u8) -> usize
@@ -55,10 +56,11 @@ fn rest(out: &mut [u8], at: usize, b: u64, c: u64) -> usize
     byte(out, lf, 10)
 }
 
-// A line of three numbers.
+// A line of three numbers, at most 64 bytes.
 fn number_line(out: &mut [u8], at: usize, a: u64, b: u64, c: u64) -> usize
     requires { ⌜ at + 64 ≤ length (now out) ⌝ }
     ensures { λ r. ⌜ Wrote (now (out .entry)) (now (out .exit)) at r (numberLine a b c) ⌝ }
+    ensures short { λ r. ⌜ r ≤ at + 64 ⌝ }
 {
     let end = number(out, at, a);
     rest(out, end, b, c)
@@ -75,32 +77,20 @@ pub fn verdict(out: &mut [u8], word: &[u8], b: u64, c: u64) -> usize
 }
 
 fn wide16(x: u16) -> u64
-    ensures { λ r. ⌜ (r ≡ x) × (r < 65536) ⌝ }
+    ensures { λ r. ⌜ r ≡ x ⌝ }
 {
     x as u64
 }
 
-fn wide32(x: u32) -> u64
-    ensures { λ r. ⌜ (r ≡ x) × (r < 4294967296) ⌝ }
-{
-    x as u64
-}
-
-// Inner: the rows. A row's line has at most 29 bytes; the line being written wants room for 64.
-pub fn rows(out: &mut [u8], from: usize, packets: &[u16], lefts: &[u32], rights: &[u32]) -> usize
-    requires { ⌜ (length (now lefts) ≡ length (now packets)) × (length (now rights) ≡ length (now packets)) × (from + 29 * length (now packets) + 64 ≤ length (now out)) ⌝ }
+// Inner: the rows.
+pub fn rows(out: &mut [u8], from: usize, packets: &[u16], lefts: &[Mask], rights: &[Mask]) -> usize
+    requires { ⌜ (length (now lefts) ≡ length (now packets)) × (length (now rights) ≡ length (now packets)) × (from + 64 * length (now packets) ≤ length (now out)) ⌝ }
     ensures { λ r. ⌜ Wrote (now (out .entry)) (now (out .exit)) from r (rowLines (now (packets .entry)) (now (lefts .entry)) (now (rights .entry))) ⌝ }
 {
     let mut at = from;
     let mut i = 0;
     while i < packets.len() {
-        at = number_line(
-            out,
-            at,
-            wide16(packets[i]),
-            wide32(lefts[i]),
-            wide32(rights[i]),
-        );
+        at = number_line(out, at, wide16(packets[i]), lefts[i], rights[i]);
         i += 1;
     }
     at
@@ -116,9 +106,9 @@ fn last_flag(place: usize, n: usize) -> u64
     0
 }
 
-// Inner: the packets of a trace. Place and packet are below 65,536, so that a line has no more bytes than a row's.
+// Inner: the packets of a trace.
 pub fn trace(out: &mut [u8], from: usize, packets: &[u16]) -> usize
-    requires { ⌜ (length (now packets) < 65536) × (from + 29 * length (now packets) + 64 ≤ length (now out)) ⌝ }
+    requires { ⌜ from + 64 * length (now packets) ≤ length (now out) ⌝ }
     ensures { λ r. ⌜ Wrote (now (out .entry)) (now (out .exit)) from r (traceLines 0 (now (packets .entry))) ⌝ }
 {
     let mut at = from;

@@ -4,12 +4,12 @@ ghost use Rattle.index.specs.Appending.{lists, listsAtEntry, listsAtExit};
 ghost use Rattle.row_handling.specs.Step.{openOrDone, HandleReady, StepDone};
 use compare::Compared;
 use index::Appended;
-use index::Mask;
 use index::POLICIES;
 use listed_rows::Progress;
 use loaded::Nodes;
 use loaded::Tests;
 use marks::Next;
+use packet_set::Mask;
 use verdict::Ended;
 
 // What a step of the search answers. Inner.
@@ -29,7 +29,7 @@ fn goes_on(handled: usize, listed: usize) -> Handled
     Handled::Stopped(Ended::Done(listed))
 }
 
-// Inner: handles row `handled` of the `listed` rows: two steps and a lookup for each successor; a lookup passes at most 64 rows of the
+// Inner: handles row `handled` of the `listed` rows: two steps and a lookup for each successor; a lookup passes at most 128 rows of the
 // index. The next lists are empty before, and after where the search goes on.
 pub fn handle(
     sizes: &[u16],

@@ -1,27 +1,27 @@
 -- What the loops look for, step by step.
 -- Assumes nothing.
-use Prim.Native.Nat.{ℕ, _+_, _≤_, _<_}
+use Prim.Native.Nat.{ℕ, zero, suc, _+_, _≤_, _<_}
 use native.Mathlib.Decide.{decLt}
-use native.Mathlib.Nat.{le-antisymm}
+use native.Mathlib.Nat.{le-refl, le-antisymm}
 use native.Mathlib.Numerals.{add-one}
 use native.Mathlib.Omega.{arith}
-use mathlib.Core.Bool.{Bool, true, false, not, _&&_, _||_}
-use mathlib.Core.List.{List}
-use mathlib.Core.Option.{none}
+use mathlib.Core.Bool.{Bool, true, false, cond, not, _&&_, _||_, and-false}
+use mathlib.Core.List.{List, [], _∷_}
+use mathlib.Core.Option.{Option, none, some}
 use mathlib.Core.Path.{_≡_, refl, sym, _∙_, ap, ap₂, subst}
 use lib.Dec.{eqb, ltb}
 use lib.ListN.{length, getD}
 use borrow.Author.Tests.{ltb-true, eq-eqb, ne-eqb, lt-ltb, le-ltb}
 use Rattle.packet.specs.Lowest.{lowest}
-use Rattle.packet.proofs.Lowest.{lowest-none, none-lowest, lowest-more, lowest-found, lowest-none-whole}
-use Rattle.packet_set.specs.Bits.{onlyBits}
+use Rattle.packet.proofs.Lowest.{Found, lowest-is, lowest-none, none-lowest, lowest-more, lowest-found, lowest-none-whole}
+use Rattle.packet_set.specs.Bits.{maskBits, onlyBits}
 use Rattle.index.specs.declared.Lookup.{Lookup}
 use Rattle.index.specs.declared.Lookup.the-variants.{Listed}
 use Rattle.index.specs.declared.Row.{Row}
-use Rattle.index.specs.Columns.{Small, rowAt, rowsAgree, listedBelow}
+use Rattle.index.specs.Columns.{policyCount, Small, rowAt, rowsAgree, listedBelow}
 use Rattle.index.specs.Index.{Indexed, LookEnds}
 use Rattle.row_rules.specs.declared.Spot.the-variants.{At, Nowhere}
-use Rattle.row_rules.specs.Presence.{spotOf, maskRow, rowInRange, zeroStates, inColumns, strays, startMissing, nextMissing, Repeated}
+use Rattle.row_rules.specs.Presence.{spotOf, maskRow, statesInRange, rowInRange, DupsFit, strayAfter, orEnd, before, zeroStates, inColumns, strays, startMissing, nextMissing, Repeated}
 
 -- ---- one row
 
@@ -34,28 +34,85 @@ module _ (l r : ℕ) where
   unfolding zeroStates
   left-zero e = sym (ap (λ (b : Bool). b && eqb r 0) (eq-eqb l 0 e))
 
-module _ (count leftDups rightDups α l r : ℕ) where
-  pub packet-over : count ≤ α → false ≡ rowInRange count leftDups rightDups α l r
+-- the states, policy by policy
+module _ (dups states : List ℕ) where
+  pub in-range-none : statesInRange 0 dups states ≡ true
+  unfolding statesInRange
+  in-range-none = refl
+
+  pub in-range-more : (k : ℕ) (b : Bool) → statesInRange k dups states ≡ true → b ≡ onlyBits (getD states k 0) (getD dups k 0) → b ≡ true → statesInRange (k + 1) dups states ≡ true
+  unfolding statesInRange
+  in-range-more k b e f t = subst (λ (n : ℕ). statesInRange n dups states ≡ true) (sym (add-one k)) (ap₂ _&&_ e (sym f ∙ t))
+
+  pub out-of-range : (k n : ℕ) → k < n → onlyBits (getD states k 0) (getD dups k 0) ≡ false → statesInRange n dups states ≡ false
+  unfolding statesInRange
+  out-of-range k zero l e = absurd (omega arith)
+  out-of-range k (suc n) l e = go (decLt k n) (λ h. out-of-range k n h e)
+    where
+      go : Dec (k < n) → (k < n → statesInRange n dups states ≡ false) → statesInRange n dups states && onlyBits (getD states n 0) (getD dups n 0) ≡ false
+      go (yes h) ih = ap (λ (b : Bool). b && onlyBits (getD states n 0) (getD dups n 0)) (ih h)
+      go (no h) ih =
+          let q : k ≡ n = omega arith in
+          ap (λ (b : Bool). statesInRange n dups states && b) (subst (λ (j : ℕ). onlyBits (getD states j 0) (getD dups j 0) ≡ false) q e) ∙ and-false (statesInRange n dups states)
+
+  pub in-range-all : (k n : ℕ) → k ≤ n → n ≤ k → statesInRange k dups states ≡ true → statesInRange n dups states ≡ true
+  in-range-all k n l g e = subst (λ (m : ℕ). statesInRange m dups states ≡ true) (le-antisymm l g) e
+
+module _ (count : ℕ) (dups : List ℕ) (x : Row) where
+  pub packet-over : count ≤ x .packet → false ≡ rowInRange count dups x
   unfolding rowInRange
-  packet-over h = sym (ap (λ (b : Bool). b && (onlyBits l leftDups && onlyBits r rightDups)) (le-ltb α count h))
+  packet-over h = sym (ap (λ (b : Bool). b && statesInRange policyCount dups (x .states)) (le-ltb (x .packet) count h))
 
-  module _ (small : α < count) where
-    pub left-strays : onlyBits l leftDups ≡ false → false ≡ rowInRange count leftDups rightDups α l r
-    unfolding rowInRange
-    left-strays e = sym (ap₂ (λ (a b : Bool). a && (b && onlyBits r rightDups)) (lt-ltb α count small) e)
+  pub packet-below : x .packet < count → statesInRange policyCount dups (x .states) ≡ rowInRange count dups x
+  unfolding rowInRange
+  packet-below h = sym (ap (λ (b : Bool). b && statesInRange policyCount dups (x .states)) (lt-ltb (x .packet) count h))
 
-    pub left-fits : onlyBits l leftDups ≡ true → onlyBits r rightDups ≡ rowInRange count leftDups rightDups α l r
-    unfolding rowInRange
-    left-fits e = sym (ap₂ (λ (a b : Bool). a && (b && onlyBits r rightDups)) (lt-ltb α count small) e)
+-- a bit for each dup of two policies
+pub two-fit : {l r : ℕ} → l < maskBits → r < maskBits → DupsFit (l ∷ r ∷ [])
+two-fit a b zero h = a
+two-fit a b (suc zero) h = b
+two-fit a b (suc (suc k)) h = absurd (omega arith)
+
+-- ---- the first row that breaks rule (a), as a number
+
+module _ (end found i : ℕ) (b fits : Bool) (e : b ≡ fits) where
+  pub stray-kept : b ≡ true → found ≡ strayAfter end found i fits
+  unfolding strayAfter
+  stray-kept t = sym (ap (strayAfter end found i) (sym e ∙ t))
+
+  pub stray-found : b ≡ false → found < end → found ≡ strayAfter end found i fits
+  unfolding strayAfter
+  stray-found f l = sym (ap (strayAfter end found i) (sym e ∙ f) ∙ ap (λ (c : Bool). cond c found i) (lt-ltb found end l))
+
+  pub stray-first : b ≡ false → end ≤ found → i ≡ strayAfter end found i fits
+  unfolding strayAfter
+  stray-first f l = sym (ap (strayAfter end found i) (sym e ∙ f) ∙ ap (λ (c : Bool). cond c found i) (le-ltb found end l))
+
+module _ (end found : ℕ) where
+  pub spot-before : found < end → spotOf (At found) ≡ before end found
+  unfolding spotOf before
+  spot-before l = sym (ap (λ (c : Bool). cond c (some found) none) (lt-ltb found end l))
+
+  pub spot-end : end ≤ found → spotOf Nowhere ≡ before end found
+  unfolding spotOf before
+  spot-end l = sym (ap (λ (c : Bool). cond c (some found) none) (le-ltb found end l))
+
+-- the number of the lowest, or the end, tells which it is
+pub before-or-end : (test : ℕ → Bool) (end : ℕ) → before end (orEnd end (lowest test end)) ≡ lowest test end
+unfolding before orEnd
+before-or-end test end = go (lowest test end) (lowest-is test end)
+  where
+    go : (o : Option ℕ) → Found test end o → cond (ltb (orEnd end o) end) (some (orEnd end o)) none ≡ o
+    go none f = ap (λ (c : Bool). cond c (some end) none) (le-ltb end end (le-refl end))
+    go (some i) f = ap (λ (c : Bool). cond c (some i) none) (lt-ltb i end (f .below))
 
 -- ---- one row of the table
 
 module _ (packets lefts rights : List ℕ) where
   -- rule (a) at row i, read off a row
-  pub strays-at : (count leftDups rightDups i : ℕ) (x : Row) → x ≡ rowAt packets lefts rights i → (b : Bool) → b ≡ rowInRange count leftDups rightDups (x .packet) (getD (x .states) 0 0) (getD (x .states) 1 0)
-      → strays packets lefts rights count leftDups rightDups i ≡ not b
+  pub strays-at : (count : ℕ) (dups : List ℕ) (i : ℕ) (x : Row) → x ≡ rowAt packets lefts rights i → (b : Bool) → b ≡ rowInRange count dups x → strays packets lefts rights count dups i ≡ not b
   unfolding strays
-  strays-at count leftDups rightDups i x e b f = ap not (ap (λ (y : Row). rowInRange count leftDups rightDups (y .packet) (getD (y .states) 0 0) (getD (y .states) 1 0)) (sym e) ∙ sym f)
+  strays-at count dups i x e b f = ap not (ap (rowInRange count dups) (sym e) ∙ sym f)
 
   pub start-at : (α : ℕ) (b : Bool) → b ≡ listedBelow (rowAt packets lefts rights) (length packets) (maskRow α 1 1) → startMissing packets lefts rights α ≡ not b
   unfolding startMissing inColumns

@@ -3,18 +3,20 @@
 // They need no policy: rule (c), the next states and the order of the rules are in `evidence`.
 ghost use mathlib.Core.Path.{_≡_};
 ghost use mathlib.Core.Bool.{true};
+ghost use mathlib.Core.List.{[], _∷_};
 ghost use Prim.Native.Nat.{_<_, _≤_};
 ghost use lib.ListN.{length, getD};
 ghost use Rattle.packet.specs.Lowest.{lowest};
-ghost use Rattle.index.specs.Columns.{leftOf, rightOf, EvenColumns, Small};
+ghost use Rattle.packet_set.specs.Bits.{maskBits};
+ghost use Rattle.index.specs.Columns.{policyCount, leftOf, rightOf, EvenColumns, Small};
 ghost use Rattle.index.specs.Index.{Indexed};
 ghost use Rattle.marks.specs.Marks.{Marking};
-ghost use Rattle.row_rules.specs.Presence.{spotOf, rowInRange, zeroStates, strays, startMissing, nextMissing, Repeated};
+ghost use Rattle.row_rules.specs.Presence.{spotOf, maskRow, statesInRange, rowInRange, DupsFit, strayAfter, before, zeroStates, strays, startMissing, nextMissing, Repeated};
 use index::Lookup;
-use index::Mask;
 use index::POLICIES;
 use index::Row;
 use marks::Next;
+use packet_set::Mask;
 
 // The lowest spot at which a rule is broken. Inner.
 pub enum Spot {
@@ -22,19 +24,30 @@ pub enum Spot {
     Nowhere,
 }
 
-// Rule (a) at one row.
-fn row_fits(row: Row, count: u16, left_dups: u32, right_dups: u32) -> bool
-    requires { ⌜ («left_dups» < 32) × («right_dups» < 32) ⌝ }
-    ensures { λ r. ⌜ r ≡ rowInRange count «left_dups» «right_dups» (row .packet) (getD (row .states) 0 0) (getD (row .states) 1 0) ⌝ }
+fn states_fit(states: [Mask; POLICIES], dups: [u32; POLICIES]) -> bool
+    requires { ⌜ DupsFit dups ⌝ }
+    ensures { λ r. ⌜ r ≡ statesInRange policyCount dups states ⌝ }
+{
+    let mut k = 0;
+    while k < POLICIES {
+        if !packet_set::in_range(states[k], dups[k]) {
+            return false;
+        }
+        k += 1;
+    }
+    true
+}
+
+// Inner: rule (a) at one row.
+pub fn row_fits(row: Row, count: u16, dups: [u32; POLICIES]) -> bool
+    requires { ⌜ DupsFit dups ⌝ }
+    ensures { λ r. ⌜ r ≡ rowInRange count dups row ⌝ }
 {
     if count <= row.packet {
         return false;
     }
     let states = row.states;
-    if !packet_set::in_range(states[0], left_dups) {
-        return false;
-    }
-    packet_set::in_range(states[1], right_dups)
+    states_fit(states, dups)
 }
 
 // Inner: rule (a): the lowest row that breaks it.
@@ -43,25 +56,59 @@ pub fn first_stray(
     lefts: &[Mask],
     rights: &[Mask],
     count: u16,
-    left_dups: u32,
-    right_dups: u32,
+    dups: [u32; POLICIES],
 ) -> Spot
     requires { ⌜ EvenColumns (now packets) (now lefts) (now rights) ⌝ }
     requires { ⌜ length (now packets) ≤ 65535 ⌝ }
-    requires { ⌜ («left_dups» < 32) × («right_dups» < 32) ⌝ }
-    ensures { λ r. ⌜ spotOf r ≡ lowest (strays (now (packets .entry)) (now (lefts .entry)) (now (rights .entry)) count «left_dups» «right_dups») (length (now (packets .entry))) ⌝ }
+    requires { ⌜ DupsFit dups ⌝ }
+    ensures { λ r. ⌜ spotOf r ≡ lowest (strays (now (packets .entry)) (now (lefts .entry)) (now (rights .entry)) count dups) (length (now (packets .entry))) ⌝ }
 {
     let mut i = 0;
     while i < packets.len() {
-        if !row_fits(
-            index::row_at(packets, lefts, rights, i),
-            count,
-            left_dups,
-            right_dups,
-        ) {
+        if !row_fits(index::row_at(packets, lefts, rights, i), count, dups) {
             return Spot::At(i as u16);
         }
         i += 1;
+    }
+    Spot::Nowhere
+}
+
+// Inner: rule (a) at row i by its numbers: the first of `end` rows that breaks it, or `end`, where `found` is that of the rows before. All are
+// plain numbers, since the function that calls it is walked by hand.
+pub fn stray_after(
+    end: usize,
+    found: usize,
+    i: usize,
+    packet: u16,
+    left: Mask,
+    right: Mask,
+    count: u16,
+    left_dups: u32,
+    right_dups: u32,
+) -> usize
+    requires { ⌜ («left_dups» < maskBits) × («right_dups» < maskBits) ⌝ }
+    ensures { λ r. ⌜ r ≡ strayAfter end found i (rowInRange count («left_dups» ∷ «right_dups» ∷ []) (maskRow packet left right)) ⌝ }
+{
+    let row = Row {
+        packet,
+        states: [left, right],
+    };
+    if row_fits(row, count, [left_dups, right_dups]) {
+        return found;
+    }
+    if found < end {
+        return found;
+    }
+    i
+}
+
+// Inner: the spot of the first row that breaks rule (a), from its number.
+pub fn stray_spot(end: usize, stray: usize) -> Spot
+    requires { ⌜ end ≤ 65535 ⌝ }
+    ensures { λ r. ⌜ spotOf r ≡ before end stray ⌝ }
+{
+    if stray < end {
+        return Spot::At(stray as u16);
     }
     Spot::Nowhere
 }

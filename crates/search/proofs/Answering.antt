@@ -100,7 +100,7 @@ module _ {sizes : List ℕ} {L R : NodeLists} {x : SearchLists} where
   -- ---- where no cause up to 10 holds
 
   module _ {count : ℕ} (A : Accepted sizes L R count x) where
-    pub load-ready : LoadReady sizes L R count (replicate 2 (replicate 544 0)) (replicate 2 (replicate 8224 0))
+    pub load-ready : LoadReady sizes L R count (replicate 2 (replicate 576 0)) (replicate 2 (replicate 8224 0))
     load-ready = load-asks (A .legal) (A .left-legal) (A .right-legal) (A .packets)
 
     pub run-asks : {nodes tests : List (List ℕ)} → BothLoaded sizes L R nodes tests → (work′ : List ℕ) → work′ ≡ replicate (length (x .work)) 0

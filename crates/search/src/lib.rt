@@ -8,12 +8,12 @@ ghost use Rattle.index.specs.Appending.{lists, listsAtEntry, listsAtExit};
 ghost use Rattle.search.specs.InnerRows.{columnsAtEntry, columnsAtExit, RoundsReady, RoundsDone, RestReady, RestDone, RunReady, RunDone};
 ghost use Rattle.search.specs.Call.{lent, lentAtEntry, lentAtExit, Accepted, SearchDone, Searched};
 use index::Appended;
-use index::Mask;
 use index::POLICIES;
 use listed_rows::Progress;
 use loaded::Nodes;
 use loaded::Tests;
 use packet::Tested;
+use packet_set::Mask;
 use row_handling::Handled;
 use verdict::Ended;
 use verdict::Stop;
@@ -54,7 +54,7 @@ fn rounds(
     requires { ⌜ RoundsReady (now sizes) (now nodes) (now tests) (lists (now packets) (now lefts) (now rights) (now parents) (now trees)) start (now work) ⌝ }
     ensures { λ r. ⌜ RoundsDone (now (sizes .entry)) (now (nodes .entry)) (now (tests .entry)) (listsAtEntry packets lefts rights parents trees) (listsAtExit packets lefts rights parents trees) start (now (work .entry)) r (now (work .exit)) ⌝ }
 {
-    let mut next = [[0u32; 1056]; POLICIES];
+    let mut next = [[0; 1056]; POLICIES];
     let mut progress = start;
     while has_room(packets.len(), trees.len(), progress) {
         match row_handling::handle(
@@ -220,7 +220,7 @@ fn search_accepted(
     ensures { λ r. ⌜ SearchDone (now (sizes .entry)) (policyAtEntry «left_kind» «left_first» «left_second») (policyAtEntry «right_kind» «right_first» «right_second») (lentAtEntry packets lefts rights parents trace work) r (lentAtExit packets lefts rights parents trace work) ⌝ }
 {
     lent_lists::clear(work);
-    let mut nodes = [[0u64; 544]; POLICIES];
+    let mut nodes = [[0u64; 576]; POLICIES];
     let mut tests = [[0u32; 8224]; POLICIES];
     compare::load(
         sizes,

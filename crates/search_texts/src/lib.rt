@@ -5,8 +5,8 @@ ghost use Rattle.policy.specs.AsLists.{policyAtEntry};
 ghost use Rattle.search.specs.Call.{lentAtEntry, lentAtExit};
 ghost use Rattle.search_texts.specs.Call.{textNodes, textStage, Ran, TextsSearched};
 use grammar::Answer;
-use index::Mask;
 use packet::Tested;
+use packet_set::Mask;
 use policy::order::Stages;
 use verdict::Verdict;
 

@@ -1,54 +1,25 @@
 -- Packets get a mark, word by word of a set and bit by bit of a word. Assumes nothing.
-use Prim.Native.Nat.{ℕ, zero, suc, _+_, _-_, _*_, _/_, _%_, _^_, _≤_, _<_}
-use mathlib.Core.Bool.{Bool, true, false, not, _&&_, _||_, cond, and-self, and-true, and-false, or-false}
+use Prim.Native.Nat.{ℕ, _+_, _-_, _*_, _/_, _%_, _^_, _≤_, _<_}
+use mathlib.Core.Bool.{Bool, true, false, not, _&&_, _||_, cond, and-true, and-false, or-false}
 use mathlib.Core.List.{List}
 use mathlib.Core.Path.{_≡_, refl, sym, ap, ap₂, _∙_, subst}
 use native.Mathlib.Decide.{decLt, ℕ-discrete}
-use native.Mathlib.Nat.{le-of-suc-le-suc, not-suc-le-zero, pow-suc, mod-lt, zero-lt-suc}
 use native.Mathlib.Omega.{arith}
 use borrow.Author.Tests.{eq-eqb, ne-eqb, lt-ltb, le-ltb}
-use lib.Bits.{bitOr, bitAnd, and-le-l, and-le-r, or-zero-r}
-use lib.Count.{trailingZeros, under}
-use lib.Dec.{eqb, ltb, eqb·suc-zero, eqb·suc-suc}
+use lib.Bits.{bitOr, bitAnd, and-le-l, or-zero-r}
+use lib.Count.{trailingZeros}
+use lib.Dec.{eqb, ltb}
 use lib.ListN as L
 use lib.ListN.{length, getD, length-set}
 use lib.Seq.{getD-set-same, getD-set-other}
 use Rattle.packet.proofs.Lowest.{IsLowest}
 use Rattle.packet.proofs.Tests.{and-true as both-true}
-use Rattle.packet_set.specs.Bits.{bit, marked}
+use Rattle.packet_set.specs.Bits.{maskBits, bit, marked}
 use Rattle.packet_set.specs.InnerMembers.{member}
-use Rattle.packet_set.proofs.Digits.{bit-zero, bit-suc, bit-of-zero, bit-or, bit-and, bit-marked, shift-marks}
-use Rattle.packet_set.proofs.Trailing.{trailing-lowest}
+use Rattle.packet_set.proofs.Digits.{bit-of-zero, bit-or, bit-marked, shift-marks}
+use Rattle.packet_set.proofs.Trailing.{trailing-lowest, bit-cleared}
 use Rattle.spans.specs.Spans.{hasMark, touched, Spanned, Rewritten, markedEntry, GotMark}
 use Rattle.spans.proofs.Sets.{slot-word, slot-beyond, member-beyond, below-span, above-span}
-
--- ---- the lowest bit goes
-
-bit-gone : (k n : ℕ) → n < 2 ^ k → 0 < n → (j : ℕ) → bit n j && bit (n - 1) j ≡ bit n j && not (eqb j (trailingZeros k n))
-unfolding trailingZeros
-bit-gone zero n h p = absurd (omega arith)
-bit-gone (suc k) n h p = go (n % 2) refl (mod-lt n (zero-lt-suc 1)) (bit-gone k (n / 2) (omega (arith, pow-suc 2 k)))
-  where
-    go : (d : ℕ) → n % 2 ≡ d → d < 2 → (0 < n / 2 → (j : ℕ) → bit (n / 2) j && bit (n / 2 - 1) j ≡ bit (n / 2) j && not (eqb j (trailingZeros k (n / 2))))
-        → (j : ℕ) → bit n j && bit (n - 1) j ≡ bit n j && not (eqb j (under d (trailingZeros k (n / 2))))
-    go zero e l ih zero =
-        let b : bit n 0 ≡ false = bit-zero n ∙ ap (λ (x : ℕ). eqb x 1) e in
-        ap (λ (q : Bool). q && bit (n - 1) 0) b ∙ sym (ap (λ (q : Bool). q && not (eqb 0 (suc (trailingZeros k (n / 2))))) b)
-    go zero e l ih (suc j) =
-        let half : (n - 1) / 2 ≡ n / 2 - 1 = omega arith in
-        ap₂ (λ (p q : Bool). p && q) (bit-suc n j) (bit-suc (n - 1) j ∙ ap (λ (x : ℕ). bit x j) half) ∙ ih (omega arith) j
-        ∙ ap₂ (λ (p q : Bool). p && not q) (sym (bit-suc n j)) (sym (eqb·suc-suc j (trailingZeros k (n / 2))))
-    go (suc zero) e l ih zero =
-        let low : (n - 1) % 2 ≡ 0 = omega arith in
-        ap (λ (q : Bool). bit n 0 && q) (bit-zero (n - 1) ∙ ap (λ (x : ℕ). eqb x 1) low)
-    go (suc zero) e l ih (suc j) =
-        let half : (n - 1) / 2 ≡ n / 2 = omega arith in
-        ap (λ (q : Bool). bit n (suc j) && q) (bit-suc (n - 1) j ∙ ap (λ (x : ℕ). bit x j) half ∙ sym (bit-suc n j)) ∙ and-self (bit n (suc j)) ∙ sym (and-true (bit n (suc j)))
-        ∙ ap (λ (q : Bool). bit n (suc j) && not q) (sym (eqb·suc-zero j))
-    go (suc (suc d)) e l ih j = absurd (not-suc-le-zero (le-of-suc-le-suc (le-of-suc-le-suc l)))
-
-bit-left : (k n : ℕ) → n < 2 ^ k → 0 < n → (j : ℕ) → bit (bitAnd n (n - 1)) j ≡ bit n j && not (eqb j (trailingZeros k n))
-bit-left k n h p j = bit-and n (n - 1) j ∙ bit-gone k n h p j
 
 -- ---- the packets of one word
 
@@ -69,16 +40,13 @@ module _ (next : List ℕ) (label i word : ℕ) where
       go false x y = refl
 
   module _ (now : List ℕ) (rest : ℕ) (m : Marking next label i word now rest) where
-    pub lowest-small : 0 < rest → trailingZeros 32 rest < 32
-    lowest-small p = trailing-lowest 32 rest (m .small) p .below
-
-    turn : label < 32 → i < 32 → length next ≡ 1056 → 0 < rest
-        → Marking next label i word (L.set now (32 * i + trailingZeros 32 rest) (bitOr (getD now (32 * i + trailingZeros 32 rest) 0) (1 * 2 ^ label % 2 ^ 32))) (bitAnd rest (rest - 1))
+    turn : label < maskBits → i < 32 → length next ≡ 1056 → 0 < rest
+        → Marking next label i word (L.set now (32 * i + trailingZeros 32 rest) (bitOr (getD now (32 * i + trailingZeros 32 rest) 0) (1 * 2 ^ label % 2 ^ maskBits))) (bitAnd rest (rest - 1))
     unfolding markedEntry
-    turn ll li wide p = go (trailingZeros 32 rest) (trailing-lowest 32 rest (m .small) p) (bit-left 32 rest (m .small) p)
+    turn ll li wide p = go (trailingZeros 32 rest) (trailing-lowest 32 rest (m .small) p) (λ j. bit-cleared 32 rest j (m .small) p)
       where
         go : (z : ℕ) → IsLowest (bit rest) 32 z → ((j : ℕ) → bit (bitAnd rest (rest - 1)) j ≡ bit rest j && not (eqb j z))
-            → Marking next label i word (L.set now (32 * i + z) (bitOr (getD now (32 * i + z) 0) (1 * 2 ^ label % 2 ^ 32))) (bitAnd rest (rest - 1))
+            → Marking next label i word (L.set now (32 * i + z) (bitOr (getD now (32 * i + z) 0) (1 * 2 ^ label % 2 ^ maskBits))) (bitAnd rest (rest - 1))
         go z low left = record {
           long = length-set now at v ∙ m .long;
           small = omega (arith, and-le-l rest (rest - 1), m .small);
@@ -90,7 +58,7 @@ module _ (next : List ℕ) (label i word : ℕ) where
             at = 32 * i + z
 
             v : ℕ
-            v = bitOr (getD now (32 * i + z) 0) (1 * 2 ^ label % 2 ^ 32)
+            v = bitOr (getD now (32 * i + z) 0) (1 * 2 ^ label % 2 ^ maskBits)
 
             rest′ : ℕ
             rest′ = bitAnd rest (rest - 1)
@@ -111,9 +79,9 @@ module _ (next : List ℕ) (label i word : ℕ) where
             gone : bit (bitAnd rest (rest - 1)) z ≡ false
             gone = left z ∙ ap (λ (q : Bool). bit rest z && not q) (eq-eqb z z refl) ∙ and-false (bit rest z)
 
-            there : getD (L.set now (32 * i + z) (bitOr (getD now (32 * i + z) 0) (1 * 2 ^ label % 2 ^ 32))) (32 * i + z) 0 ≡ cond (eqb ((32 * i + z) / 32) i && bit (bitAnd rest (rest - 1)) ((32 * i + z) % 32)) (getD next (32 * i + z) 0) (markedEntry next label i word (32 * i + z))
+            there : getD (L.set now (32 * i + z) (bitOr (getD now (32 * i + z) 0) (1 * 2 ^ label % 2 ^ maskBits))) (32 * i + z) 0 ≡ cond (eqb ((32 * i + z) / 32) i && bit (bitAnd rest (rest - 1)) ((32 * i + z) % 32)) (getD next (32 * i + z) 0) (markedEntry next label i word (32 * i + z))
             there =
-                getD-set-same now (32 * i + z) v 0 (let l = low .below in omega (arith, m .long)) ∙ shift-marks 32 (getD now (32 * i + z) 0) label ll
+                getD-set-same now (32 * i + z) v 0 (let l = low .below in omega (arith, m .long)) ∙ shift-marks maskBits (getD now (32 * i + z) 0) label ll
                 ∙ ap (λ (x : ℕ). marked x label) (m .entries (32 * i + z) ∙ ap (λ (q : Bool). cond q (getD next (32 * i + z) 0) (markedEntry next label i word (32 * i + z))) (test-at rest true (low .passes)))
                 ∙ sym (ap (λ (q : Bool). cond q (marked (getD next (32 * i + z) 0) label) (getD next (32 * i + z) 0)) (test-at word true (m .within z (low .passes))))
                 ∙ sym (ap (λ (q : Bool). cond q (getD next (32 * i + z) 0) (markedEntry next label i word (32 * i + z))) (test-at rest′ false gone))
@@ -122,25 +90,21 @@ module _ (next : List ℕ) (label i word : ℕ) where
             same γ n (yes e) = ap (λ (q : Bool). eqb (γ / 32) i && q) (sym (left (γ % 32) ∙ ap (λ (q : Bool). bit rest (γ % 32) && not q) (ne-eqb (γ % 32) z (λ f. n (omega arith))) ∙ and-true (bit rest (γ % 32))))
             same γ n (no e) = let f = ne-eqb (γ / 32) i e in ap (λ (q : Bool). q && bit rest (γ % 32)) f ∙ sym (ap (λ (q : Bool). q && bit (bitAnd rest (rest - 1)) (γ % 32)) f)
 
-            split : (γ : ℕ) → Dec (γ ≡ 32 * i + z) → getD (L.set now (32 * i + z) (bitOr (getD now (32 * i + z) 0) (1 * 2 ^ label % 2 ^ 32))) γ 0 ≡ cond (eqb (γ / 32) i && bit (bitAnd rest (rest - 1)) (γ % 32)) (getD next γ 0) (markedEntry next label i word γ)
+            split : (γ : ℕ) → Dec (γ ≡ 32 * i + z) → getD (L.set now (32 * i + z) (bitOr (getD now (32 * i + z) 0) (1 * 2 ^ label % 2 ^ maskBits))) γ 0 ≡ cond (eqb (γ / 32) i && bit (bitAnd rest (rest - 1)) (γ % 32)) (getD next γ 0) (markedEntry next label i word γ)
             split γ (yes e) = subst (λ (x : ℕ). getD (L.set now at v) x 0 ≡ entry rest′ x) (sym e) there
             split γ (no e) = getD-set-other now at γ v 0 e ∙ m .entries γ ∙ ap (λ (q : Bool). cond q (getD next γ 0) (markedEntry next label i word γ)) (same γ e (ℕ-discrete (γ / 32) i))
 
     -- the lowest packet left gets the mark
-    pub marking-turn : label < 32 → i < 32 → length next ≡ 1056 → 0 < rest → (mask : ℕ) → mask ≡ marked (getD now (32 * i + trailingZeros 32 rest) 0) label
+    pub marking-turn : label < maskBits → i < 32 → length next ≡ 1056 → 0 < rest → (mask : ℕ) → mask ≡ marked (getD now (32 * i + trailingZeros 32 rest) 0) label
         → Marking next label i word (L.set now (32 * i + trailingZeros 32 rest) mask) (bitAnd rest (rest - 1))
     marking-turn ll li wide p mask e =
-        subst (λ (x : ℕ). Marking next label i word (L.set now (32 * i + trailingZeros 32 rest) x) (bitAnd rest (rest - 1))) (shift-marks 32 _ label ll ∙ sym e) (turn ll li wide p)
+        subst (λ (x : ℕ). Marking next label i word (L.set now (32 * i + trailingZeros 32 rest) x) (bitAnd rest (rest - 1))) (shift-marks maskBits _ label ll ∙ sym e) (turn ll li wide p)
 
     pub marking-end : rest ≡ 0 → Rewritten (markedEntry next label i word) next now
     marking-end e = record {
       long = m .long;
       words = λ γ. m .entries γ ∙ ap (λ (q : Bool). cond q (getD next γ 0) (markedEntry next label i word γ)) (ap (λ (q : Bool). eqb (γ / 32) i && q) (ap (λ (x : ℕ). bit x (γ % 32)) e ∙ bit-of-zero (γ % 32)) ∙ and-false (eqb (γ / 32) i));
     }
-
--- fewer bits are a smaller number
-pub bits-fall : (n : ℕ) → 0 < n → bitAnd n (n - 1) < n
-bits-fall n p = omega (arith, and-le-r n (n - 1))
 
 -- ---- the packets of a set
 
@@ -172,11 +136,11 @@ module _ (set : List ℕ) (label : ℕ) (next : List ℕ) where
     }
 
     module _ (now : List ℕ) (i : ℕ) (w : Spreading set label next now i) where
-      pub spreading-turn : i < to → length next ≡ 1056
+      spread : i < to → length next ≡ 1056
           → (now′ : List ℕ) → Rewritten (markedEntry (L.set now (1024 + i) (bitOr (getD now (1024 + i) 0) (getD set i 0))) label i (getD set i 0)) (L.set now (1024 + i) (bitOr (getD now (1024 + i) 0) (getD set i 0))) now′
           → Spreading set label next now′ (i + 1)
       unfolding markedEntry entryWith member
-      spreading-turn l wide now′ r = record {
+      spread l wide now′ r = record {
         long = r .long ∙ length-set now (1024 + i) v ∙ w .long;
         marks-done = λ γ b k. mark-at γ b k (ℕ-discrete (γ / 32) i);
         marks-left = λ γ b k. off γ (b, omega arith) ∙ w .marks-left γ b (omega arith);
@@ -214,6 +178,13 @@ module _ (set : List ℕ) (label : ℕ) (next : List ℕ) where
               r .words γ ∙ ap₂ (λ (q : Bool) (x : ℕ). cond (q && bit (getD set i 0) (γ % 32)) (marked x label) x) (eq-eqb (γ / 32) i e) (mid-entry γ b ∙ w .marks-left γ b (omega arith))
               ∙ ap (λ (x : ℕ). cond (bit (getD set x 0) (γ % 32)) (marked (getD next γ 0) label) (getD next γ 0)) (sym e)
           mark-at γ b k (no e) = off γ (b, e) ∙ w .marks-done γ b (omega arith)
+
+      -- one more word, as the code holds it in an entry
+      pub spreading-turn : i < to → length next ≡ 1056 → (x : ℕ) → x ≡ getD set i 0
+          → (now′ : List ℕ) → Rewritten (markedEntry (L.set now (1024 + i) (bitOr (getD now (1024 + i) 0) x)) label i (getD set i 0)) (L.set now (1024 + i) (bitOr (getD now (1024 + i) 0) x)) now′
+          → Spreading set label next now′ (i + 1)
+      spreading-turn l wide x e now′ r =
+          spread l wide now′ (subst (λ (y : ℕ). Rewritten (markedEntry (L.set now (1024 + i) (bitOr (getD now (1024 + i) 0) y)) label i (getD set i 0)) (L.set now (1024 + i) (bitOr (getD now (1024 + i) 0) y)) now′) e r)
 
       pub spreading-end : to ≤ i → GotMark label set next now
       unfolding hasMark touched entryWith member

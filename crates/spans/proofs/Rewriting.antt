@@ -15,7 +15,7 @@ use lib.Seq.{getD-set-same, getD-set-other}
 use Rattle.packet.proofs.Tests.{T-true, true-T, and-true, or-true, or-false}
 use Rattle.packet_set.specs.Bits.{bit}
 use Rattle.packet_set.specs.InnerMembers.{Members}
-use Rattle.packet_set.proofs.Digits.{bit-of-zero, bit-or, bits-below}
+use Rattle.packet_set.proofs.Digits.{bit-of-zero, bit-or, no-bits}
 use Rattle.packet_set.proofs.Trailing.{trailing-lowest}
 use Rattle.spans.specs.Spans.{Rewritten, TellsMember}
 
@@ -50,9 +50,6 @@ module _ (f : ℕ → ℕ) (old : List ℕ) where
 -- ---- is any bit of the words 1?
 
 -- `any` has the bits of the words below i
-pub no-bits : (m : ℕ) → ((b : ℕ) → bit m b ≡ false) → m ≡ 0
-no-bits m h = let l = bits-below 0 m (λ b k. h b) in omega arith
-
 pub record Any (f : ℕ → ℕ) (any i : ℕ) : Type 0 where
   pub none : (b : ℕ) → bit any b ≡ false → (j : ℕ) → j < i → bit (f j) b ≡ false
   pub some : (b : ℕ) → bit any b ≡ true → (j : ℕ) × (bit (f j) b ≡ true)

@@ -1,5 +1,5 @@
 -- Sets in spans, slots and marks by their words. Assumes nothing.
-use Prim.Native.Nat.{ℕ, zero, suc, _+_, _*_, _/_, _%_, _^_, _≤_, _<_}
+use Prim.Native.Nat.{ℕ, zero, suc, _+_, _*_, _/_, _%_, _≤_, _<_}
 use mathlib.Core.Bool.{Bool, true, false, not, _&&_, _||_, cond, and-false, or-false}
 use mathlib.Core.List.{List}
 use mathlib.Core.Logic.{_⊎_, inl, inr, ⊎-elim}
@@ -14,7 +14,7 @@ use lib.ListN.{length, getD, replicate, length-replicate}
 use lib.Seq.{getD-set-other, ext-getD}
 use Rattle.packet_set.specs.Bits.{bit}
 use Rattle.packet_set.specs.InnerMembers.{Members, member, emptySet, withPacket, without}
-use Rattle.packet_set.proofs.Digits.{bit-or, bit-and, bit-without, bit-of-zero, shift-marks}
+use Rattle.packet_set.proofs.Digits.{bit-or, bit-and, bit-without, bit-of-zero}
 use Rattle.packet_set.proofs.Words.{length-with, member-with}
 use Rattle.spans.specs.Spans.{slot, Spanned, Rewritten, Hull, Holds, TellsMember, Left, Noted}
 use Rattle.spans.proofs.Rewriting.{Doing, none-done, one-done, all-done, Any, none-seen, one-seen, all-seen, all-zero}
@@ -51,11 +51,6 @@ one-packet γ l = record {
 
 pub no-packet : (from : ℕ) → Spanned from 0 emptySet
 no-packet from = record { wide = unfold emptySet in length-replicate {A = ℕ} 32 0; within = omega arith; outside = λ i o. empty-word i }
-
--- the store that marks packet γ
-pub stored-packet : (set : List ℕ) (γ : ℕ) → L.set set (γ / 32) (bitOr (getD set (γ / 32) 0) (1 * 2 ^ (γ % 32) % 2 ^ 32)) ≡ withPacket set γ
-unfolding withPacket
-stored-packet set γ = ap (L.set set (γ / 32)) (shift-marks 32 (getD set (γ / 32) 0) (γ % 32) (omega arith))
 
 module _ (from to : ℕ) (set : List ℕ) (s : Spanned from to set) where
   pub below-span : (j : ℕ) → j < from → getD set j 0 ≡ 0

@@ -5,10 +5,11 @@ ghost use mathlib.Core.Path.{_≡_};
 ghost use mathlib.Core.Bool.{false, _&&_, _||_};
 ghost use lib.Dec.{T, ltb};
 ghost use lib.ListN.{length};
-ghost use Rattle.packet_set.specs.Bits.{bit};
+ghost use Rattle.packet_set.specs.Bits.{maskBits, bit};
 ghost use Rattle.packet_set.specs.InnerMembers.{member, emptySet, withPacket};
 ghost use Rattle.spans.specs.Spans.{slot, Spanned, Rewritten, clearedWord, markedEntry, Hull, Holds, TellsMember, Left, Noted, GotMark, Unseen};
 use packet_set::Lowest;
+use packet_set::Mask;
 use packet_set::PacketWords;
 
 // The words `from` to `to` - 1 of a set; its other words are 0.
@@ -122,9 +123,15 @@ pub fn note(
     any_bit(any)
 }
 
+fn wide(word: u32) -> Mask
+    ensures { λ r. ⌜ r ≡ word ⌝ }
+{
+    word as Mask
+}
+
 // Inner. The packets of word i of a set get the mark.
-fn mark_word(next: &mut [u32; 1056], label: u32, i: usize, word: u32)
-    requires { ⌜ (label < 32) × (i < 32) × (length (now next) ≡ 1056) ⌝ }
+fn mark_word(next: &mut [Mask; 1056], label: u32, i: usize, word: u32)
+    requires { ⌜ (label < maskBits) × (i < 32) × (length (now next) ≡ 1056) ⌝ }
     ensures { λ _. ⌜ Rewritten (markedEntry (now (next .entry)) label i word) (now (next .entry)) (now (next .exit)) ⌝ }
 {
     let start = 32 * i;
@@ -137,15 +144,15 @@ fn mark_word(next: &mut [u32; 1056], label: u32, i: usize, word: u32)
 }
 
 // Inner. Each packet of the set gets the mark.
-pub fn mark(next: &mut [u32; 1056], label: u32, span: Span, set: &PacketWords)
-    requires { ⌜ (label < 32) × (length (now next) ≡ 1056) × Spanned (span .from) (span .to) (now set) ⌝ }
+pub fn mark(next: &mut [Mask; 1056], label: u32, span: Span, set: &PacketWords)
+    requires { ⌜ (label < maskBits) × (length (now next) ≡ 1056) × Spanned (span .from) (span .to) (now set) ⌝ }
     ensures { λ _. ⌜ GotMark label (now (set .entry)) (now (next .entry)) (now (next .exit)) ⌝ }
 {
     let to = span.to;
     let mut i = span.from;
     while i < to {
         let word = set[i];
-        next[1024 + i] = next[1024 + i] | word;
+        next[1024 + i] = next[1024 + i] | wide(word);
         mark_word(next, label, i, word);
         i += 1;
     }

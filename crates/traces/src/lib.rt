@@ -55,7 +55,7 @@ fn follows(
     ensures { λ r. ⌜ LoadedFollowed (now (sizes .entry)) (now (nodes .entry)) (now (tests .entry)) entering (now (trace .entry)) (now (work .entry)) r (now (work .exit)) ⌝ }
 {
     let words = packet_set::words_for(count as usize);
-    let mut next = [0u32; 1056];
+    let mut next = [0; 1056];
     let mut state = 1;
     let mut packet = entering;
     let mut i = 0;
@@ -101,7 +101,7 @@ fn has_trace(
     requires { ⌜ FollowReady (now sizes) (asLists (now kind) (now first) (now second)) count entering (now trace) (now work) ⌝ }
     ensures { λ r. ⌜ Followed (now (sizes .entry)) (policyAtEntry kind first second) entering (now (trace .entry)) (now (work .entry)) r (now (work .exit)) ⌝ }
 {
-    let mut nodes = [0u64; 544];
+    let mut nodes = [0u64; 576];
     let mut tests = [0u32; 8224];
     loaded::load(sizes, count, kind, first, second, &mut nodes, &mut tests);
     follows(sizes, count, &nodes, &tests, entering, trace, work)

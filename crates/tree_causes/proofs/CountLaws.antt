@@ -210,7 +210,7 @@ weight-small {k} {w} h = omega (arith, h .each 0 0, one-most (isDup (nodeOf k 0 
 
 -- the dups of the first i nodes, which are not too many
 pub record DupsSoFar (kind : List ℕ) (d i : ℕ) : Type 0 where
-  pub few : d ≤ 31
+  pub few : d ≤ maxDups
   pub count : (first second : List ℕ) → d ≡ dupsBelow (asLists kind first second) i
   pub place : (first second : List ℕ) → lowest (tooManyDups (asLists kind first second)) i ≡ none
 
@@ -224,18 +224,18 @@ module _ (kind : List ℕ) where
     unfolding dupsBelow nodeAt
     count-next f s = ap₂ (λ (m n : ℕ). m + n) (so-far .count f s) (weight .each (getD f i 0) (getD s i 0))
 
-    pub dups-next : d + w ≤ 31 → DupsSoFar kind (d + w) (suc i)
-    unfolding tooManyDups maxDups
+    pub dups-next : d + w ≤ maxDups → DupsSoFar kind (d + w) (suc i)
+    unfolding tooManyDups
     dups-next h = record {
       few = h;
       count = count-next;
-      place = λ f s. lowest-more (tooManyDups (asLists kind f s)) i (so-far .place f s) (le-ltb 31 _ (subst (λ (m : ℕ). m ≤ 31) (count-next f s) h));
+      place = λ f s. lowest-more (tooManyDups (asLists kind f s)) i (so-far .place f s) (le-ltb maxDups _ (subst (λ (m : ℕ). m ≤ maxDups) (count-next f s) h));
     }
 
-    pub dups-over : 31 < d + w → i < length kind → DupCountOf kind record { count = d + w; extra = At i }
-    unfolding tooManyDups maxDups
+    pub dups-over : maxDups < d + w → i < length kind → DupCountOf kind record { count = d + w; extra = At i }
+    unfolding tooManyDups
     dups-over h l = record {
-      place = λ f s. sym (lowest-found (tooManyDups (asLists kind f s)) i (length kind) (so-far .place f s) (lt-ltb 31 _ (subst (λ (m : ℕ). 31 < m) (count-next f s) h)) l);
+      place = λ f s. sym (lowest-found (tooManyDups (asLists kind f s)) i (length kind) (so-far .place f s) (lt-ltb maxDups _ (subst (λ (m : ℕ). maxDups < m) (count-next f s) h)) l);
       count = λ e f s. absurd (some≢none e);
     }
       where

@@ -143,7 +143,7 @@ pub fn dups(kind: &[u8]) -> DupCount
     let mut i = 0;
     while i < kind.len() {
         count += dup_weight(kind[i]);
-        if 31 < count {
+        if 63 < count {
             return DupCount {
                 count,
                 extra: Place::At(i as u64),

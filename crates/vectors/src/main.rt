@@ -5,9 +5,9 @@
 // A call is its number (0 values, 1 number, 2 policy, 3 read, 4 search, 5 evidence, 6 trace, 7 search on texts, 8 policies), then
 // what it takes, in the order of include/netkat.h. A list that the call may write is its length; each entry is 7 before the call. A
 // list that it only reads is the number of its parts, and for each part how often it stands there, at least once, how many
-// entries it has, at least one, and these. An entry of 32 bits is its upper and its lower half.
+// entries it has, at least one, and these. An entry of 64 bits is its four quarters, the highest first.
 use harness::Built;
-use harness::Scanned;
+use harness::ScannedMask;
 ghost use mathlib.Core.Path.{_≡_};
 ghost use Prim.Native.Nat.{_≤_};
 ghost use lib.ListN.{length};
@@ -22,7 +22,7 @@ struct Place {
     left: u32,
     at: usize,
     more: bool,
-    entry: u32,
+    entry: u64,
 }
 
 fn less(n: u32) -> u32 {
@@ -46,16 +46,15 @@ fn list_at(input: &[u8], from: usize) -> Place {
     }
 }
 
-fn entry(input: &[u8], from: usize, wide: bool) -> Scanned {
-    let upper = harness::scan(input, from);
+fn entry(input: &[u8], from: usize, wide: bool) -> ScannedMask {
     if wide {
-        let lower = harness::scan(input, upper.at);
-        return Scanned {
-            value: upper.value % 65536 * 65536 + lower.value % 65536,
-            at: lower.at,
-        };
+        return harness::scan_mask(input, from);
     }
-    upper
+    let s = harness::scan(input, from);
+    ScannedMask {
+        value: harness::wide32(s.value),
+        at: s.at,
+    }
 }
 
 // With the next entry read, at a place where entries of the turn are left.
@@ -140,7 +139,7 @@ fn fill16(input: &[u8], from: usize, list: &mut [u16]) -> Built
     Built { len: i, at: p.at }
 }
 
-fn fill32(input: &[u8], from: usize, list: &mut [u32]) -> Built
+fn fill64(input: &[u8], from: usize, list: &mut [u64]) -> Built
     ensures { λ r. ⌜ r .len ≤ length (now (list .exit)) ⌝ }
 {
     let mut p = list_at(input, from);
@@ -200,6 +199,19 @@ fn sum32(list: &[u32; 66000], count: usize) {
     let mut i: usize = 0;
     while i < n {
         sum = added(sum, harness::wide32(list[i]));
+        i += 1;
+    }
+    show_sum(sum);
+}
+
+// The sum over the halves of the first entries, the upper half first.
+fn sum64(list: &[u64; 66000], count: usize) {
+    let n = harness::least(count, 66000);
+    let mut sum: u64 = 1;
+    let mut i: usize = 0;
+    while i < n {
+        let x = list[i];
+        sum = added(added(sum, x / 4294967296), x);
         i += 1;
     }
     show_sum(sum);
@@ -313,9 +325,9 @@ fn search(
     let p = harness::lent(input, from, 66000);
     let mut packet = [7u16; 66000];
     let l = harness::lent(input, p.at, 66000);
-    let mut left = [7u32; 66000];
+    let mut left = [7u64; 66000];
     let r = harness::lent(input, l.at, 66000);
-    let mut right = [7u32; 66000];
+    let mut right = [7u64; 66000];
     let q = harness::lent(input, r.at, 66000);
     let mut parent = [7u16; 66000];
     let t = harness::lent(input, q.at, 66000);
@@ -347,8 +359,8 @@ fn search(
     );
     show(&answer);
     sum16(&packet, pn);
-    sum32(&left, ln);
-    sum32(&right, rn);
+    sum64(&left, ln);
+    sum64(&right, rn);
     sum16(&parent, qn);
     sum16(&trace, tn);
     sum32(&work, wn);
@@ -368,10 +380,10 @@ fn evidence(
 ) -> usize {
     let mut packet = [0u16; 66000];
     let p = fill16(input, from, &mut packet);
-    let mut left = [0u32; 66000];
-    let l = fill32(input, p.at, &mut left);
-    let mut right = [0u32; 66000];
-    let r = fill32(input, l.at, &mut right);
+    let mut left = [0u64; 66000];
+    let l = fill64(input, p.at, &mut left);
+    let mut right = [0u64; 66000];
+    let r = fill64(input, l.at, &mut right);
     let w = harness::lent(input, r.at, 66000);
     let mut work = [7u32; 66000];
     let pn = p.len;
@@ -445,9 +457,9 @@ fn texts_read(
     let p = harness::lent(input, from, 66000);
     let mut packet = [7u16; 66000];
     let l = harness::lent(input, p.at, 66000);
-    let mut left = [7u32; 66000];
+    let mut left = [7u64; 66000];
     let r = harness::lent(input, l.at, 66000);
-    let mut right = [7u32; 66000];
+    let mut right = [7u64; 66000];
     let q = harness::lent(input, r.at, 66000);
     let mut parent = [7u16; 66000];
     let t = harness::lent(input, q.at, 66000);
@@ -475,8 +487,8 @@ fn texts_read(
     );
     show(&answer);
     sum16(&packet, pn);
-    sum32(&left, ln);
-    sum32(&right, rn);
+    sum64(&left, ln);
+    sum64(&right, rn);
     sum16(&parent, qn);
     sum16(&trace, tn);
     sum32(&work, wn);

@@ -1,5 +1,6 @@
 //! Holds the verified library against the second implementation: the same calls on the same lists, then the eight numbers
-//! and everything that the lists hold are compared. The same for the built program: the same input, then the output bytes.
+//! and everything that the lists hold are compared. A table is checked as three lists and as records, which must agree too. The
+//! same for the built program: the same input, then the output bytes.
 //!
 //! `differential [--seed SEED] [--seconds SECONDS] [--cases COUNT]` runs the fixed cases, the pairs that cost much, then
 //! random cases until their time or count is up. Case i is made from the seed SEED + i, so that `--seed` with the number printed and
@@ -15,8 +16,9 @@ use std::time::{Duration, Instant, SystemTime, UNIX_EPOCH};
 use differential::program::Program;
 use netkat::lists::Numbers;
 use netkat_reference::case::Case;
+use netkat_reference::generate::heavy::{self, Pair};
 use netkat_reference::generate::lent::fill;
-use netkat_reference::generate::{case, fixed, heavy, Extent};
+use netkat_reference::generate::{case, fixed, Extent};
 use netkat_reference::policy::MOST_NODES;
 use netkat_reference::program;
 use netkat_reference::random::Random;
@@ -99,6 +101,24 @@ impl Tally {
         if let Some(tested) = before.tested() {
             self.compare_call(origin, &tested);
         }
+        if let Some(other) = before.lent_otherwise() {
+            self.compare_call(origin, &other);
+            self.compare_lending(origin, before, &other);
+        }
+    }
+
+    /// One table lent in two ways: the library's answer and its work list are the same.
+    fn compare_lending(&mut self, origin: &str, one: &Case, other: &Case) {
+        let [one_way, other_way] = [one, other].map(|case| {
+            let mut case = case.clone();
+            let answer = differential::run(&mut case);
+            (answer, case.checksums())
+        });
+        if one_way != other_way {
+            let said = format!("library {one_way:x?}");
+            let otherwise = format!("{other_way:x?} as {}", other.name());
+            self.differ(origin, one, &said, &otherwise);
+        }
     }
 
     fn compare_call(&mut self, origin: &str, before: &Case) {
@@ -157,31 +177,63 @@ impl Tally {
     }
 }
 
-/// The pairs that cost much, with lists of full length, and the same as inputs of the program.
+/// The pairs that cost much, with lists of full length, and the same as inputs of the program; of those with many dups the
+/// tables, too.
 fn heavy_cases() -> Vec<Case> {
     let mut cases = Vec::new();
     for pair in heavy::pairs() {
-        let sizes: Vec<String> = pair.sizes.iter().map(u16::to_string).collect();
-        let input = format!("{}\n{}\n{}\n", sizes.join(","), pair.left, pair.right);
         cases.push(Case::Program {
-            input: input.into_bytes(),
+            input: pair.input().into_bytes(),
             output: Vec::new(),
         });
-        let left = text::nodes(pair.left.as_bytes(), MOST_NODES);
-        let right = text::nodes(pair.right.as_bytes(), MOST_NODES);
-        if let (Ok(left), Ok(right)) = (left, right) {
-            cases.push(Case::Search {
-                sizes: pair.sizes,
-                left,
-                right,
-                lists: Lists::new(MOST_ROWS, MOST_ROWS, LEAST_WORK),
-            });
-        }
+        cases.extend(searched(&pair));
+    }
+    for pair in heavy::wide() {
+        cases.extend(searched(&pair).and_then(table));
     }
     for (at, case) in cases.iter_mut().enumerate() {
         fill(case, at);
     }
     cases
+}
+
+/// The search of a pair.
+fn searched(pair: &Pair) -> Option<Case> {
+    let nodes = |text: &str| text::nodes(text.as_bytes(), MOST_NODES).ok();
+    Some(Case::Search {
+        sizes: pair.sizes.clone(),
+        left: nodes(&pair.left)?,
+        right: nodes(&pair.right)?,
+        lists: Lists::new(MOST_ROWS, MOST_ROWS, LEAST_WORK),
+    })
+}
+
+/// The check of the table that a search leaves, if its policies are equal.
+fn table(mut search: Case) -> Option<Case> {
+    let rows = match search.run() {
+        [0, rows, ..] => rows as usize,
+        _ => return None,
+    };
+    match search {
+        Case::Search {
+            sizes,
+            left,
+            right,
+            mut lists,
+        } => {
+            lists.packet.truncate(rows);
+            lists.left.truncate(rows);
+            lists.right.truncate(rows);
+            (lists.parent, lists.trace) = (Vec::new(), Vec::new());
+            Some(Case::Evidence {
+                sizes,
+                left,
+                right,
+                lists,
+            })
+        }
+        _ => None,
+    }
 }
 
 fn compare_all(options: &Options, program: Program) -> Tally {

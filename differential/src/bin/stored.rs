@@ -1,9 +1,15 @@
-//! The calls of crate `vectors` and what it must write of them.
+//! Stored calls of the C interface, and what must be written of each.
 //!
-//! The files `stdin` and `stdout` have two parts. The first is worked out by scripts (`tools/vectors.py`), the second here, by
-//! the second implementation. `stored FOLDER` writes the second part; `stored FOLDER --check` compares it with what is stored,
-//! and holds the scripts' answers to the second implementation. The format is described at the top of
-//! `crates/vectors/src/main.rt`.
+//! There are two folders. `crates/vectors` has the calls 0 to 8, which the program `vectors` runs. `differential/records` has the call 9,
+//! evidence by records, which that program does not know: it is run through the library here.
+//!
+//! The files `stdin` and `stdout` of a folder have two parts. The first is worked out by scripts (`tools/vectors.py`), the
+//! second here, by the second implementation. `stored FOLDER` writes the second part; `stored FOLDER --check` compares it with
+//! what is stored, and holds the scripts' answers to the second implementation; in `differential/records` it holds all answers and sums to
+//! the library too.
+//!
+//! The format is described at the top of `crates/vectors/src/main.rt`. The call 9 takes what the call 5 takes, but one list of records
+//! instead of three lists. A record is ten numbers: its packet, the four quarters of its left and of its right state, its parent.
 
 use std::env;
 use std::fmt::Write;
@@ -12,7 +18,9 @@ use std::path::Path;
 use std::process::ExitCode;
 use std::str::SplitAsciiWhitespace;
 
+use netkat::lists::Numbers as Answer;
 use netkat_reference::case::Case;
+use netkat_reference::evidence::Record;
 use netkat_reference::generate::{case, fixed, Extent};
 use netkat_reference::policy::OwnedLists;
 use netkat_reference::random::Random;
@@ -35,10 +43,19 @@ const MOST_TEXT: usize = 8192;
 const MOST_ROWS: usize = 66_000;
 const MOST_WORK: usize = 20_000;
 
-/// An entry of a list: one number, or two where it has 32 bits.
-trait Entry: Copy + PartialEq + From<u8> + Into<u64> {
+/// An entry of a list: one number, or four where it has 64 bits; a record is the numbers of its fields.
+trait Entry: Copy + PartialEq {
     fn print(self, out: &mut Numbers);
     fn parse(given: &mut Given) -> Option<Self>;
+}
+
+/// An entry of a list that a call may write.
+trait Written: Copy {
+    /// Before the call.
+    const BEFORE: Self;
+
+    /// The sum that goes on with this entry.
+    fn added(self, sum: u64) -> u64;
 }
 
 impl Entry for u8 {
@@ -61,15 +78,72 @@ impl Entry for u16 {
     }
 }
 
-impl Entry for u32 {
+impl Entry for u64 {
     fn print(self, out: &mut Numbers) {
-        out.number(self >> 16);
-        out.number(self & 0xffff);
+        for quarter in [48, 32, 16, 0] {
+            out.number((self >> quarter) as u32 & 0xffff);
+        }
     }
 
-    fn parse(given: &mut Given) -> Option<u32> {
-        let (upper, lower) = (u16::parse(given)?, u16::parse(given)?);
-        Some(u32::from(upper) << 16 | u32::from(lower))
+    fn parse(given: &mut Given) -> Option<u64> {
+        (0..4).try_fold(0, |upper, _| {
+            Some(upper << 16 | u64::from(u16::parse(given)?))
+        })
+    }
+}
+
+impl Entry for Record {
+    fn print(self, out: &mut Numbers) {
+        self.packet.print(out);
+        self.left.print(out);
+        self.right.print(out);
+        self.parent.print(out);
+    }
+
+    fn parse(given: &mut Given) -> Option<Record> {
+        Some(Record {
+            packet: u16::parse(given)?,
+            left: u64::parse(given)?,
+            right: u64::parse(given)?,
+            parent: u16::parse(given)?,
+        })
+    }
+}
+
+fn added(sum: u64, number: u32) -> u64 {
+    (sum * 65_599 + u64::from(number)) % 4_294_967_291
+}
+
+impl Written for u8 {
+    const BEFORE: u8 = BEFORE;
+
+    fn added(self, sum: u64) -> u64 {
+        added(sum, self.into())
+    }
+}
+
+impl Written for u16 {
+    const BEFORE: u16 = BEFORE as u16;
+
+    fn added(self, sum: u64) -> u64 {
+        added(sum, self.into())
+    }
+}
+
+impl Written for u32 {
+    const BEFORE: u32 = BEFORE as u32;
+
+    fn added(self, sum: u64) -> u64 {
+        added(sum, self)
+    }
+}
+
+impl Written for u64 {
+    const BEFORE: u64 = BEFORE as u64;
+
+    /// By its upper and its lower half.
+    fn added(self, sum: u64) -> u64 {
+        added(added(sum, (self >> 32) as u32), self as u32)
     }
 }
 
@@ -103,8 +177,8 @@ impl Numbers {
     }
 
     /// A list that may be written: its length.
-    fn lent<T: Entry>(&mut self, list: &mut [T], most: usize) -> Option<()> {
-        list.fill(BEFORE.into());
+    fn lent<T: Written>(&mut self, list: &mut [T], most: usize) -> Option<()> {
+        list.fill(T::BEFORE);
         self.number(list.len() as u32);
         (list.len() <= most).then_some(())
     }
@@ -189,6 +263,17 @@ impl Numbers {
                 self.list(&lists.right, MOST_ROWS)?;
                 self.lent(&mut lists.work, MOST_WORK)
             }
+            Case::Records {
+                sizes,
+                left,
+                right,
+                rows,
+                work,
+            } => {
+                self.pair(9, sizes, left, right)?;
+                self.list(rows, MOST_ROWS)?;
+                self.lent(work, MOST_WORK)
+            }
             Case::Trace {
                 sizes,
                 left,
@@ -237,8 +322,8 @@ impl Given<'_> {
         Some(list)
     }
 
-    fn lent<T: Entry>(&mut self) -> Option<Vec<T>> {
-        Some(vec![BEFORE.into(); self.number()? as usize])
+    fn lent<T: Written>(&mut self) -> Option<Vec<T>> {
+        Some(vec![T::BEFORE; self.number()? as usize])
     }
 
     fn nodes(&mut self) -> Option<OwnedLists> {
@@ -321,15 +406,21 @@ impl Given<'_> {
                 left: self.nodes()?,
                 right: self.nodes()?,
             },
+            9 => Case::Records {
+                sizes: self.list()?,
+                left: self.nodes()?,
+                right: self.nodes()?,
+                rows: self.list()?,
+                work: self.lent()?,
+            },
             _ => return None,
         };
         self.0.next().is_none().then_some(case)
     }
 }
 
-fn sum<T: Copy + Into<u64>>(list: &[T]) -> u64 {
-    list.iter()
-        .fold(1, |sum, &x| (sum * 65_599 + x.into()) % 4_294_967_291)
+fn sum<T: Written>(list: &[T]) -> u64 {
+    list.iter().fold(1, |sum, entry| entry.added(sum))
 }
 
 /// The sums of the lists that a call may write.
@@ -346,19 +437,19 @@ fn sums(case: &Case) -> Vec<u64> {
             sum(&lists.work),
         ],
         Case::Evidence { lists, .. } => vec![sum(&lists.work)],
-        Case::Trace { work, .. } => vec![sum(work)],
+        Case::Records { work, .. } | Case::Trace { work, .. } => vec![sum(work)],
         _ => Vec::new(),
     }
 }
 
-/// What the program writes of a case: the eight numbers, then the sums.
-fn line(mut case: Case) -> String {
-    let answer = case.run();
+/// What is written of a case: the eight numbers, then the sums.
+fn line(mut case: Case, run: fn(&mut Case) -> Answer) -> String {
+    let answer = run(&mut case);
     let numbers = answer.into_iter().chain(sums(&case));
     numbers.map(|number| format!(" {number}")).collect()
 }
 
-/// What the program is given, and what it must write.
+/// The calls, and what must be written of them.
 struct Stored {
     given: String,
     expected: String,
@@ -379,44 +470,63 @@ impl Stored {
         numbers.0.pop();
         self.given.push_str(&numbers.0);
         self.given.push('\n');
-        self.expected.push_str(&line(case));
+        self.expected.push_str(&line(case, Case::run));
         self.expected.push('\n');
         self.cases += 1;
     }
 }
 
-/// The second part.
-fn worked_out() -> Stored {
+/// Is it the call 9?
+fn of_records(case: &Case) -> bool {
+    matches!(case, Case::Records { .. })
+}
+
+/// The second part: the calls 9, or all others.
+fn worked_out(records: bool) -> Stored {
     let mut stored = Stored {
         given: SECOND.to_string(),
         expected: String::new(),
         cases: 0,
     };
-    for case in fixed::cases() {
-        stored.add(case, BLOCK);
-    }
-    for seed in 0..TRIED {
-        stored.add(case(&mut Random::new(seed), Extent::Small), LONGEST);
+    let random = (0..TRIED).map(|seed| (case(&mut Random::new(seed), Extent::Small), LONGEST));
+    let fixed = fixed::cases().into_iter().map(|case| (case, BLOCK));
+    for (case, longest) in fixed.chain(random) {
+        if of_records(&case) == records {
+            stored.add(case, longest);
+        }
     }
     stored
 }
 
-/// Holds the answers of the first part's calls to the second implementation; says how many.
-fn confirmed(given: &str, answers: &str) -> Result<usize, String> {
-    let calls: Vec<&str> = given
+/// The lines that are calls; the others are blank or begin the second part.
+fn calls(given: &str) -> impl Iterator<Item = &str> {
+    given
         .lines()
-        .filter(|line| !line.trim().is_empty())
-        .collect();
-    if calls.len() != answers.lines().count() || given.len() % BLOCK != 0 {
-        return Err("the first part of stdin does not fit that of stdout".into());
+        .filter(|line| line.starts_with(|first: char| first.is_ascii_digit()))
+}
+
+/// Holds the answers of calls to what a run of them writes; says how many.
+fn confirmed(
+    given: &str,
+    answers: &str,
+    records: bool,
+    run: fn(&mut Case) -> Answer,
+) -> Result<usize, String> {
+    if calls(given).count() != answers.lines().count() {
+        return Err("stdin does not fit stdout".into());
     }
-    for (call, answer) in calls.iter().zip(answers.lines()) {
+    for (call, answer) in calls(given).zip(answers.lines()) {
         let case = Given(call.split_ascii_whitespace()).case();
-        if case.map(line).as_deref() != Some(answer) {
+        let case = case.filter(|case| of_records(case) == records);
+        if case.map(|case| line(case, run)).as_deref() != Some(answer) {
             return Err(format!("not confirmed: {call}"));
         }
     }
-    Ok(calls.len())
+    Ok(answers.lines().count())
+}
+
+fn by_library(case: &mut Case) -> Answer {
+    differential::run(case).expect("a call of the C interface")
 }
 
 fn run(folder: &Path, check: bool) -> Result<String, String> {
@@ -424,16 +534,17 @@ fn run(folder: &Path, check: bool) -> Result<String, String> {
     let read =
         |path: &Path| fs::read_to_string(path).map_err(|e| format!("{}: {e}", path.display()));
     let (given, answers) = (read(&stdin)?, read(&stdout)?);
-    let first = given.find(SECOND).ok_or("stdin has no second part")?;
-    let calls = given[..first]
-        .lines()
-        .filter(|line| !line.trim().is_empty());
+    let records = folder.ends_with("records");
+    let first = given
+        .find(SECOND)
+        .filter(|first| first % BLOCK == 0)
+        .ok_or("stdin has no second part that begins with a block")?;
     let lines: usize = answers
         .split_inclusive('\n')
-        .take(calls.count())
+        .take(calls(&given[..first]).count())
         .map(str::len)
         .sum();
-    let stored = worked_out();
+    let stored = worked_out(records);
     if !check {
         let write = |path: &Path, text: String| {
             fs::write(path, text).map_err(|e| format!("{}: {e}", path.display()))
@@ -443,11 +554,18 @@ fn run(folder: &Path, check: bool) -> Result<String, String> {
     } else if given[first..] != stored.given || answers[lines..] != stored.expected {
         return Err("the second part is not what the second implementation works out".into());
     }
-    let confirmed = confirmed(&given[..first], &answers[..lines])?;
-    Ok(format!(
-        "vectors: {} cases, and {confirmed} of the scripts confirmed",
+    let scripts = confirmed(&given[..first], &answers[..lines], records, Case::run)?;
+    let mut said = format!(
+        "{}: {} cases, and {scripts} of the scripts confirmed",
+        folder.display(),
         stored.cases
-    ))
+    );
+    if records && check {
+        let all = confirmed(&given, &answers, records, by_library)
+            .map_err(|said| format!("by the library {said}"))?;
+        let _ = write!(said, "; the library answers all {all} so");
+    }
+    Ok(said)
 }
 
 fn main() -> ExitCode {

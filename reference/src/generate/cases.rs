@@ -4,10 +4,11 @@ use super::damage;
 use super::lent::entry;
 use super::tree::{self, Tree};
 use crate::answer::{Refusal, Verdict};
-use crate::automaton::{Automaton, Step, START};
+use crate::automaton::{Automaton, State, Step, START};
 use crate::case::Case;
+use crate::evidence::Record;
 use crate::packets::{set, Packets};
-use crate::policy::{self, OwnedLists};
+use crate::policy::{self, OwnedLists, MOST_DUPS, MOST_NODES};
 use crate::random::Random;
 use crate::search::{search, Lists, LEAST_WORK, MOST_ROWS};
 
@@ -158,12 +159,43 @@ fn pair(random: &mut Random, sizes: &[u16], extent: Extent) -> (Tree, Tree) {
         _ => tree::same(random, sizes, &left),
     };
     // Laws may double dups past what is legal; damaged policies are made elsewhere.
-    let fits = right.dups() <= 31 && right.size() <= 512;
-    let right = if fits { right } else { left.clone() };
+    let right = if is_legal(&right) {
+        right
+    } else {
+        left.clone()
+    };
+    let (left, right) = match random.below(9) {
+        0 => {
+            // so that the last dups are often reached
+            let recorded = |policy| tree::sequence(policy, tree::star(Tree::Dup));
+            (wide(random, recorded(left)), wide(random, recorded(right)))
+        }
+        1 => (left, wide(random, right)),
+        _ => (left, right),
+    };
     if random.one_in(2) {
         (left, right)
     } else {
         (right, left)
+    }
+}
+
+fn is_legal(policy: &Tree) -> bool {
+    policy.dups() <= MOST_DUPS && policy.size() <= MOST_NODES
+}
+
+/// A policy with the same traces and 32 to 63 dups, often as many as may be, if it has nodes to spare.
+fn wide(random: &mut Random, policy: Tree) -> Tree {
+    let dups = match random.below(6) {
+        0..=2 => MOST_DUPS,
+        3 => MOST_DUPS - 1,
+        _ => random.between(32, MOST_DUPS),
+    };
+    let widened = tree::widened(random, &policy, dups);
+    if is_legal(&widened) {
+        widened
+    } else {
+        policy
     }
 }
 
@@ -232,16 +264,16 @@ fn read(random: &mut Random) -> Case {
 }
 
 /// What stands in a lent list before: another number at each place, with some at random at the head.
-fn entries(random: &mut Random, length: usize) -> Vec<u32> {
-    let first = random.bits() as u32;
-    let mut entries: Vec<u32> = (0..length).map(|place| entry(first, place)).collect();
+fn entries(random: &mut Random, length: usize) -> Vec<u64> {
+    let first = random.bits();
+    let mut entries: Vec<u64> = (0..length).map(|place| entry(first, place)).collect();
     for entry in entries.iter_mut().take(random.below(6)) {
-        *entry = random.bits() as u32;
+        *entry = random.bits();
     }
     entries
 }
 
-fn narrow(entries: &[u32]) -> Vec<u16> {
+fn narrow(entries: &[u64]) -> Vec<u16> {
     entries.iter().map(|&entry| entry as u16).collect()
 }
 
@@ -253,7 +285,8 @@ fn work(random: &mut Random) -> Vec<u32> {
         2 => LEAST_WORK + random.between(1, 100),
         _ => LEAST_WORK,
     };
-    entries(random, length)
+    let words = entries(random, length);
+    words.iter().map(|&entry| entry as u32).collect()
 }
 
 /// What the search needs for two policies.
@@ -390,7 +423,9 @@ fn other_sizes(random: &mut Random, legal: &[u16], extent: Extent) -> Vec<u16> {
 
 /// Texts of two trees; each may be damaged, have too many dups or nearly so, or negate what is no test.
 fn text_pair(random: &mut Random, sizes: &[u16], left: &Tree, right: &Tree) -> (Vec<u8>, Vec<u8>) {
-    let dups = vec!["dup"; 31 + random.below(2)].join(";").into_bytes();
+    let dups = vec!["dup"; MOST_DUPS + random.below(2)]
+        .join(";")
+        .into_bytes();
     let negated = damage::negated(random, sizes);
     let negated = tree::text(random, &negated);
     let (left, right) = (text(random, left, 10), text(random, right, 10));
@@ -422,6 +457,9 @@ fn evidence(random: &mut Random, extent: Extent) -> Case {
     if random.one_in(2) {
         tamper(random, &mut rows);
     }
+    if random.one_in(3) {
+        return records(random, &legal, left, right, &rows);
+    }
     let mut lists = Lists::new(0, 0, 0);
     for (packet, left, right) in rows {
         lists.packet.push(packet);
@@ -450,8 +488,44 @@ fn evidence(random: &mut Random, extent: Extent) -> Case {
     }
 }
 
+/// A table of records, whose parents are any numbers.
+fn records(
+    random: &mut Random,
+    legal: &[u16],
+    left: OwnedLists,
+    right: OwnedLists,
+    rows: &[Row],
+) -> Case {
+    let mut records: Vec<Record> = rows
+        .iter()
+        .map(|&(packet, left, right)| Record {
+            packet,
+            left,
+            right,
+            parent: random.bits() as u16,
+        })
+        .collect();
+    if random.one_in(40) {
+        let last = Record {
+            left: 1,
+            right: 1,
+            ..Record::default()
+        };
+        records.resize(MOST_ROWS + random.below(3), last);
+    }
+    let work = work(random);
+    let (left, right) = damaged_pair(random, legal, left, right);
+    Case::Records {
+        sizes: sizes(random, legal),
+        left,
+        right,
+        rows: records,
+        work,
+    }
+}
+
 /// Packet, left and right state.
-type Row = (u16, u32, u32);
+type Row = (u16, State, State);
 
 fn row_at(lists: &Lists, row: usize) -> Row {
     (lists.packet[row], lists.left[row], lists.right[row])
@@ -471,11 +545,11 @@ fn harmless(random: &mut Random, rows: &mut Vec<Row>, packets: usize) {
 /// Changes a table so that it may break a rule.
 fn tamper(random: &mut Random, rows: &mut Vec<Row>) {
     let random_row = |random: &mut Random| {
-        let narrow = [0x3u32, 0xf, u32::MAX];
+        let narrow = [0x3, 0xf, u64::MAX, 1 << 63 | 1];
         (
             random.below(6) as u16,
-            random.bits() as u32 & random.pick(&narrow),
-            random.bits() as u32 & random.pick(&narrow),
+            random.bits() & random.pick(&narrow),
+            random.bits() & random.pick(&narrow),
         )
     };
     if rows.is_empty() {
@@ -484,8 +558,8 @@ fn tamper(random: &mut Random, rows: &mut Vec<Row>) {
     }
     let row = random.below(rows.len());
     match random.below(9) {
-        0 => rows[row].1 ^= 1 << random.below(32),
-        1 => rows[row].2 ^= 1 << random.below(6),
+        0 => rows[row].1 ^= 1 << random.below(64),
+        1 => rows[row].2 ^= 1 << random.pick(&[0, 1, 2, 5, 31, 32, 61, 62, 63]),
         2 => rows[row].0 = rows[row].0.wrapping_add(1),
         3 => rows[row].0 = random.bits() as u16,
         4 | 5 => drop(rows.remove(row)),

@@ -109,10 +109,10 @@ fn wrapped(random: &mut Random, sizes: &[u16], policy: Tree) -> Tree {
     }
 }
 
-/// A policy with 32 dups or a few more.
+/// A policy with 64 dups or a few more.
 fn many_dups(random: &mut Random, sizes: &[u16]) -> Tree {
     let mut policy = tree(random, sizes, 8, 0);
-    for _ in 0..random.between(32, 35) {
+    for _ in 0..random.between(64, 67) {
         let parts = (Box::new(Tree::Dup), Box::new(policy));
         policy = match random.below(4) {
             0 => Tree::Sum(parts.0, parts.1),

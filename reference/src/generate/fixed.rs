@@ -2,8 +2,10 @@
 
 use super::heavy;
 use super::lent::fill;
+use crate::automaton::State;
 use crate::case::Case;
-use crate::policy::{kind, OwnedLists};
+use crate::evidence::Record;
+use crate::policy::{kind, OwnedLists, MOST_DUPS};
 use crate::search::{Lists, LEAST_WORK, MOST_ROWS};
 use crate::text;
 
@@ -22,6 +24,8 @@ pub fn cases() -> Vec<Case> {
     cases.extend(text_edges());
     cases.extend(list_edges());
     cases.extend(tables());
+    cases.extend(wide_tables());
+    cases.extend(record_tables());
     cases.extend(traces());
     cases.extend(large_tables());
     cases.extend(inputs().into_iter().map(program));
@@ -120,8 +124,9 @@ fn policies() -> Vec<Case> {
         nodes(&[(1, 0, 0), (7, 0, 0)]),
         nodes(&[(1, 0, 0), (1, 0, 0), (8, 0, 0)]),
         nodes(&[(5, 0, 0), (1, 0, 0), (5, 0, 0), (6, 2, 1), (7, 3, 0)]),
-        nodes_of(&dups(31, "+")),
         nodes_of(&dups(32, "+")),
+        nodes_of(&dups(MOST_DUPS, "+")),
+        nodes_of(&dups(MOST_DUPS + 1, "+")),
         nodes_of("!dup"),
         nodes(&[(1, 0, 0), (9, 0, 0)]),
         nodes(&[(1, 0, 0), (9, 0, 1)]),
@@ -142,7 +147,7 @@ fn policies() -> Vec<Case> {
         on_one((5, 0, 0), kind::NOT, 512),
         on_one((4, 0, 1), kind::NOT, 500),
         nodes_of("!dup"),
-        nodes_of(&dups(32, ";")),
+        nodes_of(&dups(MOST_DUPS + 1, ";")),
         nodes_of("!f0=0"),
     ];
     let policy = |policy| Case::Policy {
@@ -306,6 +311,8 @@ fn pair(sizes: &[u16], left: &str, right: &str, rows: usize, trace: usize) -> Pa
 }
 
 fn pairs() -> Vec<Pair> {
+    let most = |join| dups(MOST_DUPS, join);
+    let too_many = |join| dups(MOST_DUPS + 1, join);
     vec![
         pair(&[2], "drop", "id", 9, 3),
         pair(&[2], "f0=0;dup", "dup;f0=0", 9, 3),
@@ -325,10 +332,29 @@ fn pairs() -> Vec<Pair> {
         pair(&[2, 2], "id", "drop", 4, 0),
         pair(&[32, 32], "id", "f0=3;f0<-3+f0!=3", 1030, 3),
         pair(&[5, 205], "id", "id", 9, 3),
-        pair(&[2], &dups(31, ";"), &dups(31, ";"), 80, 3),
-        pair(&[2], &dups(32, ";"), "f0=0", 80, 3),
-        pair(&[2], "f0=1", &dups(32, "+"), 80, 3),
-        pair(&[2], &dups(32, ";"), "id;f0=2", 80, 3),
+        pair(&[2], &most(";"), &most(";"), 140, 3),
+        pair(&[2], &most(";"), &most(";"), 127, 3),
+        pair(&[1], &most("+"), "dup", 9, 3),
+        pair(&[3], &dups(32, "+"), &dups(33, "+"), 9, 3),
+        pair(&[1], &dups(62, ";"), &most(";"), 80, 70),
+        pair(&[1], &most(";"), &dups(62, ";"), 80, 62),
+        pair(
+            &[2],
+            &format!("(({});f0<-1)*", most("+")),
+            "(f0<-0;drop;dup+dup;f0<-1)*",
+            9,
+            3,
+        ),
+        pair(
+            &[3],
+            &format!("drop;{};f0<-1+dup*", dups(62, ";")),
+            "id+dup;dup*",
+            20,
+            9,
+        ),
+        pair(&[2], &too_many(";"), "f0=0", 80, 3),
+        pair(&[2], "f0=1", &too_many("+"), 80, 3),
+        pair(&[2], &too_many(";"), "id;f0=2", 80, 3),
         pair(&[2], "f0=2", "f1=0", 9, 3),
         pair(
             &[2],
@@ -373,8 +399,8 @@ fn pairs() -> Vec<Pair> {
         pair(&[2], "id", "!!dup", 9, 3),
         pair(&[2], "!(f0=0+dup)", "!!dup", 9, 3),
         pair(&[2], "!f0<-1", "id", 9, 3),
-        pair(&[2], &dups(32, ";"), "!dup", 80, 3),
-        pair(&[2], "!dup", &dups(32, ";"), 80, 3),
+        pair(&[2], &too_many(";"), "!dup", 80, 3),
+        pair(&[2], "!dup", &too_many(";"), 80, 3),
         pair(&[2], "!dup", "id;f0=2", 9, 3),
     ]
 }
@@ -457,7 +483,7 @@ fn list_edges() -> Vec<Case> {
 }
 
 /// A row.
-type Row = (u16, u32, u32);
+type Row = (u16, State, State);
 
 fn table(left: &str, right: &str, rows: &[Row], work: usize) -> Case {
     let mut lists = Lists::new(0, 0, work);
@@ -501,7 +527,101 @@ fn tables() -> Vec<Case> {
     }
     cases.push(table("dup;!!f0=0", "!f0=0;dup", &rows[..4], LEAST_WORK));
     cases.push(table("id", "!!dup", &rows, LEAST_WORK - 1));
-    cases.push(table("!(f0=0*)", &dups(32, "+"), &rows, LEAST_WORK));
+    let many = dups(MOST_DUPS + 1, "+");
+    cases.push(table("!(f0=0*)", &many, &rows, LEAST_WORK));
+    cases.push(table("id", &many, &rows, LEAST_WORK - 1));
+    cases
+}
+
+/// Tables of policies with as many dups as may be, or one fewer: masks that have only the bits of their policy, or one more.
+fn wide_tables() -> Vec<Case> {
+    const LAST: State = 1 << MOST_DUPS;
+    let starts = [(0, 1, 1), (1, 1, 1)];
+    // every dup is marked at once, and nothing after
+    let all = |dups: usize| State::MAX >> (63 - dups) & !1;
+    let mut cases = Vec::new();
+    for (left, right) in [(63, 63), (63, 62), (62, 63)] {
+        let policies = (dups(left, "+"), dups(right, "+"));
+        let (l, r) = (all(left), all(right));
+        let order = [&starts[..], &[(0, l, r), (1, l, r)]].concat();
+        let mut push = |rows: &[Row]| {
+            cases.push(table(&policies.0, &policies.1, rows, LEAST_WORK));
+        };
+        push(&order);
+        push(&order[..3]);
+        for (left, right) in [
+            (LAST, LAST),
+            (LAST, 1),
+            (LAST, LAST / 2),
+            (LAST / 2, LAST),
+            (State::MAX, State::MAX),
+            (1 << 31, 1 << 32),
+        ] {
+            push(&[&order[..], &[(0, left, right)]].concat());
+        }
+        push(&[&[(1, LAST, LAST)], &order[..]].concat());
+    }
+    // a chain: each bit in its turn, to the last
+    let chain: Vec<Row> = (0..64)
+        .flat_map(|bit| [(0, 1 << bit, 1 << bit), (1, 1 << bit, 1 << bit)])
+        .collect();
+    for (left, right) in [(63, 63), (63, 62)] {
+        for rows in [&chain[..], &chain[..127], &chain[1..], &chain[..64]] {
+            let policies = (dups(left, ";"), dups(right, ";"));
+            cases.push(table(&policies.0, &policies.1, rows, LEAST_WORK));
+        }
+    }
+    cases
+}
+
+fn records(left: &str, right: &str, rows: &[Row], parent: fn(usize) -> u16, work: usize) -> Case {
+    let record = |(number, &(packet, left, right)): (usize, &Row)| Record {
+        packet,
+        left,
+        right,
+        parent: parent(number),
+    };
+    Case::Records {
+        sizes: vec![2],
+        left: nodes_of(left),
+        right: nodes_of(right),
+        rows: rows.iter().enumerate().map(record).collect(),
+        work: vec![0; work],
+    }
+}
+
+/// The tables above lent as records, and the edges of 10.
+fn record_tables() -> Vec<Case> {
+    let tables = tables().into_iter().chain(wide_tables());
+    let mut cases: Vec<Case> = tables.filter_map(|case| case.lent_otherwise()).collect();
+    let rows = [(0, 1, 1), (1, 1, 1), (0, 2, 2), (1, 0, 2)];
+    let parents: [fn(usize) -> u16; 4] =
+        [|_| 65_535, |_| 0, |row| row as u16, |row| 3 - row as u16];
+    let pair = |rows: &[Row], parent, work| records("f0=0;dup", "dup;f0=0", rows, parent, work);
+    for parent in parents {
+        cases.push(pair(&rows, parent, LEAST_WORK));
+        cases.push(pair(&rows[..3], parent, LEAST_WORK));
+    }
+    for work in [0, LEAST_WORK - 1, LEAST_WORK + 9] {
+        cases.push(pair(&rows, parents[0], work));
+    }
+    for count in [MOST_ROWS - 1, MOST_ROWS, MOST_ROWS + 1, MOST_ROWS + 2] {
+        let mut many = rows.to_vec();
+        many.resize(count, rows[3]);
+        cases.push(pair(&many, parents[0], LEAST_WORK));
+        many[count - 1] = (0, 1 << 63, 1);
+        cases.push(pair(&many, parents[0], LEAST_WORK));
+        many[count - 1] = (0, 2, 0);
+        cases.push(pair(&many, parents[1], LEAST_WORK));
+    }
+    // the causes before 10
+    let many = dups(MOST_DUPS + 1, ";");
+    let refused = |left, right| records(left, right, &[(9, 0, State::MAX)], parents[0], 0);
+    cases.extend([
+        refused("!dup", &many),
+        refused(&many, "id"),
+        refused("id", "f0=2"),
+    ]);
     cases
 }
 
@@ -587,8 +707,10 @@ fn inputs() -> Vec<String> {
     .to_vec();
     inputs.push(format!("2\nid\n{}", nested(65)));
     inputs.push(format!("2\nid\nid{}", "*".repeat(512)));
-    inputs.push(format!("2\n{}\nid", dups(32, "+")));
-    inputs.push(format!("2\n{}\n!dup", dups(32, "+")));
+    inputs.push(format!("2\n{}\n{}", dups(MOST_DUPS, "+"), dups(62, "+")));
+    inputs.push(format!("2\n{}\nid", dups(MOST_DUPS + 1, "+")));
+    inputs.push(format!("2\n{}\n!dup", dups(MOST_DUPS + 1, "+")));
+    inputs.push(heavy::long_lines().input());
     inputs.push(format!("2\n{0}id\n{0}drop", negations(511)));
     inputs.push(format!("2\nid\n{}id", negations(513)));
     inputs.push(format!("2\n{}id\nid", negations(32_760)));

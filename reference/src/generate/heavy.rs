@@ -15,6 +15,14 @@ pub struct Pair {
     pub right: String,
 }
 
+impl Pair {
+    /// The program's input that asks of the pair.
+    pub fn input(&self) -> String {
+        let sizes = self.sizes.iter().map(u16::to_string);
+        format!("{}\n{}\n{}\n", joined(",", sizes), self.left, self.right)
+    }
+}
+
 /// All of them. Each is equal, with at most 65,535 rows.
 pub fn pairs() -> Vec<Pair> {
     let mut pairs = combinatorial();
@@ -26,13 +34,25 @@ pub fn pairs() -> Vec<Pair> {
         one_way(),
         full_table(),
         cycles(),
-        many_dups(),
+        many_dups(31),
         many_states(14),
         many_rows(5),
-        own_continuations(),
+        own_continuations(31),
     ]);
     pairs.extend(negations());
+    pairs.extend(wide());
     pairs
+}
+
+/// Policies with 63 dups, or nearly so many.
+pub fn wide() -> Vec<Pair> {
+    vec![
+        many_dups(63),
+        own_continuations(63),
+        wide_cycles(),
+        chain(),
+        long_lines(),
+    ]
 }
 
 /// Policies with negations, against the same with none.
@@ -307,9 +327,25 @@ pub fn cycles() -> Pair {
     in_rounds("cycles", 271, 15, 16)
 }
 
-/// From any packet to any packet with 31 dups.
-pub fn many_dups() -> Pair {
-    let dups = ["dup"; 31].join("+");
+/// The same with 63 dups on the left and 61 on the right: 993 pairs of states at 65 packets.
+pub fn wide_cycles() -> Pair {
+    in_rounds("wide cycles", 65, 32, 31)
+}
+
+/// 63 dups in a row, grouped to the left and to the right, at 1,023 packets: 65,472 rows, each with one mark a side.
+pub fn chain() -> Pair {
+    let grouped = (1..63).fold("dup".to_string(), |rest, _| format!("dup;({rest})"));
+    Pair {
+        name: "chain of 63 dups".to_string(),
+        sizes: vec![1023],
+        left: ["dup"; 63].join(";"),
+        right: grouped.replace("(dup)", "dup"),
+    }
+}
+
+/// From any packet to any packet with so many dups.
+pub fn many_dups(dups: usize) -> Pair {
+    let dups = vec!["dup"; dups].join("+");
     let policy = format!("({};({dups}))*", any(5, 4));
     Pair {
         name: "many dups".to_string(),
@@ -325,14 +361,16 @@ fn window(any: &str, mark: &str, places: usize) -> String {
     format!("({any};dup)*;{any};{mark};dup{step}")
 }
 
-/// 31 dups under one star, each followed by a change or a test of its own; and the summands in reverse order.
-pub fn own_continuations() -> Pair {
+/// So many dups, at most 64, under one star, each followed by a change or a test of its own; and the summands in reverse order.
+pub fn own_continuations(dups: usize) -> Pair {
     let acts = |act: &'static str| {
         (0..5).flat_map(move |field| (0..4).map(move |value| format!("dup;f{field}{act}{value}")))
     };
-    let summands: Vec<String> = acts("<-").chain(acts("!=")).take(31).collect();
+    let both = (0..4).map(|value| format!("dup;f0={value};f1<-{value}"));
+    let summands = acts("<-").chain(acts("!=")).chain(acts("=")).chain(both);
+    let summands: Vec<String> = summands.take(dups).collect();
     Pair {
-        name: "31 dups, each with its continuation".to_string(),
+        name: format!("{dups} dups, each with its continuation"),
         sizes: vec![4; 5],
         left: format!("({})*", joined("+", summands.clone())),
         right: format!("({})*", joined("+", summands.into_iter().rev())),
@@ -347,6 +385,21 @@ pub fn many_states(places: usize) -> Pair {
         sizes: vec![2],
         left: policy.clone(),
         right: policy,
+    }
+}
+
+/// Rows that the program prints in long lines: `dup*` in rounds beside three stars whose dups, the last of 63, are always marked,
+/// so that every state but the first has twenty digits. 813 pairs of states at 5 packets.
+pub fn long_lines() -> Pair {
+    let policy = |dups: usize| {
+        let unreached = vec!["dup"; 63 - 3 - (2 * dups - 1)].join(";");
+        format!("drop;{unreached}+{}+dup*+dup*+dup*", rounds(dups))
+    };
+    Pair {
+        name: "long lines".to_string(),
+        sizes: vec![5],
+        left: policy(29),
+        right: policy(28),
     }
 }
 

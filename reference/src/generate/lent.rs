@@ -5,15 +5,15 @@ use crate::case::Case;
 use crate::random::Random;
 
 /// Odd, so that as many places as an entry has values hold different ones, also where only its lower bits are kept.
-const STEP: u32 = 0x9e37_79b9;
+const STEP: u64 = 0x9e37_79b9_7f4a_7c15;
 
 /// The entry at a place of a list with this first entry.
-pub fn entry(first: u32, place: usize) -> u32 {
-    first.wrapping_add((place as u32).wrapping_mul(STEP))
+pub fn entry(first: u64, place: usize) -> u64 {
+    first.wrapping_add((place as u64).wrapping_mul(STEP))
 }
 
-fn fill_list<T>(random: &mut Random, list: &mut [T], kept: fn(u32) -> T) {
-    let first = random.bits() as u32;
+fn fill_list<T>(random: &mut Random, list: &mut [T], kept: fn(u64) -> T) {
+    let first = random.bits();
     for (place, at) in list.iter_mut().enumerate() {
         *at = kept(entry(first, place));
     }
@@ -23,7 +23,8 @@ fn fill_list<T>(random: &mut Random, list: &mut [T], kept: fn(u32) -> T) {
 pub fn fill(case: &mut Case, number: usize) {
     let random = &mut Random::new(number as u64);
     let narrow = |entry| entry as u16;
-    let wide = |entry| entry;
+    let word = |entry| entry as u32;
+    let state = |entry| entry;
     match case {
         Case::Values { values, .. } => fill_list(random, values, narrow),
         Case::Read { nodes, .. } => {
@@ -33,14 +34,14 @@ pub fn fill(case: &mut Case, number: usize) {
         }
         Case::Search { lists, .. } | Case::Texts { lists, .. } => {
             fill_list(random, &mut lists.packet, narrow);
-            fill_list(random, &mut lists.left, wide);
-            fill_list(random, &mut lists.right, wide);
+            fill_list(random, &mut lists.left, state);
+            fill_list(random, &mut lists.right, state);
             fill_list(random, &mut lists.parent, narrow);
             fill_list(random, &mut lists.trace, narrow);
-            fill_list(random, &mut lists.work, wide);
+            fill_list(random, &mut lists.work, word);
         }
-        Case::Evidence { lists, .. } => fill_list(random, &mut lists.work, wide),
-        Case::Trace { work, .. } => fill_list(random, work, wide),
+        Case::Evidence { lists, .. } => fill_list(random, &mut lists.work, word),
+        Case::Records { work, .. } | Case::Trace { work, .. } => fill_list(random, work, word),
         Case::Number { .. }
         | Case::Policy { .. }
         | Case::Policies { .. }

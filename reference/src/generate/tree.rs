@@ -310,6 +310,43 @@ fn rewritten(random: &mut Random, sizes: &[u16], policy: Tree) -> Tree {
     }
 }
 
+/// A policy with the same traces and so many dups, if it has not more already: dups doubled, and others that nothing reaches.
+pub fn widened(random: &mut Random, policy: &Tree, dups: usize) -> Tree {
+    let mut widened = policy.clone();
+    for _ in policy.dups()..dups {
+        if !random.one_in(20) && double_dup(random, &mut widened) {
+            continue;
+        }
+        let dead = sequence(Tree::Drop, Dup);
+        widened = match random.below(3) {
+            0 => sum(widened, dead),
+            1 => sum(dead, widened),
+            _ => sequence(widened, sum(Id, dead)),
+        };
+    }
+    widened
+}
+
+/// Makes some dup the sum of two; false if there is none.
+fn double_dup(random: &mut Random, policy: &mut Tree) -> bool {
+    match policy {
+        Dup => {
+            *policy = sum(Dup, Dup);
+            true
+        }
+        Sum(one, other) | Sequence(one, other) => {
+            let (first, second) = if random.one_in(2) {
+                (one, other)
+            } else {
+                (other, one)
+            };
+            double_dup(random, first) || double_dup(random, second)
+        }
+        Star(body) => double_dup(random, body),
+        _ => false,
+    }
+}
+
 /// f≠v as the sum of tests for the other values, if they are few.
 fn others(sizes: &[u16], field: u16, value: u16) -> Tree {
     let size = sizes[usize::from(field)];
@@ -497,7 +534,7 @@ mod tests {
         let sizes = [2, 3];
         for _ in 0..2000 {
             let wanted = random.between(1, 40);
-            let policy = tree(&mut random, &sizes, wanted, 31);
+            let policy = tree(&mut random, &sizes, wanted, 63);
             let lists = policy.lists();
             assert_eq!(lists.kind.len(), policy.size());
             assert_eq!(check(&sizes, lists.lists()), Ok(policy.dups()));

@@ -15,7 +15,7 @@ pub struct Outcome {
 
 impl Outcome {
     /// The first rows.
-    pub fn rows(&self, count: usize) -> Vec<(u16, u32, u32)> {
+    pub fn rows(&self, count: usize) -> Vec<(u16, u64, u64)> {
         (0..count)
             .map(|row| {
                 (

@@ -3,6 +3,7 @@ use borrow.Author.Needs.{needs}
 use Prim.Native.Nat.{_-_}
 use mathlib.Core.Path.{_∙_}
 use native.Mathlib.Omega.{arith}
+use Rattle.packet_set.specs.Bits.{maskBits}
 use Rattle.engine.proofs.Stepping.{StepsLists, step-start, step-more, step-end, unsee-asks, follow-asks}
 use Rattle.engine.proofs.step.Statement.{statement}
 use Rattle.engine.proofs.step.Tie as tie
@@ -11,7 +12,7 @@ abbrev Inv-loop : tie.InvT-loop
 Inv-loop nodes tests sizes state packet out₀ next₀ work₀ seen₀ at₀ i₀ out next work seen at i = StepsLists sizes nodes tests state packet out₀ work₀ seen₀ next₀ out work seen next (at .from) (at .to) i
 
 abbrev μ-loop : tie.MeasureT-loop
-μ-loop nodes tests sizes state packet out₀ next₀ work₀ seen₀ at₀ i₀ out next work seen at i = 32 - i
+μ-loop nodes tests sizes state packet out₀ next₀ work₀ seen₀ at₀ i₀ out next work seen at i = maskBits - i
 
 loop-holds : tie.Need-loop-holds Inv-loop μ-loop
 loop-holds c = step-start (c .before .before .pre) (search needs)

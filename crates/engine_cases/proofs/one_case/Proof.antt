@@ -29,11 +29,11 @@ slice-aggregate-scan-list-3 c = search needs
 scan-list-requires-3 : tie.Need-scan-list-requires-3
 scan-list-requires-3 c κs = search needs
 
+scan-mask-requires : tie.Need-scan-mask-requires
+scan-mask-requires c κs = search needs
+
 scan-requires : tie.Need-scan-requires
 scan-requires c κs = search needs
-
-scan-requires-2 : tie.Need-scan-requires-2
-scan-requires-2 c κs = search needs
 
 array-share-prefix-sizes : tie.Need-array-share-prefix-sizes
 array-share-prefix-sizes c = search needs
@@ -80,8 +80,8 @@ one-case-spec =
     scan-list-requires-2
     slice-aggregate-scan-list-3
     scan-list-requires-3
+    scan-mask-requires
     scan-requires
-    scan-requires-2
     array-share-prefix-sizes
     slice-aggregate-step
     array-share-prefix-kind

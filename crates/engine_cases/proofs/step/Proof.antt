@@ -43,7 +43,7 @@ returns-2 c = search needs
 
 load-requires : tie.Need-load-requires
 load-requires c κs = let legal = legal-answer _ _ _ (sym (c .before .before .before .before .before .before .policy-legality .ensures) ∙ c .before .before .before .before .enum-told .given .1) in
-    (legal .0, legal .1, c .before .before .before .packet-count .ensures .counts (legal .2), length-replicate {A = ℕ} 544 0, length-replicate {A = ℕ} 8224 0)
+    (legal .0, legal .1, c .before .before .before .packet-count .ensures .counts (legal .2), length-replicate {A = ℕ} 576 0, length-replicate {A = ℕ} 8224 0)
 
 slice-aggregate-step : tie.Need-slice-aggregate-step
 slice-aggregate-step c = search needs

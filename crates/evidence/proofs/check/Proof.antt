@@ -1,5 +1,5 @@
 -- `evidence::check` meets its contract: the causes in order, then the table. Assumes nothing.
-use Rattle.evidence.proofs.Answering.{refused, lent, table-answered}
+use Rattle.evidence.proofs.Answering.{refused, stray-asks, table-asks, table-answered}
 use borrow.Author.Needs.{needs}
 use Rattle.evidence.proofs.check.Statement.{statement}
 use Rattle.evidence.proofs.check.Tie as tie
@@ -16,17 +16,23 @@ enum-known-tested c = search needs
 enum-told : tie.Need-enum-told
 enum-told c = search needs
 
+wide-requires : tie.Need-wide-requires
+wide-requires c κs = search needs
+
+first-stray-requires : tie.Need-first-stray-requires
+first-stray-requires c κs = stray-asks _ _ _ _ _ _ (c .before .before .before .before .before .before .before .before .before .before .before .before .before .before .before .before .args .work .now) (c .before .before .before .before .evidence-lists .ensures) (c .before .before .before .front .ensures) (c .before .enum-told .given .1) (c .wide .ensures)
+
 table-checked-requires : tie.Need-table-checked-requires
-table-checked-requires c κs = (lent _ _ _ _ _ _ _ (c .before .before .before .before .evidence-lists .ensures) (c .before .before .before .front .ensures) (c .before .enum-told .given .1), (c .before .before .before .front .ensures .left-dups (c .before .enum-told .given .1), c .before .before .before .front .ensures .right-dups (c .before .enum-told .given .1)))
+table-checked-requires c κs = table-asks _ _ _ _ _ _ _ (c .before .before .before .before .before .before .evidence-lists .ensures) (c .before .before .before .before .before .front .ensures) (c .before .before .before .enum-told .given .1) (c .before .before .wide .ensures) (c .before .first-stray .ensures)
 
 returns : tie.Need-returns
 returns c = refused _ _ _ _ _ _ _ (c .before .before .before .before .evidence-lists .ensures) (c .before .before .before .front .ensures) _ (c .before .tested .given .1)
 
 same-length : tie.Need-same-length
-same-length c = c .before .before .table-checked .kept .1 .1 .1 .1 .1 .1 .1 .1 .1 .1 .1 .1 .1 .0
+same-length c = c .before .before .table-checked .kept .1 .1 .1 .1 .1 .1 .1 .1 .1 .1 .1 .1 .0
 
 returns-2 : tie.Need-returns-2
-returns-2 c = table-answered _ _ _ _ _ _ _ (c .before .before .before .before .before .before .before .evidence-lists .ensures) (c .before .before .before .before .before .before .front .ensures) (c .before .before .before .before .enum-told .given .1) _ _ (c .before .before .table-checked .ensures)
+returns-2 c = table-answered _ _ _ _ _ _ _ (c .before .before .before .before .before .before .before .before .before .evidence-lists .ensures) (c .before .before .before .before .before .before .before .before .front .ensures) (c .before .before .before .before .before .before .enum-told .given .1) _ _ (c .before .before .table-checked .ensures)
 
 pub check-spec : {M : Type 1} → statement M
 check-spec =
@@ -36,6 +42,8 @@ check-spec =
     front-requires
     enum-known-tested
     enum-told
+    wide-requires
+    first-stray-requires
     table-checked-requires
     returns
     same-length

@@ -2,10 +2,11 @@
 use borrow.Author.Needs.{needs}
 use mathlib.Core.Path.{_≡_}
 use Prim.Native.Nat.{_≤_, _-_}
+use native.Mathlib.Nat.{mod-lt}
 use native.Mathlib.Omega.{arith}
 use Rattle.index.specs.Columns.{policyCount}
 use Rattle.index.specs.Index.{hashOf}
-use Rattle.index.proofs.Hashing.{hash-below, hash-none, hash-more, hash-all}
+use Rattle.index.proofs.Hashing.{high-half, hash-below, hash-none, hash-more, hash-all}
 use Rattle.index.proofs.hash.Statement.{statement}
 use Rattle.index.proofs.hash.Tie as tie
 
@@ -27,11 +28,11 @@ array-read-wide-mask c = search needs
 wide-mask-requires : tie.Need-wide-mask-requires Inv-loop μ-loop
 wide-mask-requires c κs = search needs
 
-add-h : tie.Need-add-h Inv-loop μ-loop
-add-h c = record { fits = omega (arith, hash-below (c .before .before .loop .k) (c .before .before .before .args .t1)) }
+mix-requires : tie.Need-mix-requires Inv-loop μ-loop
+mix-requires c κs = (rw (c .before .before .loop .inv .1) (hash-below _ _), mod-lt _ (omega arith))
 
-mul-h : tie.Need-mul-h Inv-loop μ-loop
-mul-h c = record { fits = omega (arith, hash-below (c .before .before .loop .k) (c .before .before .before .args .t1)) }
+mix-upper-requires : tie.Need-mix-upper-requires Inv-loop μ-loop
+mix-upper-requires c κs = (c .mix .ensures .1, high-half (c .before .wide-mask .ensures .1))
 
 add-k : tie.Need-add-k Inv-loop μ-loop
 add-k c = search needs
@@ -40,7 +41,10 @@ loop-less : tie.Need-loop-less Inv-loop μ-loop
 loop-less c = search needs
 
 loop-again : tie.Need-loop-again Inv-loop μ-loop
-loop-again c = (search needs, hash-more _ _ _ _ (c .before .before .loop .inv .1) (c .wide-mask .ensures .0))
+loop-again c = (
+  search needs,
+  hash-more _ _ _ _ (c .before .before .before .before .loop .inv .1) (c .before .before .wide-mask .ensures .0) _ _ (c .before .mix .ensures .0) (c .mix-upper .ensures),
+)
 
 returns : tie.Need-returns Inv-loop μ-loop
 returns c = hash-all _ _ _ _ (c .before .loop .inv .0) (c .loop-test .left) (c .before .loop .inv .1)
@@ -55,8 +59,8 @@ hash-spec =
     mul-wide-mask
     array-read-wide-mask
     wide-mask-requires
-    add-h
-    mul-h
+    mix-requires
+    mix-upper-requires
     add-k
     loop-less
     loop-again

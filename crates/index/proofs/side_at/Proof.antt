@@ -10,9 +10,6 @@ mul-wide-mask c = search needs
 array-read-wide-mask : tie.Need-array-read-wide-mask
 array-read-wide-mask c = search needs
 
-cast-wide-mask : tie.Need-cast-wide-mask
-cast-wide-mask c = search needs
-
 shr-wide-mask : tie.Need-shr-wide-mask
 shr-wide-mask c = search needs
 
@@ -28,7 +25,6 @@ side-at-spec =
     (tie.spec
     mul-wide-mask
     array-read-wide-mask
-    cast-wide-mask
     shr-wide-mask
     wide-mask-requires
     returns)

@@ -1,4 +1,4 @@
--- `lent::clear` meets its contract: the first i words are 0. Assumes nothing.
+-- `lent_lists::clear` meets its contract: the first i words are 0. Assumes nothing.
 use borrow.Author.Needs.{needs}
 use Prim.Native.Nat.{_-_}
 use native.Mathlib.Omega.{arith}

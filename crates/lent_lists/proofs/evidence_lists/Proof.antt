@@ -1,4 +1,4 @@
--- `lent::evidence_lists` meets its contract. Assumes nothing.
+-- `lent_lists::evidence_lists` meets its contract. Assumes nothing.
 use Rattle.lent_lists.specs.LentLists.{misfit, rowsMisfit, listsStage}
 use Rattle.lent_lists.proofs.Testing.{another-list, lists-stage}
 use Rattle.lent_lists.proofs.evidence_lists.Statement.{statement}

@@ -1,4 +1,4 @@
--- `lent::lists_tested` meets its contract. Assumes nothing.
+-- `lent_lists::lists_tested` meets its contract. Assumes nothing.
 use mathlib.Core.Bool.{_||_}
 use mathlib.Core.Path.{ap, ap₂, sym}
 use lib.Dec.{ltb}

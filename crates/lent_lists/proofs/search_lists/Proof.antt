@@ -1,4 +1,4 @@
--- `lent::search_lists` meets its contract. Assumes nothing.
+-- `lent_lists::search_lists` meets its contract. Assumes nothing.
 use Rattle.lent_lists.specs.LentLists.{misfit, rowsMisfit, listsStage}
 use Rattle.lent_lists.proofs.Testing.{another-list, lists-stage}
 use Rattle.lent_lists.proofs.search_lists.Statement.{statement}

@@ -1,4 +1,4 @@
--- `lent::unequal` meets its contract. Assumes nothing.
+-- `lent_lists::unequal` meets its contract. Assumes nothing.
 use mathlib.Core.Bool.{_||_, not}
 use mathlib.Core.Path.{ap, sym}
 use borrow.Author.Tests.{eq-eqb, ne-eqb}

@@ -1,4 +1,4 @@
--- `lent::work_list` meets its contract. Assumes nothing.
+-- `lent_lists::work_list` meets its contract. Assumes nothing.
 use borrow.Author.Needs.{needs}
 use Rattle.lent_lists.specs.LentLists.{rowsMisfit, listsStage}
 use Rattle.lent_lists.proofs.work_list.Statement.{statement}

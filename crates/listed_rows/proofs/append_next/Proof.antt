@@ -1,4 +1,4 @@
--- `rows::append_next` meets its contract: a row is appended after another, and packets without marks have none. Assumes nothing.
+-- `listed_rows::append_next` meets its contract: a row is appended after another, and packets without marks have none. Assumes nothing.
 use borrow.Author.Needs.{needs}
 use Prim.Native.Nat.{_≤_, _-_}
 use native.Mathlib.Omega.{arith}

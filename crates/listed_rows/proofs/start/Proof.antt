@@ -1,4 +1,4 @@
--- `rows::start` meets its contract: a starting row is listed after another. Assumes nothing.
+-- `listed_rows::start` meets its contract: a starting row is listed after another. Assumes nothing.
 use borrow.Author.Needs.{needs}
 use Prim.Native.Nat.{_≤_, _-_}
 use native.Mathlib.Omega.{arith}

@@ -33,6 +33,9 @@ mul-set-2 c = search needs
 element-copy-out-set-2 : tie.Need-element-copy-out-set-2 Inv-loop μ-loop
 element-copy-out-set-2 c = search needs
 
+cast-set : tie.Need-cast-set Inv-loop μ-loop
+cast-set c = search needs
+
 mul-set-3 : tie.Need-mul-set-3 Inv-loop μ-loop
 mul-set-3 c = search needs
 
@@ -64,6 +67,7 @@ either-spec =
     add-set-2
     mul-set-2
     element-copy-out-set-2
+    cast-set
     mul-set-3
     array-write-set
     add-i

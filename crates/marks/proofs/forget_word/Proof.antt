@@ -1,7 +1,8 @@
 -- `forget_word` meets its contract: each turn of the loop clears the lowest bit that is left. Assumes nothing.
 use borrow.Author.Needs.{needs}
 use native.Mathlib.Omega.{arith}
-use Rattle.marks.proofs.Clearing.{ForgottenBut, word-begun, word-lowest, word-more, word-done, cleared-less}
+use Rattle.packet_set.proofs.Trailing.{trailing-below, cleared-less}
+use Rattle.marks.proofs.Clearing.{ForgottenBut, word-begun, word-more, word-done}
 use Rattle.marks.proofs.forget_word.Statement.{statement}
 use Rattle.marks.proofs.forget_word.Tie as tie
 
@@ -15,16 +16,16 @@ loop-holds : tie.Need-loop-holds Inv-loop μ-loop
 loop-holds c = word-begun (c .fits .word .fits)
 
 cast-b : tie.Need-cast-b Inv-loop μ-loop
-cast-b c = omega (arith, word-lowest (c .before .loop .inv) (omega arith))
+cast-b c = omega (arith, trailing-below 32 _ (c .before .loop .inv .small) (omega arith))
 
 add-next : tie.Need-add-next Inv-loop μ-loop
-add-next c = omega (arith, word-lowest (c .before .loop .inv) (omega arith))
+add-next c = omega (arith, trailing-below 32 _ (c .before .loop .inv .small) (omega arith))
 
 mul-next : tie.Need-mul-next Inv-loop μ-loop
-mul-next c = omega (arith, word-lowest (c .before .loop .inv) (omega arith), c .before .before .good .0)
+mul-next c = omega (arith, trailing-below 32 _ (c .before .loop .inv .small) (omega arith), c .before .before .good .0)
 
 slice-write-next : tie.Need-slice-write-next Inv-loop μ-loop
-slice-write-next c = omega (arith, word-lowest (c .before .loop .inv) (omega arith))
+slice-write-next c = omega (arith, trailing-below 32 _ (c .before .loop .inv .small) (omega arith))
 
 sub-rest : tie.Need-sub-rest Inv-loop μ-loop
 sub-rest c = search needs

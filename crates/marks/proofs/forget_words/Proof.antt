@@ -1,5 +1,5 @@
 -- `forget_words` meets its contract: each turn of the loop forgets one word. Assumes nothing.
-use Prim.Native.Nat.{_+_, _-_, _≤_}
+use Prim.Native.Nat.{_-_, _≤_}
 use borrow.Author.Needs.{needs}
 use native.Mathlib.Omega.{arith}
 use Rattle.marks.proofs.Clearing.{ForgottenTo, forgotten-none, word-fits, forgotten-more, forgotten-all}
@@ -23,6 +23,9 @@ mul-word c = search needs
 
 slice-read-word : tie.Need-slice-read-word Inv-loop μ-loop
 slice-read-word c = search needs
+
+cast-word : tie.Need-cast-word Inv-loop μ-loop
+cast-word c = search needs
 
 add-next : tie.Need-add-next Inv-loop μ-loop
 add-next c = search needs
@@ -52,7 +55,7 @@ same-length : tie.Need-same-length Inv-loop μ-loop
 same-length c = search needs
 
 returns : tie.Need-returns Inv-loop μ-loop
-returns c = forgotten-all (c .before .before .before .pre .1) (c .before .loop .inv .0) (c .loop-test .left) (λ j. c .before .before .slice-known .given (1024 + j) .fits)
+returns c = forgotten-all (c .before .before .before .pre .1) (c .before .loop .inv .0) (c .loop-test .left)
 
 pub forget-words-spec : {M : Type 1} → statement M
 forget-words-spec =
@@ -64,6 +67,7 @@ forget-words-spec =
     add-word
     mul-word
     slice-read-word
+    cast-word
     add-next
     mul-next
     slice-write-next

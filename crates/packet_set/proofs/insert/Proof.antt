@@ -1,10 +1,5 @@
 -- `insert` meets its contract. Assumes nothing.
-use Prim.Native.Nat.{_/_, _%_}
-use mathlib.Core.Path.{ap}
-use native.Mathlib.Omega.{arith}
-use lib.ListN.{set, getD}
-use Rattle.packet_set.specs.InnerMembers.{withPacket}
-use Rattle.packet_set.proofs.Digits.{shift-marks}
+use Rattle.packet_set.proofs.Words.{stored-packet}
 use borrow.Author.Needs.{needs}
 use Rattle.packet_set.proofs.insert.Statement.{statement}
 use Rattle.packet_set.proofs.insert.Tie as tie
@@ -28,10 +23,7 @@ element-write-set : tie.Need-element-write-set
 element-write-set c = search needs
 
 returns : tie.Need-returns
-unfolding withPacket
-returns c =
-    let a = c .before .args in
-    ap (set (a .set .now) (a .packet / 32)) (shift-marks 32 (getD (a .set .now) (a .packet / 32) 0) (a .packet % 32) (omega arith))
+returns c = stored-packet _ _
 
 pub insert-spec : {M : Type 1} → statement M
 insert-spec =

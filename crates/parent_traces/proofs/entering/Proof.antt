@@ -1,4 +1,4 @@
--- `lines::entering` meets its contract: row by row up the line. Assumes nothing.
+-- `parent_traces::entering` meets its contract: row by row up the line. Assumes nothing.
 use borrow.Author.Needs.{needs}
 use native.Mathlib.Omega.{arith}
 use Rattle.parent_traces.proofs.Lines.{Looking, looking-none, looking-more, looking-all, rises}

@@ -1,4 +1,4 @@
--- `lines::trace_length` meets its contract: row by row up the line. Assumes nothing.
+-- `parent_traces::trace_length` meets its contract: row by row up the line. Assumes nothing.
 use borrow.Author.Needs.{needs}
 use native.Mathlib.Omega.{arith}
 use Rattle.parent_traces.proofs.Lines.{Counted, counted-none, counted-more, counted-all, rises}

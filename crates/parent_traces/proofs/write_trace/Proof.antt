@@ -1,4 +1,4 @@
--- `lines::write_trace` meets its contract: the trace is written from its end, row by row up the line. Assumes nothing.
+-- `parent_traces::write_trace` meets its contract: the trace is written from its end, row by row up the line. Assumes nothing.
 use borrow.Author.Needs.{needs}
 use native.Mathlib.Omega.{arith}
 use mathlib.Core.Path.{_∙_}

@@ -1,4 +1,4 @@
--- `output::byte` meets its contract.
+-- `printing::byte` meets its contract.
 use borrow.Author.Needs.{needs}
 use Rattle.printing.proofs.PrintLaws.{wrote-byte}
 use Rattle.printing.proofs.byte.Statement.{statement}

@@ -1,4 +1,4 @@
--- `output::bytes` meets its contract.
+-- `printing::bytes` meets its contract.
 use borrow.Author.Needs.{needs}
 use Prim.Native.Nat.{_-_}
 use native.Mathlib.Omega.{arith}

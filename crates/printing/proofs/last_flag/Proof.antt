@@ -1,4 +1,4 @@
--- `output::last_flag` meets its contract.
+-- `printing::last_flag` meets its contract.
 use borrow.Author.Tests.{eq-eqb, ne-eqb}
 use Rattle.printing.proofs.last_flag.Statement.{statement}
 use Rattle.printing.proofs.last_flag.Tie as tie

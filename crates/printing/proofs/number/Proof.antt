@@ -1,4 +1,4 @@
--- `output::number` meets its contract.
+-- `printing::number` meets its contract.
 use borrow.Author.Needs.{needs}
 use native.Mathlib.Omega.{arith}
 use Rattle.printing.proofs.PrintLaws.{wrote-numeral, numeral-short}

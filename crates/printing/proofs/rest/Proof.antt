@@ -1,4 +1,4 @@
--- `output::rest` meets its contract.
+-- `printing::rest` meets its contract.
 use borrow.Author.Needs.{needs}
 use native.Mathlib.Omega.{arith}
 use Rattle.printing.proofs.PrintLaws.{rest-wrote}

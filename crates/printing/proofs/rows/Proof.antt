@@ -1,6 +1,7 @@
--- `output::rows` meets its contract.
+-- `printing::rows` meets its contract.
 use borrow.Author.Needs.{needs}
 use Prim.Native.Nat.{_-_}
+use mathlib.Core.Path.{refl}
 use native.Mathlib.Omega.{arith}
 use lib.ListN.{length}
 use Rattle.printing.proofs.PrintLaws.{RowsSoFar, rows-none, row-room, rows-more, rows-all}
@@ -25,26 +26,20 @@ shared-slice-read-wide16 c = search needs
 wide16-requires : tie.Need-wide16-requires Inv-loop μ-loop
 wide16-requires c κs = search needs
 
-mul-wide32 : tie.Need-mul-wide32 Inv-loop μ-loop
-mul-wide32 c = search needs
+mul-number-line : tie.Need-mul-number-line Inv-loop μ-loop
+mul-number-line c = search needs
 
-shared-slice-read-wide32 : tie.Need-shared-slice-read-wide32 Inv-loop μ-loop
-shared-slice-read-wide32 c = omega (arith, c .before .before .before .before .before .before .before .before .before .before .pre .0)
+shared-slice-read-number-line : tie.Need-shared-slice-read-number-line Inv-loop μ-loop
+shared-slice-read-number-line c = omega (arith, c .before .before .before .before .before .before .before .before .before .before .pre .0)
 
-wide32-requires : tie.Need-wide32-requires Inv-loop μ-loop
-wide32-requires c κs = search needs
+mul-number-line-2 : tie.Need-mul-number-line-2 Inv-loop μ-loop
+mul-number-line-2 c = search needs
 
-mul-wide32-2 : tie.Need-mul-wide32-2 Inv-loop μ-loop
-mul-wide32-2 c = search needs
-
-shared-slice-read-wide32-2 : tie.Need-shared-slice-read-wide32-2 Inv-loop μ-loop
-shared-slice-read-wide32-2 c = omega (arith, c .before .before .before .before .before .before .before .before .before .before .before .before .pre .1)
-
-wide32-requires-2 : tie.Need-wide32-requires-2 Inv-loop μ-loop
-wide32-requires-2 c κs = search needs
+shared-slice-read-number-line-2 : tie.Need-shared-slice-read-number-line-2 Inv-loop μ-loop
+shared-slice-read-number-line-2 c = omega (arith, c .before .before .before .before .before .before .before .before .before .before .before .pre .1)
 
 number-line-requires : tie.Need-number-line-requires Inv-loop μ-loop
-number-line-requires c κs = row-room (c .before .before .before .before .before .before .before .before .loop .inv) (c .before .before .before .before .before .before .before .loop-test .taken) (c .before .before .before .before .before .before .before .before .before .before .before .before .before .pre .0) (c .before .before .before .before .before .before .before .before .before .before .before .before .before .pre .1) (c .before .before .before .before .before .before .before .before .before .before .before .before .before .pre .2)
+number-line-requires c κs = row-room (c .before .before .before .before .before .before .loop .inv) (c .before .before .before .before .before .loop-test .taken) (c .before .before .before .before .before .before .before .before .before .before .before .pre .0) (c .before .before .before .before .before .before .before .before .before .before .before .pre .1) (c .before .before .before .before .before .before .before .before .before .before .before .pre .2)
 
 add-i : tie.Need-add-i Inv-loop μ-loop
 add-i c = search needs
@@ -53,7 +48,7 @@ loop-less : tie.Need-loop-less Inv-loop μ-loop
 loop-less c = search needs
 
 loop-again : tie.Need-loop-again Inv-loop μ-loop
-loop-again c = rows-more (c .before .before .before .before .before .before .before .before .before .before .before .loop .inv) (c .before .before .before .before .before .before .before .before .before .before .loop-test .taken) (c .before .before .before .before .before .before .before .before .before .before .before .before .before .before .before .before .pre .0) (c .before .before .before .before .before .before .before .before .before .before .before .before .before .before .before .before .pre .1) (c .before .before .before .before .before .before .before .wide16 .ensures .0) (c .before .before .before .before .before .wide32 .ensures .0) (c .before .before .before .wide322 .ensures .0) (c .before .before .before .before .before .before .before .wide16 .ensures .1) (c .before .before .before .before .before .wide32 .ensures .1) (c .before .before .before .wide322 .ensures .1) (c .before .before .before .before .before .before .before .before .before .before .before .before .before .before .before .before .pre .2) (c .before .before .number-line .ensures) (c .before .before .number-line .kept .0)
+loop-again c = rows-more (c .before .before .before .before .before .before .before .before .before .loop .inv) (c .before .before .before .before .before .before .before .before .loop-test .taken) (c .before .before .before .before .before .before .before .before .before .before .before .before .before .before .pre .0) (c .before .before .before .before .before .before .before .before .before .before .before .before .before .before .pre .1) (c .before .before .before .before .before .wide16 .ensures) refl refl (c .before .before .number-line .ensures .1) (c .before .before .before .before .before .before .before .before .before .before .before .before .before .before .pre .2) (c .before .before .number-line .ensures .0) (c .before .before .number-line .kept .0)
 
 same-length : tie.Need-same-length Inv-loop μ-loop
 same-length c = c .before .loop .inv .long
@@ -71,12 +66,10 @@ rows-spec =
     mul-wide16
     shared-slice-read-wide16
     wide16-requires
-    mul-wide32
-    shared-slice-read-wide32
-    wide32-requires
-    mul-wide32-2
-    shared-slice-read-wide32-2
-    wide32-requires-2
+    mul-number-line
+    shared-slice-read-number-line
+    mul-number-line-2
+    shared-slice-read-number-line-2
     number-line-requires
     add-i
     loop-less

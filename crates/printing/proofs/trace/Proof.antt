@@ -1,4 +1,4 @@
--- `output::trace` meets its contract.
+-- `printing::trace` meets its contract.
 use borrow.Author.Needs.{needs}
 use Prim.Native.Nat.{_-_}
 use lib.ListN.{length}
@@ -31,13 +31,13 @@ last-flag-requires : tie.Need-last-flag-requires Inv-loop μ-loop
 last-flag-requires c κs = search needs
 
 number-line-requires : tie.Need-number-line-requires Inv-loop μ-loop
-number-line-requires c κs = trace-room (c .before .before .before .before .before .loop .inv) (c .before .before .before .before .loop-test .taken) (c .before .before .before .before .before .before .before .before .pre .1)
+number-line-requires c κs = trace-room (c .before .before .before .before .before .loop .inv) (c .before .before .before .before .loop-test .taken) (c .before .before .before .before .before .before .before .before .pre)
 
 loop-less : tie.Need-loop-less Inv-loop μ-loop
 loop-less c = search needs
 
 loop-again : tie.Need-loop-again Inv-loop μ-loop
-loop-again c = trace-more (c .before .before .before .before .before .before .before .before .loop .inv) (c .before .before .before .before .before .before .before .loop-test .taken) (c .before .before .before .before .before .wide16 .ensures .0) (c .before .before .before .before .before .wide16 .ensures .1) (c .before .before .before .before .before .before .before .before .before .before .before .pre .0) (c .before .before .before .last-flag .ensures) (c .before .before .before .before .before .before .before .before .before .before .before .pre .1) (c .before .before .number-line .ensures) (c .before .before .number-line .kept .0)
+loop-again c = trace-more (c .before .before .before .before .before .before .before .before .loop .inv) (c .before .before .before .before .before .before .before .loop-test .taken) (c .before .before .before .before .before .wide16 .ensures) (c .before .before .number-line .ensures .1) (c .before .before .before .last-flag .ensures) (c .before .before .before .before .before .before .before .before .before .before .before .pre) (c .before .before .number-line .ensures .0) (c .before .before .number-line .kept .0)
 
 same-length : tie.Need-same-length Inv-loop μ-loop
 same-length c = c .before .loop .inv .long

@@ -1,4 +1,4 @@
--- `output::verdict` meets its contract.
+-- `printing::verdict` meets its contract.
 use borrow.Author.Needs.{needs}
 use native.Mathlib.Omega.{arith}
 use Rattle.printing.specs.ThreeFields.{verdictLine}

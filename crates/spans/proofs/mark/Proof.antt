@@ -30,6 +30,9 @@ mul-next c = search needs
 element-copy-out-next : tie.Need-element-copy-out-next Inv-loop μ-loop
 element-copy-out-next c = search needs
 
+wide-requires : tie.Need-wide-requires Inv-loop μ-loop
+wide-requires c κs = search needs
+
 add-next-2 : tie.Need-add-next-2 Inv-loop μ-loop
 add-next-2 c = search needs
 
@@ -40,7 +43,7 @@ element-write-next : tie.Need-element-write-next Inv-loop μ-loop
 element-write-next c = search needs
 
 mark-word-requires : tie.Need-mark-word-requires Inv-loop μ-loop
-mark-word-requires c κs = let h = c .before .before .before .before .loop .inv .long ∙ c .before .before .before .before .before .pre .1 in search needs
+mark-word-requires c κs = let h = c .before .before .before .before .before .loop .inv .long ∙ c .before .before .before .before .before .before .pre .1 in search needs
 
 add-i : tie.Need-add-i Inv-loop μ-loop
 add-i c = search needs
@@ -49,7 +52,7 @@ loop-less : tie.Need-loop-less Inv-loop μ-loop
 loop-less c = search needs
 
 loop-again : tie.Need-loop-again Inv-loop μ-loop
-loop-again c = spreading-turn _ _ _ _ _ (c .before .before .before .before .before .before .pre .2) _ _ (c .before .before .before .before .before .loop .inv) (c .before .before .before .before .loop-test .taken) (c .before .before .before .before .before .before .pre .1) _ (c .mark-word .ensures)
+loop-again c = spreading-turn _ _ _ _ _ (c .before .before .before .before .before .before .before .pre .2) _ _ (c .before .before .before .before .before .before .loop .inv) (c .before .before .before .before .before .loop-test .taken) (c .before .before .before .before .before .before .before .pre .1) _ (c .before .before .wide .ensures) _ (c .mark-word .ensures)
 
 returns : tie.Need-returns Inv-loop μ-loop
 returns c = spreading-end _ _ _ _ _ (c .before .before .pre .2) _ _ (c .before .loop .inv) (c .loop-test .left)
@@ -66,6 +69,7 @@ mark-spec =
     add-next
     mul-next
     element-copy-out-next
+    wide-requires
     add-next-2
     mul-next-2
     element-write-next

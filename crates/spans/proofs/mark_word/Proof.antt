@@ -2,7 +2,8 @@
 use native.Mathlib.Omega.{arith}
 use borrow.Author.Needs.{needs}
 use lib.Count.{trailing-le}
-use Rattle.spans.proofs.Marks.{Marking, marking-start, marking-turn, marking-end, lowest-small, bits-fall}
+use Rattle.packet_set.proofs.Trailing.{trailing-below, cleared-less}
+use Rattle.spans.proofs.Marks.{Marking, marking-start, marking-turn, marking-end}
 use Rattle.spans.proofs.mark_word.Statement.{statement}
 use Rattle.spans.proofs.mark_word.Tie as tie
 
@@ -28,7 +29,7 @@ mul-mark : tie.Need-mul-mark Inv-loop μ-loop
 mul-mark c = omega (arith, trailing-le 32 (c .before .loop .rest))
 
 element-copy-out-mark : tie.Need-element-copy-out-mark Inv-loop μ-loop
-element-copy-out-mark c = omega (arith, lowest-small _ _ _ _ _ _ (c .before .loop .inv) (omega arith))
+element-copy-out-mark c = omega (arith, trailing-below 32 _ (c .before .loop .inv .small) (omega arith))
 
 mark-requires : tie.Need-mark-requires Inv-loop μ-loop
 mark-requires c κs = search needs
@@ -37,13 +38,13 @@ mul-next : tie.Need-mul-next Inv-loop μ-loop
 mul-next c = omega (arith, trailing-le 32 (c .before .before .before .loop .rest))
 
 element-write-next : tie.Need-element-write-next Inv-loop μ-loop
-element-write-next c = omega (arith, lowest-small _ _ _ _ _ _ (c .before .before .before .loop .inv) (omega arith))
+element-write-next c = omega (arith, trailing-below 32 _ (c .before .before .before .loop .inv .small) (omega arith))
 
 sub-rest : tie.Need-sub-rest Inv-loop μ-loop
 sub-rest c = search needs
 
 loop-less : tie.Need-loop-less Inv-loop μ-loop
-loop-less c = bits-fall _ (omega arith)
+loop-less c = cleared-less _ (omega arith)
 
 loop-again : tie.Need-loop-again Inv-loop μ-loop
 loop-again c = marking-turn _ _ _ _ _ _ (c .before .before .before .loop .inv) (c .before .before .before .before .pre .0) (c .before .before .before .before .pre .1) (c .before .before .before .before .pre .2) (omega arith) _ (c .mark .ensures)

@@ -1,7 +1,8 @@
 -- `note` meets its contract: each turn of the loop takes one more word. Assumes nothing.
 use Prim.Native.Nat.{_-_}
 use borrow.Author.Needs.{needs}
-use Rattle.spans.proofs.Sets.{stored-packet, Noting, noting-start, noting-turn, noting-end}
+use Rattle.packet_set.proofs.Words.{stored-packet}
+use Rattle.spans.proofs.Sets.{Noting, noting-start, noting-turn, noting-end}
 use Rattle.spans.proofs.note.Statement.{statement}
 use Rattle.spans.proofs.note.Tie as tie
 

@@ -7,7 +7,7 @@ use Rattle.traces.proofs.has_trace.Statement.{statement}
 use Rattle.traces.proofs.has_trace.Tie as tie
 
 load-requires : tie.Need-load-requires
-load-requires c κs = (c .before .before .before .before .before .before .before .before .pre .legal-sizes, c .before .before .before .before .before .before .before .before .pre .legal, c .before .before .before .before .before .before .before .before .pre .packets, length-replicate {A = ℕ} 544 0, length-replicate {A = ℕ} 8224 0)
+load-requires c κs = (c .before .before .before .before .before .before .before .before .pre .legal-sizes, c .before .before .before .before .before .before .before .before .pre .legal, c .before .before .before .before .before .before .before .before .pre .packets, length-replicate {A = ℕ} 576 0, length-replicate {A = ℕ} 8224 0)
 
 follows-requires : tie.Need-follows-requires
 follows-requires c κs = record { lists = _; loaded = c .before .before .before .load .ensures; ready = c .before .before .before .before .before .before .before .before .before .before .before .before .pre }

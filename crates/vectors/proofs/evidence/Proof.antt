@@ -11,17 +11,17 @@ slice-aggregate-fill16 c = refl
 fill16-requires : tie.Need-fill16-requires
 fill16-requires c κs = tt
 
-slice-aggregate-fill32 : tie.Need-slice-aggregate-fill32
-slice-aggregate-fill32 c = refl
+slice-aggregate-fill64 : tie.Need-slice-aggregate-fill64
+slice-aggregate-fill64 c = refl
 
-fill32-requires : tie.Need-fill32-requires
-fill32-requires c κs = tt
+fill64-requires : tie.Need-fill64-requires
+fill64-requires c κs = tt
 
-slice-aggregate-fill32-2 : tie.Need-slice-aggregate-fill32-2
-slice-aggregate-fill32-2 c = refl
+slice-aggregate-fill64-2 : tie.Need-slice-aggregate-fill64-2
+slice-aggregate-fill64-2 c = refl
 
-fill32-requires-2 : tie.Need-fill32-requires-2
-fill32-requires-2 c κs = tt
+fill64-requires-2 : tie.Need-fill64-requires-2
+fill64-requires-2 c κs = tt
 
 lent-requires : tie.Need-lent-requires
 lent-requires c κs = tt
@@ -33,16 +33,16 @@ slice-aggregate-netkat-evidence : tie.Need-slice-aggregate-netkat-evidence
 slice-aggregate-netkat-evidence c = sym (length-take-le _ _ (c .before .before .before .before .before .before .before .before .before .fill16 .ensures))
 
 array-share-prefix-left : tie.Need-array-share-prefix-left
-array-share-prefix-left c = c .before .before .before .before .before .before .fill32 .ensures
+array-share-prefix-left c = c .before .before .before .before .before .before .fill64 .ensures
 
 slice-aggregate-netkat-evidence-2 : tie.Need-slice-aggregate-netkat-evidence-2
-slice-aggregate-netkat-evidence-2 c = sym (length-take-le _ _ (c .before .before .before .before .before .before .before .fill32 .ensures))
+slice-aggregate-netkat-evidence-2 c = sym (length-take-le _ _ (c .before .before .before .before .before .before .before .fill64 .ensures))
 
 array-share-prefix-right : tie.Need-array-share-prefix-right
-array-share-prefix-right c = c .before .before .before .before .fill322 .ensures
+array-share-prefix-right c = c .before .before .before .before .fill642 .ensures
 
 slice-aggregate-netkat-evidence-3 : tie.Need-slice-aggregate-netkat-evidence-3
-slice-aggregate-netkat-evidence-3 c = sym (length-take-le _ _ (c .before .before .before .before .before .fill322 .ensures))
+slice-aggregate-netkat-evidence-3 c = sym (length-take-le _ _ (c .before .before .before .before .before .fill642 .ensures))
 
 array-borrow-prefix-work : tie.Need-array-borrow-prefix-work
 array-borrow-prefix-work c = within 66000 7 (c .before .before .before .lent .result .len) (c .before .before .before .lent .ensures)
@@ -68,10 +68,10 @@ evidence-spec =
     (tie.spec
     slice-aggregate-fill16
     fill16-requires
-    slice-aggregate-fill32
-    fill32-requires
-    slice-aggregate-fill32-2
-    fill32-requires-2
+    slice-aggregate-fill64
+    fill64-requires
+    slice-aggregate-fill64-2
+    fill64-requires-2
     lent-requires
     array-share-prefix-packet
     slice-aggregate-netkat-evidence

@@ -66,11 +66,11 @@ show-requires c κs = tt
 sum16-requires : tie.Need-sum16-requires
 sum16-requires c κs = tt
 
-sum32-requires : tie.Need-sum32-requires
-sum32-requires c κs = tt
+sum64-requires : tie.Need-sum64-requires
+sum64-requires c κs = tt
 
-sum32-requires-2 : tie.Need-sum32-requires-2
-sum32-requires-2 c κs = tt
+sum64-requires-2 : tie.Need-sum64-requires-2
+sum64-requires-2 c κs = tt
 
 sum16-requires-2 : tie.Need-sum16-requires-2
 sum16-requires-2 c κs = tt
@@ -78,8 +78,8 @@ sum16-requires-2 c κs = tt
 sum16-requires-3 : tie.Need-sum16-requires-3
 sum16-requires-3 c κs = tt
 
-sum32-requires-3 : tie.Need-sum32-requires-3
-sum32-requires-3 c κs = tt
+sum32-requires : tie.Need-sum32-requires
+sum32-requires c κs = tt
 
 returns : tie.Need-returns
 returns c = tt
@@ -109,9 +109,9 @@ search-spec =
     netkat-search-requires
     show-requires
     sum16-requires
-    sum32-requires
-    sum32-requires-2
+    sum64-requires
+    sum64-requires-2
     sum16-requires-2
     sum16-requires-3
-    sum32-requires-3
+    sum32-requires
     returns)

@@ -1,6 +1,7 @@
 -- `pack_places` meets its contract. Assumes nothing.
 use borrow.Author.Needs.{needs}
 use Prim.Native.Nat.{_-_}
+use Rattle.packet_set.specs.Bits.{maskBits}
 use Rattle.loaded.proofs.Writing.{Listing, listing-start, listing-turn, listing-end}
 use Rattle.loaded.proofs.pack.pack_places.Statement.{statement}
 use Rattle.loaded.proofs.pack.pack_places.Tie as tie
@@ -9,7 +10,7 @@ abbrev Inv-loop : tie.InvT-loop
 Inv-loop places nodes₀ i₀ nodes i = Listing places nodes₀ nodes i
 
 abbrev μ-loop : tie.MeasureT-loop
-μ-loop places nodes₀ i₀ nodes i = 32 - i
+μ-loop places nodes₀ i₀ nodes i = maskBits - i
 
 loop-holds : tie.Need-loop-holds Inv-loop μ-loop
 loop-holds c = listing-start _ _

@@ -1,10 +1,10 @@
--- `vectors::fill32` is safe and ends. Assumes nothing.
+-- `vectors::fill64` is safe and ends. Assumes nothing.
 use borrow.Author.Needs.{needs}
 use Prim.Native.Nat.{_-_, _≤_}
 use mathlib.Core.Path.{_≡_}
 use lib.ListN.{length}
-use Rattle.vectors.proofs.fill32.Statement.{statement}
-use Rattle.vectors.proofs.fill32.Tie as tie
+use Rattle.vectors.proofs.fill64.Statement.{statement}
+use Rattle.vectors.proofs.fill64.Tie as tie
 
 abbrev Inv-loop : tie.InvT-loop
 Inv-loop input from list₀ p₀ i₀ list p i = (length list ≡ length list₀) × (i ≤ length list₀)
@@ -48,8 +48,8 @@ same-length-2 c = search needs
 returns-2 : tie.Need-returns-2 Inv-loop μ-loop
 returns-2 c = search needs
 
-pub fill32-spec : {M : Type 1} → statement M
-fill32-spec =
+pub fill64-spec : {M : Type 1} → statement M
+fill64-spec =
     tie.close
     (tie.spec
     Inv-loop
