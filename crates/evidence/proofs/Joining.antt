@@ -13,7 +13,7 @@ use Rattle.packet.specs.Lowest.{lowest}
 use Rattle.packet.specs.Sizes.{product}
 use Rattle.packet.proofs.Lowest.{lowest-none, lowest-same}
 use Rattle.packet.proofs.Tests.{and-true}
-use Rattle.policy.specs.NodeLists.{NodeLists, nodeCount, dupsBelow}
+use Rattle.policy.specs.NodeLists.{NodeLists}
 use Rattle.automaton.specs.State.{anyBelow}
 use Rattle.system.specs.System.{System, Row}
 use Rattle.system.specs.RowOrder as order

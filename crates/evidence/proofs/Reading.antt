@@ -20,7 +20,6 @@ use Rattle.lent_lists.proofs.Testing.{front-tests, tests-passed, pair-lent, len
 use Rattle.row_rules.specs.declared.Spot.{Spot}
 use Rattle.row_rules.specs.Presence.{spotOf, strays, before}
 use Rattle.row_rules.proofs.Looking.{before-or-end}
-use Rattle.evidence.specs.declared.Bounds.{Bounds}
 use Rattle.evidence.specs.declared.Evidence.{Evidence}
 use Rattle.evidence.specs.declared.Evidence.the-variants.{Refused as NotChecked}
 use Rattle.evidence.specs.InnerSteps.{dupsOf, StrayIs, LentTable, TableChecked, BoundsOf, ReadTable, ReadChecked}

@@ -1,5 +1,4 @@
 -- `row_rules::row_fits` meets its contract. Assumes nothing.
-use borrow.Author.Needs.{needs}
 use mathlib.Core.Path.{_∙_}
 use Rattle.row_rules.proofs.Looking.{packet-over, packet-below}
 use Rattle.row_rules.proofs.row_fits.Statement.{statement}
