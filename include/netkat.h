@@ -29,7 +29,7 @@
  *    4 policy lists unequal, empty, over 512 5 kind over 9: node                6 field, value, unused entry: node
  *    7 child not below parent: parent node   8 not a child exactly once: node   9 more than 63 dups: the 64th
  *   10 row lists unequal, more than NETKAT_ROWS rows, or work list under NETKAT_WORK
- *   11 rows full: rows lent                 12 trace list short: length needed
+ *   11 rows full: rows lent; answer[4] is d 12 trace list short: length needed
  *   13 out of range: 0 for the entering packet or the number turned, i for the i-th packet of a trace, the field of a value;
  *      of a value list with another length than there are fields, their number
  *   14 no token, or bad word: byte          15 over 64 open parentheses: byte  16 no legal text goes on so: byte
@@ -59,7 +59,7 @@
 extern "C" {
 #endif
 
-#define NETKAT_VERSION "0.4.0"
+#define NETKAT_VERSION "0.5.0"
 #define NETKAT_NUMBERS 8   /* numbers of an answer */
 #define NETKAT_NODES 512   /* most nodes of a policy */
 #define NETKAT_ROWS 65535  /* most rows of a table */
@@ -128,7 +128,11 @@ void netkat_read(const uint8_t *text, size_t text_length,
  *   1 or 2, length, entering       the left or the right policy alone has a trace of this length from the entering
  *                                  packet, and no shorter trace tells the two apart; the trace stands first in the list
  *                                  `trace`; the entering packet is not part of it
- * or refuses by 1 to 12, 19. Once 10 has passed, the row lists (packet, left, right, parent) hold the rows listed so far, of 11 the
+ *   9, 11, 0, rows lent, d         more rows are needed than were lent, and it is not known whether the two are equal; but they
+ *                                  have the same traces of d packets or fewer from every packet: nothing that passes with fewer than
+ *                                  d packets recorded tells them apart. d is the depth of the row being handled, how many rows lie
+ *                                  above it by their parents; 0 if the starting rows did not fit. More rows lent never make it less
+ * or refuses by 1 to 10, 12, 19. Once 10 has passed, the row lists (packet, left, right, parent) hold the rows listed so far, of 11 the
  * first rows that fit, and the work list is all 0. `parent` holds the number of the row that listed the row, counted from
  * 0; of a starting row its own number. */
 void netkat_search(const uint16_t *sizes, size_t sizes_length,

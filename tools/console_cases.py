@@ -1,6 +1,6 @@
 #!/usr/bin/env python3
 """Writes the input and the expected output of the program console_cases, worked out from document 01, "The program", and
-document 02, A.1 and A.2.
+document 02, A.1 to A.3.
 
     tools/console_cases.py            write crates/console_cases/stdin and stdout
     tools/console_cases.py --check    compare them with what is stored
@@ -140,6 +140,12 @@ WIDE = [
 ]
 
 
+RUN_OUT = [
+    # deep rows; the line has three fields all the same
+    ["6\n", *in_rounds(29), "\n", *in_rounds(28)], ["1024\ndup;dup;dup;dup;f0=0\ndup;dup;dup;dup"],
+]
+
+
 def text_of(nodes, at=-1):
     """A text of the policy."""
     kind, first, second = nodes[at]
@@ -182,7 +188,7 @@ def cases():
         right = source.choice((left, text_of(negated(source, nodes[0])), "id;" + left, left + "+" + right, right))
         left, right = (damaged(source, text) if count % 4 == 0 else text.encode() for text in (left, right))
         yield parts_of("\n".join((",".join(map(str, sizes)), left.decode("latin-1"), right.decode("latin-1"))).encode("latin-1"))
-    for parts in WIDE:
+    for parts in WIDE + RUN_OUT:
         yield parts_of(*parts)
 
 

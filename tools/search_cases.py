@@ -1,14 +1,15 @@
 """Searches, with what they answer and leave in the lists worked out from document 01, "States and rows" and "Causes, in the
-order tested", and document 02, A.1 and A.2; output and next by way of document 004's right spines."""
+order tested", and document 02, A.1 to A.3; output and next by way of document 004's right spines."""
 import itertools
 import random
 
-from calls import SEARCH, call, cleared, lists_of, total
+from calls import SEARCH, TEXTS, call, cleared, lists_of, numbers_of, total
 from engine_cases import DROP, DUP, EQ, ID, NE, SET, STAR, SUM, World, random_policy, stepped, terms
 from evidence_cases import NEGATED, NEGATED_ROWS, P2, P5, P10, damaged, dups, equal_negations, equal_pairs
 from evidence_cases import negation, seq_of, starred, sum_of
 from policy_cases import answer as legality
 from policy_cases import chain, lists, negated, negations
+from text_cases import parts_of, read
 
 WORK = 16384
 
@@ -17,21 +18,25 @@ def run(sizes, policies, room, most):
     """The answer as text, the rows with their parents, and the trace or nothing, with room for so many rows and packets."""
     world = World(sizes)
     sides = [terms(list(zip(*policy))) for policy in policies]
-    rows, listed = [], set()
-    full = "refused 11 0 %d" % room
+    rows, depths, listed = [], [], set()
 
-    def append(row, parent):
+    def append(row, parent, depth):
         if row in listed:
             return True
         if len(rows) == room:
             return False
         listed.add(row)
         rows.append((*row, parent))
+        depths.append(depth)
         return True
 
+    def full(depth):
+        """The lists are full while a row of this depth is handled; depth 0 if the starting rows don't fit."""
+        return "refused 11 0 %d %d" % (room, depth), rows, None
+
     for alpha in range(world.count):
-        if not append((alpha, 1, 1), alpha):
-            return full, rows, None
+        if not append((alpha, 1, 1), alpha, 0):
+            return full(0)
     i = 0
     while i < len(rows):
         packet, left, right, _ = rows[i]
@@ -47,8 +52,8 @@ def run(sizes, policies, room, most):
                 return "refused 12 0 %d" % len(trace), rows, None
             return "%s %d %d" % ("left" if last in lout else "right", len(trace), rows[at][0]), rows, trace
         for gamma in sorted({**lnext, **rnext}):
-            if not append((gamma, lnext.get(gamma, 0), rnext.get(gamma, 0)), i):
-                return full, rows, None
+            if not append((gamma, lnext.get(gamma, 0), rnext.get(gamma, 0)), i, depths[i] + 1):
+                return full(depths[i])
         i += 1
     return "equal %d" % len(rows), rows, None
 
@@ -250,6 +255,101 @@ def negation_cases():
         yield sizes, (lists(left), lists(right)), [rng.choice((7, 40, 400))] * 4 + [rng.choice((1, 8, 40)), WORK]
 
 
+# sizes, two texts, how far the two agree with 0, 1, .. rows lent until they are enough, the answer then
+RUN_OUT = [
+    ([1], "dup*", "id+dup;dup*", [0, 0, 1], "equal 3"),
+    ([2], "f0=0;dup", "dup;f0=0", [0] * 4, "equal 4"),
+    ([1], "dup;dup;dup", "dup;dup;dup;drop+dup;dup;dup", [0, 0, 1, 2], "equal 4"),
+    ([1], "dup;drop", "drop", [0, 0], "equal 2"),
+    ([2], "dup;!f0=0", "!f0=0;dup", [0] * 4, "equal 4"),
+    # no row but the starting rows
+    ([2, 2], "id", "drop", [0] * 4, "left 1 0"),
+    ([5], "f0!=4", "!f0=4", [0] * 5, "equal 5"),
+    # each depth has a row for each packet
+    ([3], "dup;dup", "dup;(dup;id)", [0] * 6 + [1] * 3, "equal 9"),
+    ([2, 2], "dup;dup;dup", "dup;dup;dup", [0] * 8 + [1] * 4 + [2] * 4, "equal 16"),
+    # the rows next of a row that is handled later are listed already
+    ([2], "(f0<-0+f0<-1);dup;(f0<-0+f0<-1);dup", "(f0<-1+f0<-0);dup;(f0<-1+f0<-0);dup", [0] * 4 + [1] * 2, "equal 6"),
+    # from packet 0 on, one after the other
+    ([4], "f0=0;((f0=0;f0<-1+f0=1;f0<-2+f0=2;f0<-3);dup)*", "f0=0;((f0=2;f0<-3+f0=1;f0<-2+f0=0;f0<-1);dup)*", [0] * 5 + [1, 2], "equal 7"),
+    # a longer trace tells them apart
+    ([1], "dup", "dup;dup", [0, 0], "left 2 0"),
+    ([2], "dup;dup;f0=0", "dup;dup", [0] * 4 + [1] * 2, "right 3 1"),
+    ([1], "dup;dup;dup;drop", "dup;dup;dup", [0, 0, 1, 2], "right 4 0"),
+]
+
+
+def in_rounds(count):
+    """dup* in rounds of so many dups and a rest of fewer."""
+    rest = "id"
+    for _ in range(count - 1):
+        rest = "(id+dup;%s)" % rest
+    return "(%s)*;%s" % (";".join(["dup"] * count), rest)
+
+
+# sizes, two texts, numbers of rows; of the row order, the rows of each depth
+DEEP = [
+    ([1], ";".join(["dup"] * 60), ";".join(["dup"] * 60), (0, 1, 2, 30, 59, 60, 61), 1),
+    ([2], ";".join(["dup"] * 60), ";".join(["dup"] * 61), (1, 2, 3, 4, 5, 119, 120, 121), 2),
+    ([1], in_rounds(5), in_rounds(7), (1, 2, 3, 20, 34, 35, 36), 1),
+    ([3], in_rounds(4), in_rounds(3), (2, 3, 4, 6, 7, 20, 37, 38, 39), 3),
+    ([33], "dup;dup", "dup;(id+drop);dup", (0, 1, 32, 33, 34, 65, 66, 67, 98, 99), 33),
+]
+
+
+def policies_of(texts):
+    return tuple(lists(read(text.encode(), [512] * 3)) for text in texts)
+
+
+def run_out_cases():
+    """Sizes, two texts, the rows lent."""
+    for sizes, left, right, lengths, said in RUN_OUT:
+        pair = policies_of((left, right))
+        for rows, length in enumerate(lengths):
+            assert run(sizes, pair, rows, 9)[0] == "refused 11 0 %d %d" % (rows, length)
+        assert run(sizes, pair, len(lengths), 9)[0] == said
+        for rows in range(len(lengths) + 2):
+            yield sizes, (left, right), rows
+            yield sizes, (right, left), rows
+    for sizes, left, right, numbers, wide in DEEP:
+        for rows in numbers:
+            said = run(sizes, policies_of((left, right)), rows, 99)[0].split()
+            assert said[0] != "refused" or int(said[4]) == max(rows // wide - 1, 0)
+            yield sizes, (left, right), rows
+
+
+def random_run_out():
+    """Pairs that are equal by laws, some with a test behind one of them, all behind a few dups: sizes, two policies, the rows lent."""
+    rng = random.Random(63)
+    for sizes, left, right in itertools.chain(equal_pairs(rng), equal_negations(rng)):
+        recorded = dups(rng.randrange(1, 5))
+        right = rng.choice((right, seq_of(right, test(0, 0))))
+        pair = lists(seq_of(recorded, left)), lists(seq_of(recorded, right))
+        if legality(sizes, pair).startswith("refused"):
+            continue
+        starting, needed = World(sizes).count, len(run(sizes, pair, 200, 200)[1])
+        for rows in sorted({rng.randrange(starting + 1), rng.randrange(starting, needed), needed - 1}):
+            yield sizes, pair, rows
+
+
+def run_out_calls():
+    """Node lists and texts with few rows lent."""
+    found = set()
+    for sizes, texts, rows in run_out_cases():
+        lengths = [rows] * 4 + [rows % 7, WORK]
+        policies = policies_of(texts)
+        said, sums = answer(sizes, policies, lengths)
+        yield call(SEARCH, lists_of(sizes, *policies) + lengths, said, *sums)
+        written = [number for text in texts for number in numbers_of(parts_of(text))]
+        yield call(TEXTS, lists_of(sizes) + written + lengths, said, *sums)
+    for sizes, policies, rows in random_run_out():
+        lengths = [rows] * 4 + [9, WORK]
+        said, sums = answer(sizes, policies, lengths)
+        found.add(int(said.split()[4]))
+        yield call(SEARCH, lists_of(sizes, *policies) + lengths, said, *sums)
+    assert found >= set(range(5))
+
+
 def calls():
     found = set()
     for sizes, policies, lengths in itertools.chain(cases(), negation_cases(), wide_cases()):
@@ -257,3 +357,4 @@ def calls():
         found.add(" ".join(said.split()[:2]) if said.startswith("refused") else said.split()[0])
         yield call(SEARCH, lists_of(sizes, *policies) + lengths, said, *sums)
     assert found == {"equal", "left", "right"} | {"refused %d" % number for number in (*range(1, 13), 19)}
+    yield from run_out_calls()

@@ -141,13 +141,16 @@ fn clocked(case: &mut Case, runner: Runner) -> (Numbers, f64) {
     (answer, clock::seconds() - start)
 }
 
-/// Rows listed and rows handled. When the rows are full, the last listed row's parent is the row being handled.
+/// Rows listed and rows handled. Where the rows ran out, those to the last listed row's parent count as handled: what was handled
+/// after it listed nothing more. Where no more than the starting rows fit, it is not known how many were handled.
 fn rows_of(case: &Case, answer: Numbers) -> (Option<usize>, Option<usize>) {
     match (case, answer) {
         (Case::Search { .. }, [0, rows, ..]) => (Some(rows as usize), Some(rows as usize)),
-        (Case::Search { lists, .. }, [9, 11, _, rows, ..]) => {
-            let last = lists.parent[rows as usize - 1];
-            (Some(rows as usize), Some(usize::from(last) + 1))
+        (Case::Search { sizes, lists, .. }, [9, 11, _, rows, ..]) => {
+            let rows = rows as usize;
+            let starting: usize = sizes.iter().map(|&size| usize::from(size)).product();
+            let handled = (starting < rows).then(|| usize::from(lists.parent[rows - 1]) + 1);
+            (Some(rows), handled)
         }
         (Case::Evidence { lists, .. }, [0 | 5, ..]) => table_rows(lists.packet.len(), answer),
         (Case::Records { rows, .. }, [0 | 5, ..]) => table_rows(rows.len(), answer),
@@ -162,6 +165,9 @@ fn table_rows(rows: usize, answer: Numbers) -> (Option<usize>, Option<usize>) {
 
 fn in_words(case: &Case, answer: Numbers) -> String {
     match (case, answer) {
+        (_, [9, 11, _, _, agreed, ..]) => {
+            format!("refused by 11, d = {}", thousands(agreed as usize))
+        }
         (_, [9, number, ..]) => format!("refused by {number}"),
         (Case::Trace { .. }, [holders, ..]) => {
             format!(

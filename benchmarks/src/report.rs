@@ -348,7 +348,12 @@ const WHAT: &str = "\
 - small: searches of one to ten rows, with one field and 16 rows lent, and one that ends at the first row, on policies of
   several hundred nodes. A call takes microseconds: some hundred are timed together, and the time is that of one.
 - rows: cycles (271 packets, 241 pairs of states, one next row a row) and many states (two packets, two next rows a
-  row), with 1,000 to 65,535 rows lent. Where the lists are too short the answer is refusal 11.
+  row), with 1,000 to 65,535 rows lent. Where the lists are too short the answer is refusal 11, with the length d to which the
+  traces are known to agree.
+- rows run out: searches that end in refusal 11. The long way goes from packet 0 through 1,001 packets and round again, each
+  recorded 21 times, against the same in rounds of two packets: behind the starting rows its rows are one chain of 42,042, and d is
+  the rows lent less 1,001. The full table has 771 rows at each depth, many rows 1,024 to 16,384; with 1,023 rows lent its
+  starting rows don't fit.
 - evidence: a table of 65,535 rows in row order, reversed, shuffled, and with its last row missing; the tables of blocked
   packets and of the list of rules; tables of 10, 364 and
   65,535 rows that are rejected at their first row, the two shorter ones of policies of several hundred nodes; then tables of

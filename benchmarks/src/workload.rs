@@ -65,6 +65,8 @@ pub enum Group {
     Small,
     /// Searches of the same pair with more and more rows lent, by the pair's name.
     Rows(&'static str),
+    /// Searches whose rows run out: deep ones, and many rows at each depth.
+    RunOut,
     /// Evidence tables.
     Evidence,
     /// Evidence tables lent as records.
@@ -90,6 +92,7 @@ impl Group {
             Group::Wide => "63 dups",
             Group::Small => "small",
             Group::Rows(_) => "rows",
+            Group::RunOut => "rows run out",
             Group::Evidence => "evidence",
             Group::Records => "records",
             Group::Traces => "traces",
@@ -141,6 +144,7 @@ pub fn benchmarks(extent: Extent) -> Vec<Benchmark> {
     all.extend(tables::wide(extent));
     all.extend(small());
     all.extend(rows(extent));
+    all.extend(run_out(extent));
     all.extend(tables::benchmarks(extent));
     all.extend(tables::records(extent));
     all.extend(traces::benchmarks());
@@ -202,6 +206,24 @@ fn rows(extent: Extent) -> Vec<Benchmark> {
     all.extend(family("cycles", heavy::cycles()));
     all.extend(family("many states", heavy::many_states(15)));
     all
+}
+
+/// Too few rows lent: of a long way, where each row has one next row; and of pairs with hundreds of rows at each depth, the last
+/// with no room for the starting rows.
+fn run_out(extent: Extent) -> Vec<Benchmark> {
+    let many_rows = || heavy::many_rows(extent.places());
+    let searches = [
+        (heavy::long_way(), 10_000),
+        (heavy::long_way(), 43_042),
+        (heavy::full_table(), MOST_ROWS - 1),
+        (many_rows(), 1_024 << extent.places()),
+        (many_rows(), 1_023),
+    ];
+    let benchmark = |(pair, rows): (Pair, usize)| {
+        let title = format!("{}, {} rows lent", pair.name, thousands(rows));
+        Benchmark::new(Group::RunOut, &title, search(&pair, rows))
+    };
+    searches.map(benchmark).to_vec()
 }
 
 /// Pairs of the random sweep.

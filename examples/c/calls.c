@@ -24,7 +24,8 @@ static netkat_row records[ROWS];
 #define SIZES sizes, 2
 #define TEXT(t) (const uint8_t *)(t), strlen(t)
 #define NODES(p) (p).kind, (p).nodes, (p).first, (p).nodes, (p).second, (p).nodes
-#define LENT packet, ROWS, left, ROWS, right, ROWS, parent, ROWS, trace, ROWS, work, NETKAT_WORK
+#define LENT_ROWS(rows) packet, rows, left, rows, right, rows, parent, rows, trace, ROWS, work, NETKAT_WORK
+#define LENT LENT_ROWS(ROWS)
 #define TABLE(rows) packet, rows, left, rows, right, rows
 
 static void show(const char *call) {
@@ -123,6 +124,11 @@ int main(void) {
 
     netkat_search_texts(SIZES, TEXT("!(f0=0;f1=0)"), TEXT("f0!=0+f1!=0"), LENT, answer);
     show("search of texts, a negation and the same spelled out");
+
+    netkat_search(SIZES, NODES(one), NODES(same), LENT_ROWS(5), answer);
+    show("search, 5 rows lent, one short of the starting rows");
+    netkat_search_texts(SIZES, TEXT("dup*"), TEXT("id+dup;dup*"), LENT_ROWS(12), answer);
+    show("search of texts, 12 rows lent");
 
     other.kind[1] = 10;
     netkat_search(SIZES, NODES(one), NODES(other), LENT, answer);

@@ -1,4 +1,4 @@
-/* Two checks: one that ends in equal, whose table is then checked, and one that ends in a telling trace. */
+/* Three checks: one that ends in equal, whose table is then checked, one that ends in a telling trace, and one that runs out of rows. */
 #include <inttypes.h>
 #include <stdio.h>
 #include <stdlib.h>
@@ -7,6 +7,7 @@
 #include "netkat.h"
 
 #define ROWS 4096
+#define ROWS_FULL 11 /* the refusal of a search that needs more rows */
 
 typedef struct {
     uint8_t kind[NETKAT_NODES];
@@ -39,13 +40,17 @@ static policy read_policy(const char *text) {
     return p;
 }
 
-static void check(const char *left_text, const char *right_text) {
+static void check(const char *left_text, const char *right_text, size_t lent) {
     const uint16_t sizes[] = {2};
     policy one = read_policy(left_text), other = read_policy(right_text);
 
     printf("%s against %s\n", left_text, right_text);
-    netkat_search(sizes, 1, LISTS(one), LISTS(other), packet, ROWS, left, ROWS, right, ROWS, parent, ROWS, trace, ROWS,
+    netkat_search(sizes, 1, LISTS(one), LISTS(other), packet, lent, left, lent, right, lent, parent, lent, trace, ROWS,
                   work, NETKAT_WORK, answer);
+    if (answer[0] == NETKAT_REFUSED && answer[1] == ROWS_FULL) {
+        printf("  more than %" PRIu64 " rows needed; the same traces up to length %" PRIu64 "\n", answer[3], answer[4]);
+        return;
+    }
     stop_if_refused();
     if (answer[0] == NETKAT_DONE) {
         size_t rows = answer[1];
@@ -77,7 +82,8 @@ static void check(const char *left_text, const char *right_text) {
 }
 
 int main(void) {
-    check("f0=0;dup", "dup;f0=0");
-    check("dup", "dup;dup");
+    check("f0=0;dup", "dup;f0=0", ROWS);
+    check("dup", "dup;dup", ROWS);
+    check("dup*", "id+dup;dup*", 4);
     return 0;
 }

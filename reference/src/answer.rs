@@ -15,21 +15,32 @@ pub struct Refusal {
     pub side: u8,
     /// Where: a field, node, byte, row, length, as the cause says.
     pub place: u64,
+    /// Of 11: the two policies have the same traces of so many packets or fewer from every packet. Of any other cause 0.
+    pub agreed: u64,
 }
 
 impl Refusal {
-    /// A refusal that names no side.
+    /// A refusal that names no side and says nothing of traces.
     pub fn new(number: u8, place: usize) -> Refusal {
         Refusal {
             number,
             side: 0,
             place: place as u64,
+            agreed: 0,
         }
     }
 
     /// The same refusal, naming a side.
     pub fn on(self, side: u8) -> Refusal {
         Refusal { side, ..self }
+    }
+
+    /// The same refusal, saying to which length the traces agree.
+    pub fn agreed_to(self, length: usize) -> Refusal {
+        Refusal {
+            agreed: length as u64,
+            ..self
+        }
     }
 }
 
@@ -117,9 +128,15 @@ fn padded(given: &[u64]) -> Numbers {
 }
 
 impl Numbered for Refusal {
-    /// (9, number, side, place)
+    /// (9, number, side, place, length to which the traces agree)
     fn numbers(&self) -> Numbers {
-        padded(&[9, self.number.into(), self.side.into(), self.place])
+        padded(&[
+            9,
+            self.number.into(),
+            self.side.into(),
+            self.place,
+            self.agreed,
+        ])
     }
 }
 

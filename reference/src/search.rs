@@ -174,7 +174,9 @@ impl<'a> Search<'a> {
                 };
                 return self.different(handled, telling as u16, side);
             }
-            self.list_next(handled, &left, &right)?;
+            // The rows of lower depths are handled, and a trace of n packets is told apart at depth n - 1.
+            self.list_next(handled, &left, &right)
+                .map_err(|full| full.agreed_to(self.depth(handled)))?;
             handled += 1;
         }
         Ok(Verdict::Equal { rows: self.listed })
@@ -193,7 +195,18 @@ impl<'a> Search<'a> {
         Ok(())
     }
 
-    /// Appends a row unless it is listed; 11 if it must be appended and no room is left.
+    /// Steps from a starting row to this one.
+    fn depth(&self, mut row: usize) -> usize {
+        let mut steps = 0;
+        while usize::from(self.lent.parent[row]) != row {
+            row = self.lent.parent[row].into();
+            steps += 1;
+        }
+        steps
+    }
+
+    /// Appends a row unless it is listed; 11 if it must be appended and no room is left, with nothing said of traces, as for
+    /// the starting rows.
     fn list(
         &mut self,
         packet: usize,

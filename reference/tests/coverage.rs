@@ -145,6 +145,37 @@ fn many_dups_and_the_highest_bit_occur() {
 }
 
 #[test]
+fn rows_run_out_at_many_depths() {
+    let mut random = Random::new(6);
+    let mut lengths = BTreeMap::new();
+    let mut before_the_start = 0;
+    for _ in 0..6000 {
+        let mut case = case(&mut random, Extent::Small);
+        let answer = case.run();
+        if answer[..2] == [9, 11] {
+            *lengths.entry(answer[4]).or_insert(0) += 1;
+            before_the_start += usize::from(starts_do_not_fit(&case, answer[3]));
+        }
+    }
+    let at_least = |length| -> usize { lengths.range(length..).map(|(_, count)| count).sum() };
+    assert!(before_the_start > 100, "{before_the_start}");
+    assert!(at_least(0) > before_the_start + 100, "{lengths:?}");
+    for (length, count) in [(1, 100), (2, 50), (10, 20), (30, 5)] {
+        assert!(at_least(length) > count, "{lengths:?}");
+    }
+}
+
+/// Are there more packets than rows lent?
+fn starts_do_not_fit(case: &Case, rows: u64) -> bool {
+    match case {
+        Case::Search { sizes, .. } | Case::Texts { sizes, .. } => {
+            rows < sizes.iter().map(|&size| u64::from(size)).product()
+        }
+        _ => false,
+    }
+}
+
+#[test]
 fn the_same_seed_gives_the_same_cases() {
     let cases = || {
         let mut random = Random::new(5);

@@ -5,6 +5,7 @@ use std::collections::BTreeSet;
 
 use netkat_reference::answer::{Holders, Refusal, Ruling, Side, Verdict};
 use netkat_reference::evidence::{self, Record, Table};
+use netkat_reference::generate::run_out;
 use netkat_reference::generate::tree::{changed, renumbered, same, tree, widened, Tree};
 use netkat_reference::policy::{kind, OwnedLists};
 use netkat_reference::random::Random;
@@ -244,6 +245,25 @@ fn wide(random: &mut Random, policy: &Tree) -> Tree {
     widened(random, policy, dups)
 }
 
+/// A random pair that may list many rows, some of them deep.
+fn recording_pair(random: &mut Random, sizes: &[u16]) -> (OwnedLists, OwnedLists) {
+    if random.one_in(2) {
+        return pair(random, sizes);
+    }
+    let (left, right) = run_out::pair(random, sizes);
+    (left.lists(), right.lists())
+}
+
+/// Steps from a starting row to this one.
+fn depth(rows: &[Row], mut row: usize) -> usize {
+    let mut steps = 0;
+    while rows[row].3 != row {
+        row = rows[row].3;
+        steps += 1;
+    }
+    steps
+}
+
 const SIZES: [&[u16]; 6] = [&[1], &[2], &[3], &[2, 2], &[1, 2], &[4]];
 
 /// Traces as numbers.
@@ -302,10 +322,10 @@ fn verdicts_agree_with_figure_one() {
 fn rows_are_the_row_order() {
     const MOST: usize = 80;
     let mut random = Random::new(12);
-    let (mut longer, mut full) = (0, 0);
+    let (mut longer, mut full, mut deep) = (0, 0, 0);
     for _ in 0..1500 {
         let sizes = random.pick(&SIZES);
-        let (left, right) = pair(&mut random, sizes);
+        let (left, right) = recording_pair(&mut random, sizes);
         let (expected, telling) = row_order(sizes, &term(&left), &term(&right), MOST);
         if telling.is_none() && expected.len() >= MOST {
             continue;
@@ -330,21 +350,79 @@ fn rows_are_the_row_order() {
         match (answer, telling) {
             (Err(refusal), _) => {
                 assert!(room < expected.len());
-                assert_eq!(refusal, Refusal::new(11, room));
+                // The row being handled is the parent of the first row that does not fit.
+                let agreed = match room < packets(sizes).len() {
+                    true => 0,
+                    false => depth(&expected, expected[room].3),
+                };
+                deep += usize::from(agreed > 2);
+                assert_eq!(refusal, Refusal::new(11, room).agreed_to(agreed));
             }
             (Ok(Verdict::Equal { rows }), None) => assert_eq!(rows, expected.len()),
-            (Ok(Verdict::Different { length, .. }), Some(mut row)) => {
-                let mut depth = 0;
-                while expected[row].3 != row {
-                    row = expected[row].3;
-                    depth += 1;
-                }
-                assert_eq!(length, depth + 1);
+            (Ok(Verdict::Different { length, .. }), Some(row)) => {
+                assert_eq!(length, depth(&expected, row) + 1);
             }
             other => panic!("{other:?}"),
         }
     }
-    assert!(longer > 200 && full > 200, "{longer} {full}");
+    assert!(
+        longer > 200 && full > 200 && deep > 100,
+        "{longer} {full} {deep}"
+    );
+}
+
+#[test]
+fn where_rows_run_out_the_traces_agree_to_a_length() {
+    const MOST: usize = 5;
+    let mut random = Random::new(15);
+    let mut by_length = [0; MOST + 1];
+    // Pairs that are different, and those of them that the next length tells apart.
+    let (mut different, mut next_tells) = (0, 0);
+    for _ in 0..2500 {
+        let sizes = random.pick(&SIZES);
+        let (left, right) = recording_pair(&mut random, sizes);
+        let ample = run(sizes, &left, &right, 3000);
+        let rows = match ample {
+            (Ok(_), rows) => random.below(rows),
+            _ => continue,
+        };
+        let agreed = match run(sizes, &left, &right, rows) {
+            (Err(refusal), _) => refusal.agreed as usize,
+            other => panic!("{other:?}"),
+        };
+        by_length[agreed.min(MOST)] += 1;
+        if let Ok(Verdict::Different { length, .. }) = ample.0 {
+            assert!(agreed < length);
+            different += 1;
+            next_tells += usize::from(agreed + 1 == length);
+        }
+        let (left_term, right_term) = (term(&left), term(&right));
+        for from in packets(sizes) {
+            let [left, right] =
+                [&left_term, &right_term].map(|term| meaning(term, &from, agreed.min(MOST)));
+            assert_eq!(left, right);
+        }
+    }
+    assert!(by_length.iter().all(|&count| count > 20), "{by_length:?}");
+    assert!(
+        different > 100 && next_tells > 50,
+        "{different} {next_tells}"
+    );
+}
+
+/// A search's answer with so many rows lent, and the rows that it listed.
+fn run(
+    sizes: &[u16],
+    left: &OwnedLists,
+    right: &OwnedLists,
+    rows: usize,
+) -> (Result<Verdict, Refusal>, usize) {
+    let mut lists = Lists::new(rows, 3000, LEAST_WORK);
+    let answer = search(sizes, left.lists(), right.lists(), lists.lend());
+    // No row has two empty states.
+    let states = lists.left.iter().zip(&lists.right);
+    let listed = states.take_while(|&(left, right)| left | right != 0);
+    (answer, listed.count())
 }
 
 #[test]

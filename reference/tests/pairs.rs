@@ -5,7 +5,7 @@ mod common;
 use std::collections::BTreeSet;
 
 use common::{nodes, search, search_with, Outcome};
-use netkat_reference::answer::{Holders, Refusal, Ruling, Side, Verdict};
+use netkat_reference::answer::{Holders, Numbered, Refusal, Ruling, Side, Verdict};
 use netkat_reference::evidence::{self, Record, Table};
 use netkat_reference::generate::{case, heavy, Extent};
 use netkat_reference::policy;
@@ -78,7 +78,7 @@ fn p5_and_p6() {
     let rows = [(0, 1, 1), (0, 2, 2), (0, 2, 4)];
     equal(&[1], "dup*", "id+dup;dup*", &rows);
     let Outcome { answer, lists } = search_with(&[1], "dup*", "id+dup;dup*", 2, 9);
-    assert_eq!(answer, Err(Refusal::new(11, 2)));
+    assert_eq!(answer, Err(Refusal::new(11, 2).agreed_to(1)));
     assert_eq!(lists.packet, [0, 0]);
     assert_eq!(lists.left, [1, 2]);
     assert_eq!(lists.right, [1, 2]);
@@ -420,6 +420,55 @@ fn starting_rows_that_do_not_fit() {
     assert_eq!(lists.left, [1, 1, 1]);
     assert_eq!(lists.right, [1, 1, 1]);
     assert_eq!(lists.parent, [0, 1, 2]);
+}
+
+/// What is said where so many rows are lent and run out: the length to which the traces agree.
+fn agreed(sizes: &[u16], left: &str, right: &str, rows: usize) -> u64 {
+    let answer = search_with(sizes, left, right, rows, 9).answer;
+    let numbers = answer.numbers();
+    assert_eq!(numbers[..4], [9, 11, 0, rows as u64], "{left} {right}");
+    assert_eq!(numbers[5..], [0; 3]);
+    numbers[4]
+}
+
+#[test]
+fn how_far_the_traces_agree_where_rows_run_out() {
+    for (rows, length) in [0, 0, 1].into_iter().enumerate() {
+        assert_eq!(agreed(&[1], "dup*", "id+dup;dup*", rows), length);
+    }
+    assert_eq!(agreed(&[2], "f0=0;dup", "dup;f0=0", 3), 0);
+    let (left, right) = ("dup;dup;dup", "dup;dup;dup;drop+dup;dup;dup");
+    assert_eq!(agreed(&[1], left, right, 3), 2);
+    // The starting rows don't fit, or just fit.
+    for rows in 0..=4 {
+        assert_eq!(agreed(&[2, 2], "dup", "dup;id", rows), 0);
+    }
+    // Each depth has a row for each packet, and the first row of a depth is handled when the next depth's first is listed.
+    let chain = ["dup"; 60].join(";");
+    for packets in 1..4usize {
+        for rows in 0..61 * packets {
+            let length = (rows / packets).saturating_sub(1);
+            let found = agreed(&[packets as u16], &chain, &chain, rows);
+            assert_eq!(found, length as u64);
+        }
+    }
+    // Policies that a longer trace tells apart.
+    let shorter = ["dup"; 59].join(";");
+    for rows in 1..60 {
+        assert_eq!(agreed(&[1], &chain, &shorter, rows), rows as u64 - 1);
+    }
+    different(&[1], &chain, &shorter, Side::Right, 0, &[0; 60]);
+}
+
+#[test]
+fn a_long_way_is_one_chain_of_rows() {
+    let pair = heavy::long_way();
+    let outcome = search(&pair.sizes, &pair.left, &pair.right);
+    assert_eq!(outcome.answer, Ok(Verdict::Equal { rows: 43_043 }));
+    for rows in [1_000usize, 1_001, 1_002, 20_000, 43_042] {
+        let found = agreed(&pair.sizes, &pair.left, &pair.right, rows);
+        assert_eq!(found, rows.saturating_sub(1_001) as u64);
+    }
 }
 
 #[test]

@@ -1,16 +1,27 @@
-//! Two checks: one that ends in equal, whose table is then checked, and one that ends in a telling trace.
+//! Three checks: one that ends in equal, whose table is then checked, one that ends in a telling trace, and one that runs out of rows.
 
 use std::error::Error;
 
-use netkat::{Checker, Holders, Policy, Row, Rows, Ruling, Side, Verdict};
+use netkat::{Checker, Holders, Policy, Refusal, Row, Rows, Ruling, Side, Verdict};
 
-fn check(left_text: &str, right_text: &str) -> Result<(), Box<dyn Error>> {
+fn check(left_text: &str, right_text: &str, lent: usize) -> Result<(), Box<dyn Error>> {
     let left = Policy::read(left_text.as_bytes())?;
     let right = Policy::read(right_text.as_bytes())?;
     let mut checker = Checker::new(&[2]);
 
     println!("{left_text} against {right_text}");
-    match checker.search(&left, &right, 4096)? {
+    let verdict = match checker.search(&left, &right, lent) {
+        Err(Refusal {
+            place,
+            agreed: Some(length),
+            ..
+        }) => {
+            println!("  more than {place} rows needed; the same traces up to length {length}");
+            return Ok(());
+        }
+        verdict => verdict?,
+    };
+    match verdict {
         Verdict::Equal(rows) => {
             println!("  equal, {} rows", rows.packet.len());
             for ((packet, left), right) in rows.packet.iter().zip(&rows.left).zip(&rows.right) {
@@ -75,6 +86,7 @@ fn said(ruling: Ruling) -> &'static str {
 }
 
 fn main() -> Result<(), Box<dyn Error>> {
-    check("f0=0;dup", "dup;f0=0")?;
-    check("dup", "dup;dup")
+    check("f0=0;dup", "dup;f0=0", 4096)?;
+    check("dup", "dup;dup", 4096)?;
+    check("dup*", "id+dup;dup*", 4)
 }

@@ -38,6 +38,9 @@ pub const LEAST_WORK: usize = 16_384;
 /// Stack, in bytes, that a call may need.
 pub const STACK: usize = 4 << 20;
 
+/// The refusal of a search that needs more rows than were lent.
+pub const ROWS_FULL: u64 = 11;
+
 /// One of the two policies.
 #[derive(Clone, Copy, Debug, PartialEq, Eq)]
 pub enum Side {
@@ -56,6 +59,8 @@ pub struct Refusal {
     pub side: Option<Side>,
     /// Field, node, byte, row or length, as the cause says.
     pub place: u64,
+    /// Of 11, how far the two agree: they have the same traces of so many packets or fewer from every packet. No other cause says so.
+    pub agreed: Option<u64>,
 }
 
 impl Refusal {
@@ -75,7 +80,7 @@ impl Refusal {
                 "row lists unequal, over 65,535 rows, or a short work list",
                 None,
             ),
-            11 => ("more rows needed than were lent", Some("rows lent:")),
+            ROWS_FULL => ("more rows needed than were lent", Some("rows lent:")),
             12 => ("a short trace list", Some("length needed:")),
             13 => ("a packet or a value out of range", Some("place")),
             14 => ("no token, or an unknown word", Some("byte")),
@@ -97,9 +102,12 @@ impl fmt::Display for Refusal {
         };
         let (cause, counted) = self.words();
         write!(f, "refused by {}{side}: {cause}", self.number)?;
-        match counted {
+        if let Some(what) = counted {
+            write!(f, ", {what} {}", self.place)?;
+        }
+        match self.agreed {
             None => Ok(()),
-            Some(what) => write!(f, ", {what} {}", self.place),
+            Some(length) => write!(f, "; the same traces up to length {length}"),
         }
     }
 }
@@ -108,9 +116,8 @@ impl Error for Refusal {}
 
 /// The numbers of an answer that is no refusal.
 fn accepted(answer: Numbers) -> Result<Numbers, Refusal> {
-    let (number, side, place) = match answer {
-        [9, number, side, place, ..] => (number, side, place),
-        _ => return Ok(answer),
+    let [9, number, side, place, length, ..] = answer else {
+        return Ok(answer);
     };
     let side = match side {
         1 => Some(Side::Left),
@@ -121,6 +128,7 @@ fn accepted(answer: Numbers) -> Result<Numbers, Refusal> {
         number,
         side,
         place,
+        agreed: (number == ROWS_FULL).then_some(length),
     })
 }
 
@@ -275,7 +283,8 @@ impl Checker {
     }
 
     /// Have two policies the same traces from every packet? The search lists at most so many rows; if it needs more, it is
-    /// refused by 11, and if that is over [`MOST_ROWS`], by 10. Refused by 1 to 11, 19.
+    /// refused by 11, which says how far the two agree ([`Refusal::agreed`]), and if that is over [`MOST_ROWS`], by 10. Refused by 1 to
+    /// 11, 19.
     pub fn search(
         &mut self,
         left: &Policy,

@@ -3,7 +3,9 @@
 
 use std::thread;
 
-use netkat::{Checker, Holders, Policy, Refusal, Row, Rows, Ruling, Side, Verdict, STACK};
+use netkat::{
+    Checker, Holders, Policy, Refusal, Row, Rows, Ruling, Side, Verdict, ROWS_FULL, STACK,
+};
 
 /// Rows lent to a search.
 const ROWS: usize = 64;
@@ -28,6 +30,15 @@ fn refusal(number: u64, side: Option<Side>, place: u64) -> Refusal {
         number,
         side,
         place,
+        agreed: None,
+    }
+}
+
+/// Refusal 11 with so many rows lent: the same traces up to this length.
+fn full(rows: u64, length: u64) -> Refusal {
+    Refusal {
+        agreed: Some(length),
+        ..refusal(ROWS_FULL, None, rows)
     }
 }
 
@@ -234,10 +245,37 @@ fn refusals_name_a_side() {
         let verdict = checker.search(&other, &one, ROWS);
         assert_eq!(verdict, Err(refusal(5, Some(Side::Left), 1)));
         assert_eq!(checker.dups(&other), Err(refusal(5, None, 1)));
-        let verdict = checker.search(&one, &one, 3);
-        assert_eq!(verdict, Err(refusal(11, None, 3)));
         let trace = checker.trace(&one, &one, 0, &[0, 6]);
         assert_eq!(trace, Err(refusal(13, None, 2)));
+    });
+}
+
+#[test]
+fn rows_run_out() {
+    within_bound(|| {
+        let (one, same, _) = policies();
+        let mut checker = checker();
+        // six packets: 0 to 5 rows don't hold the starting rows
+        for rows in 0..12 {
+            let verdict = checker.search(&one, &same, rows);
+            assert_eq!(verdict, Err(full(rows as u64, 0)));
+        }
+        // the rows after a second dup are needed by the first row of depth 1
+        for (rows, length) in [(11, 0), (12, 1), (17, 1)] {
+            let verdict = checker.search_texts(b"dup*", b"id+dup;dup*", rows);
+            assert_eq!(verdict, Err(full(rows as u64, length)));
+        }
+        let mut one_packet = Checker::new(&[1]);
+        let (left, right) = (
+            policy("dup;dup;dup"),
+            policy("dup;dup;dup;drop+dup;dup;dup"),
+        );
+        assert_eq!(one_packet.search(&left, &right, 3), Err(full(3, 2)));
+        let chain = policy(&vec!["dup"; 63].join(";"));
+        for rows in 1..64 {
+            let verdict = one_packet.search(&chain, &chain, rows);
+            assert_eq!(verdict, Err(full(rows as u64, rows as u64 - 1)));
+        }
     });
 }
 
@@ -288,6 +326,10 @@ fn refusals_in_words() {
     assert_eq!(
         said(17, None, 513),
         "refused by 17: more nodes than fit, nodes needed: 513"
+    );
+    assert_eq!(
+        full(4, 1).to_string(),
+        "refused by 11: more rows needed than were lent, rows lent: 4; the same traces up to length 1"
     );
 }
 

@@ -1,27 +1,32 @@
--- What a search leaves is what the checkers take: the rows of an equal verdict are accepted, the trace of a telling one is that side's alone.
+-- What a search leaves is what the checkers take: the rows of an equal verdict are accepted, the trace of a telling one is that side's alone, and
+-- after 11 none that is short enough is one side's alone.
 -- Assumes nothing.
 use Prim.Native.Nat.{ℕ, _≤_}
 use mathlib.Core.List.{List, _++_}
+use mathlib.Core.Logic.{_↔_}
 use mathlib.Core.Path.{_≡_, refl, sym, ap, ap₂, _∙_}
 use native.Mathlib.Omega.{arith}
+use lib.Dec.{T}
 use lib.ListN.{length, take, drop, length-map}
 use lib.Seq.{take-append-seam}
+use Rattle.packet.specs.declared.Refusal.{Refusal}
 use Rattle.packet.specs.declared.Tested.{Tested}
 use Rattle.packet.specs.declared.Tested.the-variants.{Passed, Refused as Stopped}
 use Rattle.packet.specs.Sizes.{product}
 use Rattle.policy.specs.Order.{pairTests}
-use Rattle.policy.specs.NodeLists.{NodeLists}
+use Rattle.policy.specs.Meaning.{numbered, Traces, SameShortTraces, SameShortTracesBelow}
+use Rattle.policy.specs.NodeLists.{NodeLists, policyOf}
 use Rattle.system.specs.RowOrder.{held}
-use Rattle.pair.specs.Sides.{Side, left, right, policies}
-use Rattle.pair.specs.Pair.{pairSystem}
+use Rattle.pair.specs.Sides.{Side, left, right, at, policies}
+use Rattle.pair.specs.Pair.{SideTraces, pairSystem}
 use Rattle.pair.specs.Search.{SearchAnswer, columnsOf, heldColumns}
-use Rattle.pair.specs.TraceCheck.{only}
+use Rattle.pair.specs.TraceCheck.{only, has}
 use Rattle.pair.proofs.Lawful.{legal-pair}
 use Rattle.pair.proofs.Verdicts.{equal-same}
 use Rattle.lent_lists.proofs.Testing.{lent-pair}
 use Rattle.packet.specs.Written.{written}
 use Rattle.verdict.specs.declared.Verdict.{Verdict}
-use Rattle.verdict.specs.declared.Verdict.the-variants.{Equal}
+use Rattle.verdict.specs.declared.Verdict.the-variants.{Equal, Full}
 use Rattle.verdict.specs.Verdicts.{tellingVerdict, verdictOf, traceAfter}
 use Rattle.search.specs.Call.{SearchLists, filled, verdictAfter, lentAfter, searchTests, answerHere, rowsHere, searchVerdict, searchLeaves, Searched}
 use Rattle.search.proofs.Answering.{equal-of, telling-of, accepts}
@@ -29,7 +34,7 @@ use Rattle.evidence.specs.declared.Evidence.the-variants.{Accepted}
 use Rattle.evidence.specs.Calls.{evidenceCall}
 use Rattle.evidence.proofs.Answering.{equal-accepted}
 use Rattle.traces.specs.Checking.{checkedAs, traceCall}
-use Rattle.traces.proofs.Calling.{search-checked}
+use Rattle.traces.proofs.Calling.{answer-iff, answer-enters, search-checked}
 
 zero≢one : _≡_ {A = ℕ} 0 1 → ⊥
 zero≢one z = omega arith
@@ -88,3 +93,14 @@ module _ (sizes : List ℕ) (L R : NodeLists) (x y : SearchLists) where
       ap (λ (z : SearchLists). take n (z .trace)) (left-as (h .0) D) ∙ ap (λ a. take n (traceAfter a (x .trace))) (t .answer) ∙ take-written (t .trace) (x .trace) n (t .long) in
       ap (λ (w : List ℕ). traceCall sizes L R α w words) trace
       ∙ search-checked sizes L R words (pair-passed (h .0)) long (length (x .packets)) (length (x .trace)) s α (t .trace) (t .answer)
+
+  -- after 11 with d, the trace checker calls no trace of d packets or fewer one policy's alone
+  pub full-trace-shared : (r : Refusal) (d α words : ℕ) (trace : List ℕ) (s : Side) → Searched sizes L R x (Full r d) y → length trace ≤ d
+      → traceCall sizes L R α trace words ≡ checkedAs (only s) → ⊥
+  unfolding SameShortTracesBelow SameShortTraces SideTraces at has
+  full-trace-shared r d α words trace s D few e = go s (D .full-same r d refl α (answer-enters sizes L R α trace words (only s) e) trace few) (answer-iff sizes L R α trace words (only s) e)
+    where
+      go : (s : Side) → Traces (numbered sizes) (policyOf L) α trace ↔ Traces (numbered sizes) (policyOf R) α trace
+          → ((z : Side) → T (has z (only s)) ↔ SideTraces sizes (policies L R) z α trace) → ⊥
+      go left same says = says right .1 (same .0 (says left .0 tt))
+      go right same says = says left .1 (same .1 (says right .0 tt))

@@ -20,7 +20,7 @@ use Rattle.evidence.specs.declared.Evidence.the-variants.{Accepted, RuleA, Rule
 use Rattle.traces.specs.declared.TraceChecked.{TraceChecked}
 use Rattle.traces.specs.declared.TraceChecked.the-variants.{Left as OnlyLeft, Right as OnlyRight, Both, Neither, Refused as TraceRefused}
 
--- no answer uses more than four
+-- all but refusal 11 use four at most
 abbrev pub eight : ℕ → ℕ → ℕ → ℕ → List ℕ
 eight a b c d = a ∷ b ∷ c ∷ d ∷ 0 ∷ 0 ∷ 0 ∷ 0 ∷ []
 
@@ -52,12 +52,16 @@ unfoldable pub textNumbers : Answer → List ℕ
 textNumbers (Nodes n) = eight 0 n 0 0
 textNumbers (TextRefused r) = refusedNumbers r
 
+-- refusal 11: number, side, place, and how far the two agree
+unfoldable pub fullNumbers : Refusal → ℕ → List ℕ
+fullNumbers r d = 9 ∷ r .number ∷ r .side ∷ r .place ∷ d ∷ 0 ∷ 0 ∷ 0 ∷ []
+
 -- equal: the rows; left and right: the trace's length, the entering packet
 unfoldable pub verdictNumbers : Verdict → List ℕ
 verdictNumbers (Equal rows) = eight 0 rows 0 0
 verdictNumbers (Left n α) = eight 1 n α 0
 verdictNumbers (Right n α) = eight 2 n α 0
-verdictNumbers (Full r) = refusedNumbers r
+verdictNumbers (Full r d) = fullNumbers r d
 verdictNumbers (SearchRefused r) = refusedNumbers r
 
 -- rejected: the rule, 1 to 4 for (a) to (d), then row or α, then γ

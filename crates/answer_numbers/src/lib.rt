@@ -1,6 +1,6 @@
 // The eight numbers of each answer, for the C interface.
 ghost use mathlib.Core.Path.{_≡_};
-ghost use Rattle.answer_numbers.specs.Numbers.{eight, refusedNumbers, valuesNumbers, numberNumbers, policyNumbers, pairNumbers, textNumbers, verdictNumbers, evidenceNumbers, traceNumbers};
+ghost use Rattle.answer_numbers.specs.Numbers.{eight, refusedNumbers, valuesNumbers, numberNumbers, policyNumbers, pairNumbers, textNumbers, fullNumbers, verdictNumbers, evidenceNumbers, traceNumbers};
 use evidence::Evidence;
 use grammar::Answer;
 use legality::PairAnswer;
@@ -21,6 +21,21 @@ fn of_refusal(r: Refusal) -> [u64; 8]
     ensures { λ x. ⌜ x ≡ refusedNumbers r ⌝ }
 {
     numbers(9, r.number as u64, r.side as u64, r.place)
+}
+
+fn of_full(r: Refusal, depth: usize) -> [u64; 8]
+    ensures { λ x. ⌜ x ≡ fullNumbers r depth ⌝ }
+{
+    [
+        9,
+        r.number as u64,
+        r.side as u64,
+        r.place,
+        depth as u64,
+        0,
+        0,
+        0,
+    ]
 }
 
 // Inner, as all below: the numbers of an answer.
@@ -76,7 +91,7 @@ pub fn of_verdict(answer: Verdict) -> [u64; 8]
         Verdict::Equal(rows) => numbers(0, rows as u64, 0, 0),
         Verdict::Left(n, alpha) => numbers(1, n as u64, alpha as u64, 0),
         Verdict::Right(n, alpha) => numbers(2, n as u64, alpha as u64, 0),
-        Verdict::Full(r) => of_refusal(r),
+        Verdict::Full(r, depth) => of_full(r, depth),
         Verdict::Refused(r) => of_refusal(r),
     }
 }

@@ -1,7 +1,7 @@
--- Every line comes out as stated, by computation.
-use mathlib.Core.Path.{_≡_, refl}
+-- Every line comes out as stated: each part of the table by computation.
+use mathlib.Core.Path.{_≡_, refl, sym, _∙_, ap₂}
 use mathlib.Core.Bool.{xor}
-use mathlib.Core.List.{map}
+use mathlib.Core.List.{List, _++_, map, map-append}
 use Rattle.packet.specs.Lowest.{lowest, orAt}
 use Rattle.packet.specs.Packets.{valueAt, changed, valuesOf, numberOf}
 use Rattle.packet.specs.Sizes.{product, badCount, zeroSize, productOver, fieldsStage, productStage}
@@ -18,7 +18,7 @@ use Rattle.policy.specs.NodesOfTree.{nodeEntry, actionEntry, treeSize, entriesF
 use Rattle.packet_set.specs.Bits.{bit, maskOf, onlyBits}
 use Rattle.automaton.specs.Remainder.{orElse, followedBy, rightSpine, remainder}
 use Rattle.automaton.specs.State.{anyBelow, setOf, union, takes, image, starRounds, single, unionOver, flow, enter, ofMarked, outputSet, enteredSet, next, outputMask, nextMask, runs, hasTrace}
-use Rattle.system.specs.RowOrder.{starts, sameRow, listed, append, appendNext, lowestTelling, turn, handle, runFrom, run, climbing, climb, path, entering, runAnswer, answerWith, held}
+use Rattle.system.specs.RowOrder.{starts, sameRow, listed, append, appendNext, lowestTelling, turn, handle, runFrom, run, climbing, climb, depth, path, entering, runAnswer, depthBefore, depthAtFull, answerWith, held}
 use Rattle.pair.specs.Sides.{at, onBoth}
 use Rattle.pair.specs.Pair.{outputAt, nextAt, sameStates, bothZero, inOneOutput, bitsOfDups}
 use Rattle.pair.specs.Search.{lastOf, sideOf, reported, searchAnswer, columnsOf, heldColumns}
@@ -39,8 +39,22 @@ use Rattle.grammar.specs.Grammar.{constantPolicy, fieldAction}
 use Rattle.grammar.specs.Reading.{nothing, joinSequence, joinSum, upTo, whole, negated, negating, itemRead, start, close, step, finish, readOn}
 use Rattle.grammar.specs.Answer.{badPlace, openAfter, deepPlace, stopPlace, treeRead, tooMany, answerAfter, outcome, textTree, tested, answerTo, leftBy, shortest}
 use Rattle.search_texts.specs.Call.{textNodes, textStage, textsTests, textsVerdict, textsLeaves}
-use Rattle.cases.specs.Cases.{Case, resultOf, bytes, dups, nested, nines, words, lending, thenNines, holding, compares, cases}
+use Rattle.cases.specs.Cases.{Case, resultOf, bytes, dups, nested, nines, words, lending, thenNines, holding, compares, ofDocument01, ofDocument02, cases}
 
-pub all-as-stated : map (λ (c : Case). resultOf (c .call)) cases ≡ map (λ (c : Case). c .stated) cases
-unfolding xor lowest orAt valueAt changed valuesOf numberOf product nodeCount nodeOf nodeAt one isDup dupsBelow grow treeAt treeOf policyOf nodeEntry actionEntry treeSize entriesFrom listsOf nodesOf bit maskOf anyBelow setOf union takes image starRounds single unionOver labels rightSpine orElse followedBy remainder flow enter ofMarked outputSet enteredSet next outputMask nextMask runs hasTrace starts sameRow listed append appendNext lowestTelling turn handle runFrom run climbing climb path entering runAnswer answerWith held at onBoth outputAt nextAt sameStates bothZero inOneOutput bitsOfDups lastOf sideOf reported searchAnswer columnsOf heldColumns andThen brokenAt present breaksA breaksB breaksD checkRow checkRows checkRules evidenceAnswer answerOf sideHas traceAnswer misfit rowsMisfit listsStage lentTests workAfter verdictOf traceAfter filled verdictAfter lentAfter searchTests searchVerdict searchLeaves checking.asEvidence evidenceOf evidenceTests evidenceCall badPacket packetsStage checkedAs checkedUnless following.listsTests traceTests traceCall policyTests pairTests policyAnswer pairAnswer policyLegality pairLegality lengthTest numberStage valuesStage valuesTests valuesAnswer keptUnless valuesLeft badValue numberTests numberAnswer sided isBlank isLetter isDigit inWord fieldNames sameWord allDigits decimal leadingZero isNumber numberToken fieldToken fieldNamed wordToken singleMark isDouble doubleMark beginsDouble markToken wordOf frontToken isBad restOfToken placedFrom tokensFrom tokens constantPolicy fieldAction nothing joinSequence joinSum upTo whole negated negating itemRead start close step finish readOn badPlace openAfter deepPlace stopPlace treeRead tooMany answerAfter outcome textTree tested answerTo leftBy shortest textNodes textStage textsTests textsVerdict textsLeaves badCount zeroSize productOver fieldsStage productStage refusal refusedAt atPlace firstOf written children badLengths badKind badField used wrongEntries badEntries someNotBelow badChild occurrences timesChild notOnce isTest negatesOther badNegation tooManyDups cause policiesStage onlyBits resultOf bytes dups nested nines words lending thenNines holding compares cases order inOrder causes stagesOf column
-all-as-stated = refl
+-- a part of the table is as stated
+abbrev pub AsStated : List Case → Type 0
+AsStated lines = map (λ (c : Case). resultOf (c .call)) lines ≡ map (λ (c : Case). c .stated) lines
+
+document-01 : AsStated ofDocument01
+unfolding xor lowest orAt valueAt changed valuesOf numberOf product nodeCount nodeOf nodeAt one isDup dupsBelow grow treeAt treeOf policyOf nodeEntry actionEntry treeSize entriesFrom listsOf nodesOf bit maskOf anyBelow setOf union takes image starRounds single unionOver labels rightSpine orElse followedBy remainder flow enter ofMarked outputSet enteredSet next outputMask nextMask runs hasTrace starts sameRow listed append appendNext lowestTelling turn handle runFrom run climbing climb depth path entering runAnswer depthBefore depthAtFull answerWith held at onBoth outputAt nextAt sameStates bothZero inOneOutput bitsOfDups lastOf sideOf reported searchAnswer columnsOf heldColumns andThen brokenAt present breaksA breaksB breaksD checkRow checkRows checkRules evidenceAnswer answerOf sideHas traceAnswer misfit rowsMisfit listsStage lentTests workAfter verdictOf traceAfter filled verdictAfter lentAfter searchTests searchVerdict searchLeaves checking.asEvidence evidenceOf evidenceTests evidenceCall badPacket packetsStage checkedAs checkedUnless following.listsTests traceTests traceCall policyTests pairTests policyAnswer pairAnswer policyLegality pairLegality lengthTest numberStage valuesStage valuesTests valuesAnswer keptUnless valuesLeft badValue numberTests numberAnswer sided isBlank isLetter isDigit inWord fieldNames sameWord allDigits decimal leadingZero isNumber numberToken fieldToken fieldNamed wordToken singleMark isDouble doubleMark beginsDouble markToken wordOf frontToken isBad restOfToken placedFrom tokensFrom tokens constantPolicy fieldAction nothing joinSequence joinSum upTo whole negated negating itemRead start close step finish readOn badPlace openAfter deepPlace stopPlace treeRead tooMany answerAfter outcome textTree tested answerTo leftBy shortest textNodes textStage textsTests textsVerdict textsLeaves badCount zeroSize productOver fieldsStage productStage refusal refusedAt atPlace firstOf written children badLengths badKind badField used wrongEntries badEntries someNotBelow badChild occurrences timesChild notOnce isTest negatesOther badNegation tooManyDups cause policiesStage onlyBits resultOf bytes dups nested nines words lending thenNines holding compares ofDocument01 order inOrder causes stagesOf column
+document-01 = refl
+
+document-02 : AsStated ofDocument02
+unfolding xor lowest orAt valueAt changed valuesOf numberOf product nodeCount nodeOf nodeAt one isDup dupsBelow grow treeAt treeOf policyOf nodeEntry actionEntry treeSize entriesFrom listsOf nodesOf bit maskOf anyBelow setOf union takes image starRounds single unionOver labels rightSpine orElse followedBy remainder flow enter ofMarked outputSet enteredSet next outputMask nextMask runs hasTrace starts sameRow listed append appendNext lowestTelling turn handle runFrom run climbing climb depth path entering runAnswer depthBefore depthAtFull answerWith held at onBoth outputAt nextAt sameStates bothZero inOneOutput bitsOfDups lastOf sideOf reported searchAnswer columnsOf heldColumns andThen brokenAt present breaksA breaksB breaksD checkRow checkRows checkRules evidenceAnswer answerOf sideHas traceAnswer misfit rowsMisfit listsStage lentTests workAfter verdictOf traceAfter filled verdictAfter lentAfter searchTests searchVerdict searchLeaves checking.asEvidence evidenceOf evidenceTests evidenceCall badPacket packetsStage checkedAs checkedUnless following.listsTests traceTests traceCall policyTests pairTests policyAnswer pairAnswer policyLegality pairLegality lengthTest numberStage valuesStage valuesTests valuesAnswer keptUnless valuesLeft badValue numberTests numberAnswer sided isBlank isLetter isDigit inWord fieldNames sameWord allDigits decimal leadingZero isNumber numberToken fieldToken fieldNamed wordToken singleMark isDouble doubleMark beginsDouble markToken wordOf frontToken isBad restOfToken placedFrom tokensFrom tokens constantPolicy fieldAction nothing joinSequence joinSum upTo whole negated negating itemRead start close step finish readOn badPlace openAfter deepPlace stopPlace treeRead tooMany answerAfter outcome textTree tested answerTo leftBy shortest textNodes textStage textsTests textsVerdict textsLeaves badCount zeroSize productOver fieldsStage productStage refusal refusedAt atPlace firstOf written children badLengths badKind badField used wrongEntries badEntries someNotBelow badChild occurrences timesChild notOnce isTest negatesOther badNegation tooManyDups cause policiesStage onlyBits resultOf bytes dups nested nines words lending thenNines holding compares ofDocument02 order inOrder causes stagesOf column
+document-02 = refl
+
+pub all-as-stated : AsStated cases
+unfolding cases
+all-as-stated =
+    map-append (λ (c : Case). resultOf (c .call)) ofDocument01 ofDocument02 ∙ ap₂ _++_ document-01 document-02
+    ∙ sym (map-append (λ (c : Case). c .stated) ofDocument01 ofDocument02)

@@ -215,8 +215,10 @@ starts2 = columns (0 ∷ 1 ∷ []) (1 ∷ 1 ∷ []) (1 ∷ 1 ∷ []) (0 ∷ 1 �
 abbrev starts3 : Columns
 starts3 = columns (0 ∷ 1 ∷ 2 ∷ []) (1 ∷ 1 ∷ 1 ∷ []) (1 ∷ 1 ∷ 1 ∷ []) (0 ∷ 1 ∷ 2 ∷ [])
 
-unfoldable pub cases : List Case
-cases =
+-- ---- the table, in two parts: each is held against the definitions by a computation of its own
+
+unfoldable pub ofDocument01 : List Case
+ofDocument01 =
     -- P1
     compares (2 ∷ []) "drop" "id" 5 3 (Right 1 0) starts2 (0 ∷ [])
     -- P2
@@ -228,7 +230,7 @@ cases =
     -- P5
     ++ P5 5 (Equal 3) (columns (0 ∷ 0 ∷ 0 ∷ []) (1 ∷ 2 ∷ 2 ∷ []) (1 ∷ 2 ∷ 4 ∷ []) (0 ∷ 0 ∷ 1 ∷ []))
     -- P6
-    ++ P5 2 (Full (refusal 11 0 2)) (columns (0 ∷ 0 ∷ []) (1 ∷ 2 ∷ []) (1 ∷ 2 ∷ []) (0 ∷ 0 ∷ []))
+    ++ P5 2 (Full (refusal 11 0 2) 1) (columns (0 ∷ 0 ∷ []) (1 ∷ 2 ∷ []) (1 ∷ 2 ∷ []) (0 ∷ 0 ∷ []))
     ++ P5 3 (Equal 3) (columns (0 ∷ 0 ∷ 0 ∷ []) (1 ∷ 2 ∷ 2 ∷ []) (1 ∷ 2 ∷ 4 ∷ []) (0 ∷ 0 ∷ 1 ∷ []))
     -- P7; with a trace list of 1 it is 12
     ++ compares (1 ∷ []) "dup" "dup;dup" 5 3 (Left 2 0) (columns (0 ∷ 0 ∷ []) (1 ∷ 2 ∷ []) (1 ∷ 2 ∷ []) (0 ∷ 0 ∷ [])) (0 ∷ 0 ∷ [])
@@ -308,8 +310,12 @@ cases =
     ∷ unread (bytes "id+;00") 9 14 4
     ∷ unread (bytes "id+ ") 9 16 4
     ∷ unread (bytes "id;dup*") 3 17 4
-    -- document 02, A.1: a negated sequence; a negation before and after a dup; `!` binds closer than `*`; a negation in a star
-    ∷ compares (2 ∷ 2 ∷ []) "!(f0=0;f1=0)" "f0!=0+f1!=0" 5 3 (Equal 4) (columns (0 ∷ 1 ∷ 2 ∷ 3 ∷ []) (1 ∷ 1 ∷ 1 ∷ 1 ∷ []) (1 ∷ 1 ∷ 1 ∷ 1 ∷ []) (0 ∷ 1 ∷ 2 ∷ 3 ∷ [])) []
+    ∷ []
+
+unfoldable pub ofDocument02 : List Case
+ofDocument02 =
+    -- A.1: a negated sequence; a negation before and after a dup; `!` binds closer than `*`; a negation in a star
+    compares (2 ∷ 2 ∷ []) "!(f0=0;f1=0)" "f0!=0+f1!=0" 5 3 (Equal 4) (columns (0 ∷ 1 ∷ 2 ∷ 3 ∷ []) (1 ∷ 1 ∷ 1 ∷ 1 ∷ []) (1 ∷ 1 ∷ 1 ∷ 1 ∷ []) (0 ∷ 1 ∷ 2 ∷ 3 ∷ [])) []
     ++ compares (2 ∷ []) "dup;!f0=0" "!f0=0;dup" 5 3 (Equal 4) A1-rows []
     ++ judges (2 ∷ []) (nodes "dup;!f0=0") (nodes "!f0=0;dup") (0 ∷ 1 ∷ 0 ∷ 1 ∷ []) (1 ∷ 1 ∷ 2 ∷ 2 ∷ []) (1 ∷ 1 ∷ 0 ∷ 2 ∷ []) Accepted
     ∷ follows (2 ∷ []) (nodes "!f0=0") (nodes "f0=0") 1 (1 ∷ []) OnlyLeft
@@ -338,9 +344,18 @@ cases =
     ∷ unread (bytes "!!=0") 9 16 1
     ∷ unread (bytes "!") 9 16 1
     ∷ unread (bytes "!!!id") 3 17 4
-    -- document 02, A.2: P2's table and P11 by records, parents unread; bit 63 keeps (a) with 63 dups and breaks it with 62
+    -- A.2: P2's table and P11 by records, parents unread; bit 63 keeps (a) with 63 dups and breaks it with 62
     ∷ judgesRecords (2 ∷ []) P2-left P2-right (record4 0 1 1 65535 ∷ record4 1 1 1 65535 ∷ record4 0 2 2 65535 ∷ record4 1 0 2 65535 ∷ []) Accepted
     ∷ judgesRecords (2 ∷ []) P2-left P2-right (record4 0 1 1 0 ∷ record4 1 1 1 1 ∷ record4 0 2 2 0 ∷ []) (RuleD 1 1)
     ∷ judges (1 ∷ []) (textNodes (dups 62)) pass (0 ∷ []) (9223372036854775808 ∷ []) (0 ∷ []) (RuleB 0)
     ∷ judges (1 ∷ []) pass (textNodes (dups 61)) (0 ∷ []) (1 ∷ []) (9223372036854775808 ∷ []) (RuleA 0)
-    ∷ []
+    -- A.3: P5 with no row and with one; P2 with three, where the last row listed is deeper than the row being handled; a row of depth 2;
+    -- one row for two packets
+    ∷ P5 0 (Full (refusal 11 0 0) 0) (columns [] [] [] [])
+    ++ P5 1 (Full (refusal 11 0 1) 0) (columns (0 ∷ []) (1 ∷ []) (1 ∷ []) (0 ∷ []))
+    ++ compares (2 ∷ []) "f0=0;dup" "dup;f0=0" 3 3 (Full (refusal 11 0 3) 0) (columns (0 ∷ 1 ∷ 0 ∷ []) (1 ∷ 1 ∷ 2 ∷ []) (1 ∷ 1 ∷ 2 ∷ []) (0 ∷ 1 ∷ 0 ∷ [])) []
+    ++ compares (1 ∷ []) "dup;dup;dup" "dup;dup;dup;drop+dup;dup;dup" 3 3 (Full (refusal 11 0 3) 2) (columns (0 ∷ 0 ∷ 0 ∷ []) (1 ∷ 2 ∷ 4 ∷ []) (1 ∷ 18 ∷ 36 ∷ []) (0 ∷ 0 ∷ 1 ∷ [])) []
+    ++ compares (2 ∷ []) "id" "id" 1 3 (Full (refusal 11 0 1) 0) (columns (0 ∷ []) (1 ∷ []) (1 ∷ []) (0 ∷ [])) []
+
+unfoldable pub cases : List Case
+cases = ofDocument01 ++ ofDocument02

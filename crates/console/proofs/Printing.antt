@@ -75,7 +75,7 @@ module _ (sizes left-text right-text : List ℕ) (x : SearchLists) where
         (ap (λ ps. rowLines ps (take n (written (rows .lefts) (x .lefts))) (take n (written (rows .rights) (x .rights)))) packets ∙ ap₂ (rowLines (rows .packets)) lefts rights)
     lines-passed (different left α t) e = ap (λ w. verdictLine (wordOfSide left) (length t) α ++ traceLines 0 w) (take-written t (x .trace))
     lines-passed (different right α t) e = ap (λ w. verdictLine (wordOfSide right) (length t) α ++ traceLines 0 w) (take-written t (x .trace))
-    lines-passed (rowsFull n) e = refl
+    lines-passed (rowsFull n d) e = refl
     lines-passed (traceShort n) e = refl
 
     module _ (rows-lent : length (x .packets) ≡ 4096) (lefts-lent : length (x .lefts) ≡ 4096) (rights-lent : length (x .rights) ≡ 4096) (trace-lent : length (x .trace) ≡ 4096) where
@@ -97,7 +97,7 @@ module _ (sizes left-text right-text : List ℕ) (x : SearchLists) where
           )
       fits-passed (different left α t) e = let h = trace-fits left α t e in (omega (arith, h, trace-lent), omega (arith, h, length-written t (x .trace) h))
       fits-passed (different right α t) e = let h = trace-fits right α t e in (omega (arith, h, trace-lent), omega (arith, h, length-written t (x .trace) h))
-      fits-passed (rowsFull n) e = tt
+      fits-passed (rowsFull n d) e = tt
       fits-passed (traceShort n) e = tt
 
   module _ {v : Verdict} {y : SearchLists} (D : TextsSearched sizes left-text right-text x v y) where
@@ -160,7 +160,7 @@ unfolding outputAfter answerLines verdictAfter verdictOf tellingLines verdictLin
 starts-equal Passed rows (equal n) e = (n, refl)
 starts-equal Passed rows (different left α w) e = absurd (other-word _ _ 0 (λ q. omega (arith, q)) e)
 starts-equal Passed rows (different right α w) e = absurd (other-word _ _ 0 (λ q. omega (arith, q)) e)
-starts-equal Passed rows (rowsFull n) e = absurd (refusal-not-equal _ e)
+starts-equal Passed rows (rowsFull n d) e = absurd (refusal-not-equal _ e)
 starts-equal Passed rows (traceShort n) e = absurd (refusal-not-equal _ e)
 starts-equal (Stopped r) rows a e = absurd (refusal-not-equal r e)
 
@@ -179,7 +179,7 @@ starts-side left Passed rows (different left α w) e = record { entering = α; t
 starts-side right Passed rows (different right α w) e = record { entering = α; trace = w; passed = refl; answer = refl }
 starts-side left Passed rows (different right α w) e = absurd (other-word _ _ 0 (λ q. omega (arith, q)) e)
 starts-side right Passed rows (different left α w) e = absurd (other-word _ _ 0 (λ q. omega (arith, q)) e)
-starts-side s Passed rows (rowsFull n) e = absurd (refusal-not-side s _ e)
+starts-side s Passed rows (rowsFull n d) e = absurd (refusal-not-side s _ e)
 starts-side s Passed rows (traceShort n) e = absurd (refusal-not-side s _ e)
 starts-side s (Stopped r) rows a e = absurd (refusal-not-side s r e)
 

@@ -185,7 +185,7 @@ module _ (sizes : List ℕ) (L R : NodeLists) where
       S : System
       S = pairSystem sizes (policies L R)
 
-      not-full : {c : ℕ} → full ≡ allHandled c → ⊥
+      not-full : {c d : ℕ} → full d ≡ allHandled c → ⊥
       not-full e = true≢false (cc)
 
       same : run S k .rows ≡ held S (length (run S k .rows))

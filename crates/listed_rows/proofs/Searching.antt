@@ -10,22 +10,23 @@ use lib.Seq.{take-all, length-take-le}
 use borrow.Author.Tests.{ltb-true, ltb-false}
 use Rattle.packet.specs.Sizes.{product}
 use Rattle.system.specs.System.{System, Lawful}
-use Rattle.system.specs.RowOrder.{Entry, entryAt, appendNext, current, turn, finished, telling, handling, handle, run, path, entering, held}
+use Rattle.system.specs.RowOrder.{Entry, entryAt, appendNext, current, turn, finished, telling, handling, handle, run, depth, path, entering, held}
 use Rattle.system.proofs.Basics.{prefix-length}
 use Rattle.system.proofs.Climb.{Earlier}
 use Rattle.system.proofs.Runs.{finished≢handling, telling≢handling, turn-end, run-begin, run-handle}
-use Rattle.system.proofs.Answers.{appendNext-longer, full-iff, held-first, held-stopped}
+use Rattle.system.proofs.Answers.{appendNext-longer, run-handled, RanOut, at-start, at-row, out-needs-more, held-first, held-stopped}
+use Rattle.system.proofs.Verdicts.{held-earlier, held-depth}
 use Rattle.pair.specs.Sides.{Pair, NumberedPolicy}
 use Rattle.pair.specs.Pair.{pairSystem}
 use Rattle.pair.specs.Search.{equal, rowsFull, reported, sideOf, searchAnswer, columnsOf}
-use Rattle.pair.proofs.Verdicts.{search-full, search-finished, search-telling}
+use Rattle.pair.proofs.Verdicts.{search-out, search-finished, search-telling}
 use Rattle.index.specs.declared.Appended.the-variants.{Rows, Full}
 use Rattle.index.specs.Appending.{Lists}
 use Rattle.index.specs.Entries.{Masks}
 use Rattle.index.proofs.Entries.{column, entries-at}
 use Rattle.packet.specs.Written.{written}
 use Rattle.listed_rows.specs.Standing.{answerFor, Standing, Continues, pairMasks, Started}
-use Rattle.parent_traces.specs.ParentLines.{linePath, lineStart, Rooted}
+use Rattle.parent_traces.specs.ParentLines.{lineDepth, linePath, lineStart, Rooted}
 use Rattle.listed_rows.proofs.Standing.{stands-length, drop-later}
 use Rattle.parent_traces.proofs.Lines.{climb-rise}
 
@@ -115,6 +116,10 @@ module _ (sizes : List ℕ) (ps : Pair NumberedPolicy) where
 
     -- what the columns say of a row's line is what the entries say
     module _ (E : Earlier S es) (h : ℕ) (h<n : h < n) where
+      pub depth-line : depth S es h ≡ lineDepth (y .parents) h
+      unfolding depth lineDepth
+      depth-line = climb-rise _ _ (rooted E) S es (λ i l. ap (λ e. e .parent) (entry-at i l)) _ _ (λ i l. refl) (λ i l a. refl) h h<n
+
       pub path-line : path S es h ≡ linePath (y .packets) (y .parents) h
       unfolding path linePath
       path-line = climb-rise _ _ (rooted E) S es (λ i l. ap (λ e. e .parent) (entry-at i l)) _ _ (λ i l. refl) (λ i l a. ap (λ e. a ++ (e .row .packet ∷ [])) (entry-at i l)) h h<n
@@ -129,15 +134,15 @@ module _ (sizes : List ℕ) (ps : Pair NumberedPolicy) where
     pub handled : run S k .handled ≡ h
 
   -- refusal 11: the rows held are the first of the row order
-  pub record IsFull (x y : Lists) (count : ℕ) : Type 0 where
-    pub answer : (lent : ℕ) → searchAnswer sizes ps (length (x .packets)) lent ≡ rowsFull (length (x .packets))
+  pub record IsFull (x y : Lists) (count d : ℕ) : Type 0 where
+    pub answer : (lent : ℕ) → searchAnswer sizes ps (length (x .packets)) lent ≡ rowsFull (length (x .packets)) d
     pub standing : Standing S M x y count (length (x .packets)) (held S (length (x .packets)))
 
-  over-full : {x y : Lists} {count : ℕ} (k : ℕ) → length (x .packets) < length (run S k .rows)
-      → Standing S M x y count (length (x .packets)) (take (length (x .packets)) (run S k .rows)) → IsFull x y count
-  over-full {x} {y} {count} k over T =
+  over-full : {x y : Lists} {count d : ℕ} (k : ℕ) → RanOut S (length (x .packets)) d → length (x .packets) < length (run S k .rows)
+      → Standing S M x y count (length (x .packets)) (take (length (x .packets)) (run S k .rows)) → IsFull x y count d
+  over-full {x} {y} {count} k out over T =
       record {
-        answer = λ lent. search-full sizes ps (length (x .packets)) lent (full-iff S (length (x .packets)) .1 (record { after = k; more = over }));
+        answer = λ lent. search-out sizes ps (length (x .packets)) lent out;
         standing = subst (Standing S M x y count (length (x .packets))) (held-first S (length (x .packets)) k (omega arith)) T;
       }
 
@@ -149,10 +154,11 @@ module _ (sizes : List ℕ) (ps : Pair NumberedPolicy) where
           handled = ap (λ z. z .handled) (run-begin S);
         }
 
-    pub start-full : {x y : Lists} → Started x y count Full → IsFull x y count
+    pub start-full : {x y : Lists} → Started x y count Full → IsFull x y count 0
     start-full {x} {y} T =
         let o = continues-over S M (T .started sizes ps lawful small) in
-        over-full 0 (subst (λ z. length (x .packets) < length (z .rows)) (sym (run-begin S)) (o .0))
+        let over = subst (λ z. length (x .packets) < length (z .rows)) (sym (run-begin S)) (o .0) in
+        over-full 0 (at-start over refl) over
         (subst (λ z. Standing S M x y count (length (x .packets)) (take (length (x .packets)) (z .rows))) (sym (run-begin S)) (o .1))
 
     module _ {x y : Lists} {n h k : ℕ} (R : Running x y count n h k) where
@@ -172,16 +178,33 @@ module _ (sizes : List ℕ) (ps : Pair NumberedPolicy) where
               handled = ap (λ w. w .handled) (run-handle S k goes) ∙ ap suc (R .handled);
             }
 
-      -- 11
-      pub search-fills : {z : Lists} → length (y .packets) ≡ length (x .packets) → length (y .packets) < length (run S (suc k) .rows)
-          → Standing S M y z count (length (y .packets)) (take (length (y .packets)) (run S (suc k) .rows)) → IsFull x z count
-      search-fills {z} same over T =
-          over-full (suc k) (omega (arith, over))
-          (subst (λ l. Standing S M x z count l (take l (run S (suc k) .rows))) same (stands-then S M (R .standing) T (R .standing .indexed .within)))
-
       module _ (same : length (y .packets) ≡ length (x .packets)) where
         fits : length (run S k .rows) ≤ length (x .packets)
         fits = omega (arith, stands-length S M (R .standing), R .standing .indexed .within)
+
+        -- 11, at the depth of the row being handled
+        module _ (goes : turn S (run S k) ≡ handling) (over : length (y .packets) < length (run S (suc k) .rows)) {z : Lists}
+            (T : Standing S M y z count (length (y .packets)) (take (length (y .packets)) (run S (suc k) .rows))) where
+          ran : RanOut S (length (x .packets)) (depth S (run S k .rows) h)
+          ran = at-row k fits goes (omega (arith, same, over)) (ap (depth S (run S k .rows)) (R .handled))
+
+          pub search-fills : IsFull x z count (depth S (run S k .rows) h)
+          search-fills =
+              over-full (suc k) ran (omega (arith, same, over))
+              (subst (λ l. Standing S M x z count l (take l (run S (suc k) .rows))) same (stands-then S M (R .standing) T (R .standing .indexed .within)))
+
+          -- the depth is read off the columns
+          pub fills-depth : length (z .parents) ≡ length (z .packets) → h < n → depth S (run S k .rows) h ≡ lineDepth (z .parents) h
+          fills-depth long inside =
+              let listed = stands-length S M (R .standing) in
+              sym (held-depth S lawful (length (x .packets)) k (out-needs-more S (length (x .packets)) ran) (omega (arith, run-handled S k goes, R .handled, listed, fits)) fits h (omega (arith, listed)))
+              ∙ depth-line (search-fills .standing) long (held-earlier S lawful (length (x .packets))) h (omega (arith, listed, fits))
+
+          pub fills-rooted : length (z .parents) ≡ length (z .packets) → Rooted (z .parents) n
+          fills-rooted long =
+              let all = rooted (search-fills .standing) long (held-earlier S lawful (length (x .packets))) in
+              let listed = stands-length S M (R .standing) in
+              record { within = omega (arith, all .within, listed, fits); earlier = λ i l. all .earlier i (omega (arith, listed, fits)) }
 
         -- equal, with the row count
         pub search-ends : n ≤ h → (lent : ℕ)

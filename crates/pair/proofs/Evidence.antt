@@ -18,7 +18,6 @@ use Rattle.automaton.proofs.Laws.{outputMask-fits}
 use Rattle.system.specs.System.{System, Row}
 use Rattle.system.specs.RowOrder.{startEntry, NeedsMore, run, answerWith, equal as allHandled, held}
 use Rattle.system.specs.InnerTables.{Listed}
-use Rattle.system.proofs.Answers.{full-iff}
 use Rattle.system.proofs.Verdicts.{equal-is, silent-is}
 use Rattle.pair.specs.Sides.{Side, left, right, Pair, at, NumberedPolicy}
 use Rattle.pair.specs.Pair.{outputAt, nextAt, bothZero, inOneOutput, bitsOfDups, pairSystem}
@@ -170,6 +169,6 @@ module _ (sizes : List ℕ) (ps : Pair NumberedPolicy) (ok : EvaluablePair sizes
       → evidenceAnswer sizes ps (heldColumns sizes ps n .packets) (heldColumns sizes ps n .lefts) (heldColumns sizes ps n .rights) ≡ accepted
   row-order-accepted n E few =
       ⊎-elim
-      (λ e. absurd (few (full-iff S n .0 e)))
+      (λ m. absurd (few m))
       (λ e. equal-accepted n (length (held S n)) e)
       (silent-is S (lawful sizes ps ok) (silent-iff sizes ps ok .1 E) n)

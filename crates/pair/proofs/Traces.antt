@@ -1,5 +1,5 @@
 -- Where a word leads in the system of two policies, in terms of Figure 1; nothing tells exactly when the traces are the same.
-use Prim.Native.Nat.{ℕ, _<_, _≤_}
+use Prim.Native.Nat.{ℕ, suc, _<_, _≤_}
 use mathlib.Core.Bool.{Bool, true, false, xor, cond}
 use mathlib.Core.List.{List, [], _∷_, _++_}
 use mathlib.Core.Logic.{_↔_}
@@ -9,10 +9,10 @@ use lib.Dec.{T}
 use lib.ListN.{length}
 use Rattle.packet.specs.Sizes.{product}
 use Rattle.packet.proofs.Tests.{clash, xor-same, xor-false, T-true, true-T, T-false}
-use Rattle.policy.specs.Meaning.{numbered, Traces, SameTraces, SameTracesBelow}
+use Rattle.policy.specs.Meaning.{numbered, Traces, SameShortTraces, SameTracesBelow, SameShortTracesBelow}
 use Rattle.policy.specs.InnerEach.{Each}
 use Rattle.policy.proofs.EachLaws.{each-append}
-use Rattle.policy.proofs.TraceLaws.{traces-non-empty}
+use Rattle.policy.proofs.TraceLaws.{traces-non-empty, same-each-length}
 use Rattle.policy.proofs.Numbered.{traces-below}
 use Rattle.packet_set.specs.Bits.{bit}
 use Rattle.automaton.specs.State.{StateTraces}
@@ -133,7 +133,7 @@ module _ (sizes : List ℕ) (ps : Pair NumberedPolicy) (ok : EvaluablePair sizes
       there s z t = output-after z α h v γ .1 (f s z (output-after s α h v γ .0 t))
 
   -- where nothing tells after fewer than d packets, traces of at most d packets are the same
-  pub silent-below-traces : (d : ℕ) → SilentBelow (pairSystem sizes ps) d → (α : ℕ) → α < product sizes → (t : List ℕ) → length t ≤ d
+  silent-below-traces : (d : ℕ) → SilentBelow (pairSystem sizes ps) d → (α : ℕ) → α < product sizes → (t : List ℕ) → length t ≤ d
       → (s z : Side) → SideTraces sizes ps s α t → SideTraces sizes ps z α t
   unfolding SideTraces Each
   silent-below-traces d Q α h [] l s z t = absurd (traces-non-empty (numbered sizes) (at s ps .tree) α t)
@@ -147,24 +147,25 @@ module _ (sizes : List ℕ) (ps : Pair NumberedPolicy) (ok : EvaluablePair sizes
           subst (λ x. SideTraces sizes ps z α x) (sym e)
           (silent-after α h word ε (Q .silent α h w word short ε (below .1 .0)) s z (subst (λ x. SideTraces sizes ps s α x) e t))
 
-  -- nothing tells exactly when both policies have the same traces from every packet
-  pub silent-iff : Silent (pairSystem sizes ps) ↔ SameTracesBelow sizes (ps .left .tree) (ps .right .tree)
-  unfolding SameTraces SameTracesBelow SideTraces at
-  silent-iff = (there, back)
+  -- nothing tells after fewer than d packets exactly when both policies have the same traces of d packets or fewer from every packet
+  pub short-iff : (d : ℕ) → SilentBelow (pairSystem sizes ps) d ↔ SameShortTracesBelow sizes d (ps .left .tree) (ps .right .tree)
+  unfolding SameShortTraces SameShortTracesBelow SideTraces at
+  short-iff d = (λ Q α h t l. let f = silent-below-traces d Q α h t l in (f left right, f right left), back)
     where
-      below : Silent (pairSystem sizes ps) → (d : ℕ) → SilentBelow (pairSystem sizes ps) d
-      below Q d = record { silent = λ α h w v l γ g. Q .silent α h w v γ g }
-
-      there : Silent (pairSystem sizes ps) → SameTracesBelow sizes (ps .left .tree) (ps .right .tree)
-      there Q α h t =
-          let f = silent-below-traces (length t) (below Q (length t)) α h t (omega arith) in
-          (f left right, f right left)
-
-      back : SameTracesBelow sizes (ps .left .tree) (ps .right .tree) → Silent (pairSystem sizes ps)
-      back E = record { silent = λ α h w v γ g. traces-silent α h v γ (both α h (w ++ (γ ∷ []))) }
+      back : SameShortTracesBelow sizes d (ps .left .tree) (ps .right .tree) → SilentBelow (pairSystem sizes ps) d
+      back E = record { silent = λ α h w v l γ g. traces-silent α h v γ (both α h (w ++ (γ ∷ [])) (omega (arith, length-snoc w γ))) }
         where
-          both : (α : ℕ) → α < product sizes → (t : List ℕ) → (s z : Side) → SideTraces sizes ps s α t → SideTraces sizes ps z α t
-          both α h t left left x = x
-          both α h t left right x = E α h t .0 x
-          both α h t right left x = E α h t .1 x
-          both α h t right right x = x
+          both : (α : ℕ) → α < product sizes → (t : List ℕ) → length t ≤ d → (s z : Side) → SideTraces sizes ps s α t → SideTraces sizes ps z α t
+          both α h t l left left x = x
+          both α h t l left right x = E α h t l .0 x
+          both α h t l right left x = E α h t l .1 x
+          both α h t l right right x = x
+
+  -- nothing tells exactly when they have the same traces from every packet
+  pub silent-iff : Silent (pairSystem sizes ps) ↔ SameTracesBelow sizes (ps .left .tree) (ps .right .tree)
+  unfolding SameTracesBelow SameShortTracesBelow
+  silent-iff =
+      let each = same-each-length (numbered sizes) (λ α. α < product sizes) (ps .left .tree) (ps .right .tree) in (
+        λ Q. each .1 (λ d. short-iff d .0 (record { silent = λ α h w v l. Q .silent α h w v })),
+        λ E. record { silent = λ α h w v. short-iff (suc (length w)) .1 (each .0 E (suc (length w))) .silent α h w v (omega arith) },
+      )

@@ -8,22 +8,22 @@ use native.Mathlib.Omega.{arith}
 use lib.ListN.{length, getD}
 use lib.Seq.{getD-append-seam}
 use borrow.Author.Tests.{lt-ltb, le-ltb}
-use Rattle.policy.specs.Meaning.{SameTracesBelow}
+use Rattle.policy.specs.Meaning.{SameShortTraces, SameTracesBelow, SameShortTracesBelow}
 use Rattle.system.specs.System.{System, startRow}
 use Rattle.system.specs.InnerWords.{leadsTo}
-use Rattle.system.specs.RowOrder.{RunAnswer, full as moreRows, equal as allHandled, different as tellingRow, entryAt, NeedsMore, finished, telling, turn, current, run, entering, path, answerWith, held}
+use Rattle.system.specs.RowOrder.{RunAnswer, full as moreRows, equal as allHandled, different as tellingRow, entryAt, NeedsMore, finished, telling, turn, current, run, entering, path, depthAtFull, answerWith, held}
 use Rattle.packet.proofs.Tests.{lt-or-le}
 use Rattle.system.proofs.Basics.{length-snoc}
 use Rattle.system.proofs.Runs.{telling≢handling, invariant}
 use Rattle.system.proofs.Lines.{Line, line-of}
 use Rattle.system.proofs.Shortest.{Shortest}
-use Rattle.system.proofs.Answers.{Answered, is-different, answered, full-iff, short-stops, answer-finished, answer-telling, held-stopped}
-use Rattle.system.proofs.Verdicts.{IsDifferent, equal-is, different-is, silent-is}
-use Rattle.pair.specs.Sides.{Side, left, right, Pair, NumberedPolicy}
-use Rattle.pair.specs.Pair.{pairSystem}
+use Rattle.system.proofs.Answers.{Answered, is-different, answered, full-iff, full-depth, RanOut, answer-out, short-stops, answer-finished, answer-telling, held-stopped}
+use Rattle.system.proofs.Verdicts.{IsDifferent, equal-is, different-is, full-is, silent-is}
+use Rattle.pair.specs.Sides.{Side, Pair, at, NumberedPolicy}
+use Rattle.pair.specs.Pair.{SideTraces, pairSystem}
 use Rattle.pair.specs.Search.{SearchAnswer, equal, different, rowsFull, traceShort, lastOf, sideOf, reported, searchAnswer, Distinguishes}
 use Rattle.pair.proofs.Lawful.{EvaluablePair, lawful}
-use Rattle.pair.proofs.Traces.{ends, Alone, telling-after, silent-below-traces, silent-iff}
+use Rattle.pair.proofs.Traces.{ends, Alone, telling-after, short-iff, silent-iff}
 
 -- the last packet of a trace
 pub lastOf-snoc : (w : List ℕ) (γ : ℕ) → lastOf (w ++ (γ ∷ [])) ≡ γ
@@ -38,9 +38,9 @@ module _ (sizes : List ℕ) (ps : Pair NumberedPolicy) where
   sideAt : ℕ → ℕ → List ℕ → Side
   sideAt n i t = sideOf sizes ps (entryAt S (held S n) i .row) (lastOf t)
 
-  pub search-full : (n m : ℕ) → answerWith S n ≡ moreRows → searchAnswer sizes ps n m ≡ rowsFull n
+  search-full : (n m d : ℕ) → answerWith S n ≡ moreRows d → searchAnswer sizes ps n m ≡ rowsFull n d
   unfolding searchAnswer
-  search-full n m e = rw (e, searchAnswer)
+  search-full n m d e = rw (e, searchAnswer)
 
   pub search-equal : (n m c : ℕ) → answerWith S n ≡ allHandled c → searchAnswer sizes ps n m ≡ equal c
   unfolding searchAnswer
@@ -59,6 +59,10 @@ module _ (sizes : List ℕ) (ps : Pair NumberedPolicy) where
   unfolding reported
   search-short n m i α t e h = search-reported n m i α t e ∙ ap (λ b. cond b (traceShort (length t)) (different (sideAt n i t) α t)) (lt-ltb m (length t) h)
 
+  -- n rows run out
+  pub search-out : (n m : ℕ) {d : ℕ} → RanOut S n d → searchAnswer sizes ps n m ≡ rowsFull n d
+  search-out n m o = search-full n m _ (answer-out S n o)
+
   -- a run that has stopped, with room for its rows
   pub search-finished : (n m k : ℕ) → turn S (run S k) ≡ finished → length (run S k .rows) ≤ n → searchAnswer sizes ps n m ≡ equal (length (run S k .rows))
   search-finished n m k e h = search-equal n m _ (answer-finished S n k e h)
@@ -73,7 +77,7 @@ module _ (sizes : List ℕ) (ps : Pair NumberedPolicy) where
 
   -- What each answer says of the row order.
   pub data Searched (n m : ℕ) : SearchAnswer → Type 0 where
-    is-full : {k : ℕ} → answerWith S n ≡ moreRows → n ≡ k → Searched n m (rowsFull k)
+    is-full : {k d : ℕ} → answerWith S n ≡ moreRows d → n ≡ k → Searched n m (rowsFull k d)
     is-equal : {c : ℕ} → answerWith S n ≡ allHandled c → Searched n m (equal c)
     is-short : {k : ℕ} (i α : ℕ) (t : List ℕ) → answerWith S n ≡ tellingRow i α t → m < length t → length t ≡ k → Searched n m (traceShort k)
     is-telling : {s : Side} {α : ℕ} {t : List ℕ} (i : ℕ) → answerWith S n ≡ tellingRow i α t → length t ≤ m
@@ -83,7 +87,7 @@ module _ (sizes : List ℕ) (ps : Pair NumberedPolicy) where
   searched n m = go (answerWith S n) refl
     where
       go : (a : RunAnswer) → answerWith S n ≡ a → Searched n m (searchAnswer sizes ps n m)
-      go moreRows e = subst (Searched n m) (sym (search-full n m e)) (is-full e refl)
+      go (moreRows d) e = subst (Searched n m) (sym (search-full n m d e)) (is-full e refl)
       go (allHandled c) e = subst (Searched n m) (sym (search-equal n m c e)) (is-equal e)
       go (tellingRow i α t) e = long (lt-or-le m (length t))
         where
@@ -91,18 +95,18 @@ module _ (sizes : List ℕ) (ps : Pair NumberedPolicy) where
           long (inl h) = subst (Searched n m) (sym (search-short n m i α t e h)) (is-short i α t e h refl)
           long (inr h) = subst (Searched n m) (sym (search-different n m i α t e h)) (is-telling i e h refl)
 
-  -- 11 exactly when the row order needs more rows than were lent; its place is the rows lent
-  pub full-exactly : (n m : ℕ) → (searchAnswer sizes ps n m ≡ rowsFull n) ↔ NeedsMore S n
-  full-exactly n m = (λ e. there (subst (Searched n m) e (searched n m)), λ x. search-full n m (full-iff S n .1 x))
+  -- 11 exactly when the row order needs more rows than were lent; its place is the rows lent, and d the depth at which they ran out
+  pub full-exactly : (n m : ℕ) → (searchAnswer sizes ps n m ≡ rowsFull n (depthAtFull S n)) ↔ NeedsMore S n
+  full-exactly n m = (λ e. there (subst (Searched n m) e (searched n m)), λ x. search-full n m _ (full-iff S n .1 x))
     where
-      there : Searched n m (rowsFull n) → NeedsMore S n
+      there : Searched n m (rowsFull n (depthAtFull S n)) → NeedsMore S n
       there (is-full e q) = full-iff S n .0 e
 
-  pub full-place : (n m k : ℕ) → searchAnswer sizes ps n m ≡ rowsFull k → k ≡ n
-  full-place n m k e = go (subst (Searched n m) e (searched n m))
+  pub full-place : (n m k d : ℕ) → searchAnswer sizes ps n m ≡ rowsFull k d → (k ≡ n) × (d ≡ depthAtFull S n)
+  full-place n m k d e = go (subst (Searched n m) e (searched n m))
     where
-      go : Searched n m (rowsFull k) → k ≡ n
-      go (is-full a q) = sym q
+      go : Searched n m (rowsFull k d) → (k ≡ n) × (d ≡ depthAtFull S n)
+      go (is-full a q) = (sym q, full-depth S n d a)
 
   -- a different answer but for the length of the trace list
   pub record TooLong (n m k : ℕ) : Type 0 where
@@ -134,6 +138,13 @@ module _ (sizes : List ℕ) (ps : Pair NumberedPolicy) where
             let x = equal-is S (lawful sizes ps ok) n c a in
             (x .whole, silent-iff sizes ps ok .0 (x .silent))
 
+    -- full: the same traces of d packets or fewer from every packet
+    pub full-same : (n m k d : ℕ) → searchAnswer sizes ps n m ≡ rowsFull k d → SameShortTracesBelow sizes d (ps .left .tree) (ps .right .tree)
+    full-same n m k d e = go (subst (Searched n m) e (searched n m))
+      where
+        go : Searched n m (rowsFull k d) → SameShortTracesBelow sizes d (ps .left .tree) (ps .right .tree)
+        go (is-full a q) = short-iff sizes ps ok d .0 (full-is S (lawful sizes ps ok) n d a)
+
     -- the telling row is where its path leads
     telling-leads : (n i α : ℕ) (t : List ℕ) → answerWith S n ≡ tellingRow i α t
         → leadsTo S (startRow S α) (path S (held S n) i) ≡ entryAt S (held S n) i .row
@@ -150,13 +161,13 @@ module _ (sizes : List ℕ) (ps : Pair NumberedPolicy) where
 
     telling-distinguishes : (n i α : ℕ) (t : List ℕ) → answerWith S n ≡ tellingRow i α t
         → Distinguishes sizes ps (sideOf sizes ps (entryAt S (held S n) i .row) (lastOf t)) α t
-    unfolding sideOf Alone ends
+    unfolding sideOf Alone ends SameShortTraces SameShortTracesBelow SideTraces at
     telling-distinguishes n i α t e =
         record {
           enters = y .enters;
           has = alone .0;
           lacks = alone .1;
-          shortest = λ β h u l. let f = silent-below-traces sizes ps ok (length w) (y .shortest) β h u (omega (arith, long)) in (f left right, f right left);
+          shortest = λ β h u l. short-iff sizes ps ok (length w) .0 (y .shortest) β h u (omega (arith, long));
         }
       where
         x : IsDifferent S n i α t
@@ -188,8 +199,8 @@ module _ (sizes : List ℕ) (ps : Pair NumberedPolicy) where
         go : Searched n m (different s α t) → Distinguishes sizes ps s α t
         go (is-telling i a h q) = subst (λ z. Distinguishes sizes ps z α t) q (telling-distinguishes n i α t a)
 
-    -- the same traces from every packet: the answer is equal or full
+    -- the same traces from every packet: the answer is equal, or full
     pub same-answer : SameTracesBelow sizes (ps .left .tree) (ps .right .tree) → (n m : ℕ)
-        → (searchAnswer sizes ps n m ≡ rowsFull n) ⊎ (searchAnswer sizes ps n m ≡ equal (length (held S n)))
+        → NeedsMore S n ⊎ (searchAnswer sizes ps n m ≡ equal (length (held S n)))
     same-answer E n m =
-        ⊎-elim (λ e. inl (search-full n m e)) (λ e. inr (search-equal n m _ e)) (silent-is S (lawful sizes ps ok) (silent-iff sizes ps ok .1 E) n)
+        ⊎-elim inl (λ e. inr (search-equal n m _ e)) (silent-is S (lawful sizes ps ok) (silent-iff sizes ps ok .1 E) n)

@@ -13,11 +13,11 @@ use Rattle.pair.specs.Sides.{Side, left, right, other, Pair, NumberedPol
 use Rattle.pair.specs.Pair.{SideTraces, outputAt, pairSystem}
 
 -- Equal, with the row count; different, with the policy that has the trace, the entering packet and the trace;
--- refusal 11, with the rows lent; refusal 12, with the length needed.
+-- refusal 11, with the rows lent and the depth of the row being handled; refusal 12, with the length needed.
 pub data SearchAnswer : Type 0 where
   equal : ℕ → SearchAnswer
   different : Side → ℕ → List ℕ → SearchAnswer
-  rowsFull : ℕ → SearchAnswer
+  rowsFull : ℕ → ℕ → SearchAnswer
   traceShort : ℕ → SearchAnswer
 
 -- the four row lists
@@ -44,7 +44,7 @@ module _ (sizes : List ℕ) (ps : Pair NumberedPolicy) where
   unfoldable pub searchAnswer : ℕ → ℕ → SearchAnswer
   searchAnswer rows lent =
       elim (answerWith (pairSystem sizes ps) rows) [
-        | moreRows ↦ rowsFull rows
+        | moreRows d ↦ rowsFull rows d
         | allHandled count ↦ equal count
         | tellingRow i α trace ↦ reported lent (sideOf (entryAt (pairSystem sizes ps) (held (pairSystem sizes ps) rows) i .row) (lastOf trace)) α trace
       ]

@@ -78,8 +78,8 @@ pub record OnLine (parents : List ℕ) (h i p : ℕ) : Type 0 where
 -- The loop that counts: `k` rows have been passed.
 pub record Counted (parents : List ℕ) (h i p k : ℕ) : Type 0 where
   pub on : OnLine parents h i p
-  pub counted : lineDepth parents h + 1 ≡ k + lineDepth parents i
-  pub fits : k + i ≤ h + 1
+  pub counted : lineDepth parents h ≡ k + lineDepth parents i
+  pub fits : k + i ≤ h
 
 -- The loop that looks for the start row.
 pub record Looking (parents : List ℕ) (packets : List ℕ) (h i p : ℕ) : Type 0 where
@@ -104,6 +104,17 @@ module _ {parents : List ℕ} {n : ℕ} (R : Rooted parents n) where
   pub depth-below : (i : ℕ) → i < n → getD parents i 0 < i → lineDepth parents i ≡ suc (lineDepth parents (getD parents i 0))
   unfolding lineDepth
   depth-below i h l = rise-below _ _ R i h l
+
+  -- no row has more rows above it than there are before it
+  pub depth-within : (i : ℕ) → i < n → lineDepth parents i ≤ i
+  depth-within = induction _ step
+    where
+      step : (i : ℕ) → ((j : ℕ) → j < i → j < n → lineDepth parents j ≤ j) → i < n → lineDepth parents i ≤ i
+      step i ih h = go (eq-or-lt-of-le (R .earlier i h))
+        where
+          go : (getD parents i 0 ≡ i) ⊎ (getD parents i 0 < i) → lineDepth parents i ≤ i
+          go (inl e) = omega (arith, depth-first i e)
+          go (inr l) = omega (arith, depth-below i h l, ih (getD parents i 0) l (omega arith))
 
   module _ (packets : List ℕ) where
     pub path-first : (i : ℕ) → getD parents i 0 ≡ i → linePath packets parents i ≡ []
@@ -160,7 +171,7 @@ module _ {parents : List ℕ} {n : ℕ} (R : Rooted parents n) where
     pub start-on : (packets : List ℕ) → (p ≡ i → ⊥) → lineStart packets parents p ≡ lineStart packets parents i
     start-on packets ne = ap (lineStart packets parents) (on .parent) ∙ sym (start-below packets i (omega (arith, on .inside)) (subst (λ j. j < i) (on .parent) (rises ne)))
 
-  pub counted-none : (h p : ℕ) → p ≡ getD parents h 0 → Counted parents h h p 1
+  pub counted-none : (h p : ℕ) → p ≡ getD parents h 0 → Counted parents h h p 0
   counted-none h p e = record { on = record { inside = omega arith; parent = e }; counted = omega arith; fits = omega arith }
 
   module _ {h i p k : ℕ} (h<n : h < n) (C : Counted parents h i p k) where
@@ -172,7 +183,7 @@ module _ {parents : List ℕ} {n : ℕ} (R : Rooted parents n) where
           fits = omega (arith, C .fits, rises h<n (C .on) ne);
         }
 
-    pub counted-all : p ≡ i → k ≡ lineDepth parents h + 1
+    pub counted-all : p ≡ i → k ≡ lineDepth parents h
     counted-all e = omega (arith, C .counted, depth-first i (at-start h<n (C .on) e))
 
   pub looking-none : (packets : List ℕ) (h p : ℕ) → p ≡ getD parents h 0 → Looking parents packets h h p

@@ -1,27 +1,27 @@
-// A row's line of parents: the trace that ends at the row, and where it enters (document 01, "States and rows"). All
-// functions here are inner.
+// A row's line of parents: how deep the row lies, the trace that ends at it, and where that enters (document 01, "States and rows"; document
+// 02, A.3). All functions here are inner.
 ghost use mathlib.Core.Path.{_≡_};
 ghost use mathlib.Core.List.{[], _∷_, _++_};
-ghost use Prim.Native.Nat.{_+_, _<_, _≤_};
+ghost use Prim.Native.Nat.{_<_, _≤_};
 ghost use lib.ListN.{length};
 ghost use Rattle.packet.specs.Written.{written};
 ghost use Rattle.parent_traces.specs.ParentLines.{lineDepth, linePath, lineStart, Rooted};
 
-// Inner: the length of the trace that ends at row h: one packet for each row above it, and the last.
-pub fn trace_length(parents: &[u16], listed: usize, h: usize) -> usize
+// Inner: the depth of row h, how many rows lie above it.
+pub fn depth(parents: &[u16], listed: usize, h: usize) -> usize
     requires { ⌜ Rooted (now parents) listed ⌝ }
     requires { ⌜ h < listed ⌝ }
-    ensures { λ r. ⌜ r ≡ lineDepth (now (parents .entry)) h + 1 ⌝ }
+    ensures { λ r. ⌜ r ≡ lineDepth (now (parents .entry)) h ⌝ }
 {
-    let mut length = 1;
+    let mut above = 0;
     let mut i = h;
     let mut parent = index::wide(parents[i]);
     while parent != i {
-        length += 1;
+        above += 1;
         i = parent;
         parent = index::wide(parents[i]);
     }
-    length
+    above
 }
 
 // Inner: the packet that enters where row h's line of parents starts.
@@ -55,7 +55,7 @@ pub fn write_trace(
     requires { ⌜ lineDepth (now parents) h < length (now trace) ⌝ }
     ensures { λ _. ⌜ now (trace .exit) ≡ written (linePath (now (packets .entry)) (now (parents .entry)) h ++ (last ∷ [])) (now (trace .entry)) ⌝ }
 {
-    let mut k = trace_length(parents, listed, h) - 1;
+    let mut k = depth(parents, listed, h);
     trace[k] = last;
     let mut i = h;
     let mut parent = index::wide(parents[i]);

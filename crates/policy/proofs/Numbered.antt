@@ -13,14 +13,14 @@ use Rattle.packet.proofs.Packets.{changed-below, values-changed, values-declare
 use Rattle.policy.specs.declared.FieldAction.{FieldAction}
 use Rattle.policy.specs.declared.FieldAction.the-variants.{Equals, Differs, Set}
 use Rattle.policy.specs.Tree.{Policy, drop, id, field, dup, sum, seq, star, neg}
-use Rattle.policy.specs.Meaning.{Traces, declared, numbered, SameTraces, SameTracesBelow}
+use Rattle.policy.specs.Meaning.{Traces, declared, numbered, SameTraces, SameShortTraces, SameTracesBelow, SameShortTracesBelow}
 use Rattle.policy.specs.Legality.{InFields, badField, fieldOf, valueOf}
 use Rattle.policy.specs.InnerEach.{Each}
 use Rattle.policy.specs.InnerTransport.{EachAction, Keeps, Commutes, Respects}
 use Rattle.packet.proofs.Tests.{or-false}
-use Rattle.policy.proofs.TraceLaws.{traces-stay}
+use Rattle.policy.proofs.TraceLaws.{traces-stay, same-each-length}
 use Rattle.policy.proofs.Congruence.{same-sum, same-seq, same-star, same-neg}
-use Rattle.policy.proofs.TransportLaws.{same-image, same-source}
+use Rattle.policy.proofs.TransportLaws.{short-image, short-source}
 
 module _ (sizes : List ℕ) where
   -- packets as numbers below N
@@ -95,15 +95,23 @@ module _ (sizes : List ℕ) where
     commutes = each-action (Commutes (numbered sizes) declared Below (valuesOf sizes)) commutes p i;
   }
 
-  -- same traces over numbers below N exactly when over declared packets
-  pub same-numbered : (p q : Policy) → InFields sizes p → InFields sizes q
-      → SameTracesBelow sizes p q ↔ SameTraces declared (Declared sizes) p q
-  unfolding SameTracesBelow SameTraces
-  same-numbered p q i j = (
+  -- same traces of n packets or fewer over numbers below N exactly when over declared packets
+  pub short-numbered : (n : ℕ) (p q : Policy) → InFields sizes p → InFields sizes q
+      → SameShortTracesBelow sizes n p q ↔ SameShortTraces declared (Declared sizes) n p q
+  unfolding SameShortTracesBelow SameShortTraces
+  short-numbered n p q i j = (
     λ h vs d.
-        same-image (numbered sizes) declared Below (valuesOf sizes) p q (respects p i) (respects q j) h vs
+        short-image (numbered sizes) declared Below (valuesOf sizes) n p q (respects p i) (respects q j) h vs
         (numberOf sizes vs, number-below sizes vs d, sym (values-of-number sizes vs d)),
     λ h.
-        same-source (numbered sizes) declared Below (valuesOf sizes) values-apart p q (respects p i) (respects q j)
+        short-source (numbered sizes) declared Below (valuesOf sizes) values-apart n p q (respects p i) (respects q j)
         (λ vs d. h vs (subst (Declared sizes) (sym (d .2)) (values-declared sizes (d .0) (d .1)))),
   )
+
+  -- and of any length
+  pub same-numbered : (p q : Policy) → InFields sizes p → InFields sizes q → SameTracesBelow sizes p q ↔ SameTraces declared (Declared sizes) p q
+  unfolding SameTracesBelow SameShortTracesBelow
+  same-numbered p q i j =
+      let short = same-each-length (numbered sizes) Below p q in
+      let long = same-each-length declared (Declared sizes) p q in
+      (λ h. long .1 (λ n. short-numbered n p q i j .0 (short .0 h n)), λ h. short .1 (λ n. short-numbered n p q i j .1 (long .0 h n)))

@@ -1,12 +1,14 @@
--- Traces are non-empty, and stay within any set of packets that the policy's changes keep.
+-- Traces are non-empty, and stay within any set of packets that the policy's changes keep; same traces are the same of every length.
 use Prim.Native.Nat.{ℕ, zero, suc}
+use native.Mathlib.Omega.{arith}
 use mathlib.Core.List.{List, [], _∷_, _++_, append-assoc, concat-ne-nil}
-use mathlib.Core.Logic.{⊎-elim}
+use mathlib.Core.Logic.{⊎-elim, _↔_}
 use mathlib.Core.Path.{_≡_, refl, sym, ap, _∙_, subst}
+use lib.ListN.{length}
 use Rattle.policy.specs.declared.FieldAction.{FieldAction}
 use Rattle.policy.specs.declared.FieldAction.the-variants.{Equals, Differs, Set}
 use Rattle.policy.specs.Tree.{Policy, drop, id, field, dup, sum, seq, star, neg}
-use Rattle.policy.specs.Meaning.{Packets, TraceSet, ActionTraces, Seq, Power, Traces}
+use Rattle.policy.specs.Meaning.{Packets, TraceSet, ActionTraces, Seq, Power, Traces, SameTraces, SameShortTraces}
 use Rattle.policy.specs.InnerEach.{Each}
 use Rattle.policy.specs.InnerTransport.{EachAction, Keeps}
 use Rattle.policy.proofs.EachLaws.{each-append}
@@ -117,3 +119,8 @@ module _ (P : Packets) (Declared : P .Packet → Type 0) where
   traces-stay (seq p q) k α d t h = seq-stays (Traces P p) (Traces P q) (traces-stay p (k .0)) (traces-stay q (k .1)) α d t h
   traces-stay (star p) k α d t h = power-stays (Traces P p) (traces-stay p k) (h .0) α d t (h .1)
   traces-stay (neg p) k α d t h = single-stays α d t (h .1)
+
+  -- the same traces exactly when, for every d, the same traces of d packets or fewer
+  pub same-each-length : (p q : Policy) → SameTraces P Declared p q ↔ ((d : ℕ) → SameShortTraces P Declared d p q)
+  unfolding SameTraces SameShortTraces
+  same-each-length p q = (λ same d α e t l. same α e t, λ short α e t. short (length t) α e t (omega arith))

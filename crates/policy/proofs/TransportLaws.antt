@@ -1,12 +1,13 @@
 -- Transport: along a map r that respects a policy, its traces from r α are the images of its traces from α.
-use Prim.Native.Nat.{ℕ, zero, suc}
+use Prim.Native.Nat.{ℕ, zero, suc, _≤_}
 use mathlib.Core.List.{[], _∷_, _++_, map, map-append}
 use mathlib.Core.Logic.{_⊎_, inl, inr, ⊎-elim, _↔_}
 use mathlib.Core.Path.{_≡_, refl, sym, ap, ap₂, _∙_, subst}
+use lib.ListN.{length, length-map}
 use Rattle.policy.specs.declared.FieldAction.{FieldAction}
 use Rattle.policy.specs.declared.FieldAction.the-variants.{Equals, Differs, Set}
 use Rattle.policy.specs.Tree.{Policy, drop, id, field, dup, sum, seq, star, neg}
-use Rattle.policy.specs.Meaning.{Packets, TraceSet, ActionTraces, Seq, Power, Drops, Traces, SameTraces}
+use Rattle.policy.specs.Meaning.{Packets, TraceSet, ActionTraces, Seq, Power, Drops, Traces, SameShortTraces}
 use Rattle.policy.specs.InnerEach.{Each}
 use Rattle.policy.specs.InnerTransport.{EachAction, Keeps, Commutes, Respects}
 use Rattle.policy.proofs.TraceLaws.{Trace, in-turn, AllEnd, snoc-injective, seq-ends, traces-end, Stays, turn-declared, seq-stays, traces-stay, single-stays}
@@ -137,12 +138,16 @@ module _ (P Q : Packets) (Declared : P .Packet → Type 0) (r : P .Packet → Q 
       let h = carried p (k .keeps) (k .commutes) in
       (h .from α d u, λ i. subst (Traces Q p (r α)) (sym (i .1)) (h .to α d (i .0) (i .2)))
 
-  -- policies with the same traces from every declared packet have the same traces from every image of one
-  pub same-image : (p q : Policy) → Respects P Q Declared r p → Respects P Q Declared r q → SameTraces P Declared p q
-      → SameTraces Q (λ β. (α : P .Packet) × Declared α × (β ≡ r α)) p q
-  unfolding SameTraces
-  same-image p q k l same β d u =
-      subst (λ (γ : Q .Packet). Traces Q p γ u ↔ Traces Q q γ u) (sym (d .2)) (to p q k l (λ t. same α e t .0), to q p l k (λ t. same α e t .1))
+  -- the packets that the map makes of declared ones
+  abbrev pub ImageOfDeclared : Q .Packet → Type 0
+  ImageOfDeclared β = (α : P .Packet) × Declared α × (β ≡ r α)
+
+  -- policies with the same traces of n packets or fewer from every declared packet have the same from every image of one
+  pub short-image : (n : ℕ) (p q : Policy) → Respects P Q Declared r p → Respects P Q Declared r q → SameShortTraces P Declared n p q
+      → SameShortTraces Q ImageOfDeclared n p q
+  unfolding SameShortTraces
+  short-image n p q k l same β d u few =
+      subst (λ (γ : Q .Packet). Traces Q p γ u ↔ Traces Q q γ u) (sym (d .2)) (to p q k l (λ t m. same α e t m .0), to q p l k (λ t m. same α e t m .1))
     where
       α : P .Packet
       α = d .0
@@ -150,9 +155,11 @@ module _ (P Q : Packets) (Declared : P .Packet → Type 0) (r : P .Packet → Q 
       e : Declared α
       e = d .1
 
-      to : (p q : Policy) → Respects P Q Declared r p → Respects P Q Declared r q → ((t : Trace P) → Traces P p α t → Traces P q α t)
+      to : (p q : Policy) → Respects P Q Declared r p → Respects P Q Declared r q → ((t : Trace P) → length t ≤ n → Traces P p α t → Traces P q α t)
           → Traces Q p (r α) u → Traces Q q (r α) u
-      to p q k l f h = let i = transport p k α e u .0 h in transport q l α e u .1 (i .0, i .1, f (i .0) (i .2))
+      to p q k l f h =
+          let i = transport p k α e u .0 h in
+          transport q l α e u .1 (i .0, i .1, f (i .0) (subst (λ m. m ≤ n) (ap length (i .1) ∙ length-map (i .0) r) few) (i .2))
 
   -- the map tells declared packets apart
   abbrev pub TellsApart : Type 0
@@ -169,10 +176,12 @@ module _ (P Q : Packets) (Declared : P .Packet → Type 0) (r : P .Packet → Q 
       cc
 
   -- and back, where the map tells declared packets apart
-  pub same-source : TellsApart → (p q : Policy) → Respects P Q Declared r p → Respects P Q Declared r q
-      → SameTraces Q (λ β. (α : P .Packet) × Declared α × (β ≡ r α)) p q → SameTraces P Declared p q
-  unfolding SameTraces
-  same-source apart p q k l same α d t = let s = same (r α) (α, d, refl) (map r t) in (to p q k l (s .0), to q p l k (s .1))
+  pub short-source : TellsApart → (n : ℕ) (p q : Policy) → Respects P Q Declared r p → Respects P Q Declared r q
+      → SameShortTraces Q ImageOfDeclared n p q → SameShortTraces P Declared n p q
+  unfolding SameShortTraces
+  short-source apart n p q k l same α d t few =
+      let s = same (r α) (α, d, refl) (map r t) (subst (λ m. m ≤ n) (sym (length-map t r)) few) in
+      (to p q k l (s .0), to q p l k (s .1))
     where
       to : (p q : Policy) → Respects P Q Declared r p → Respects P Q Declared r q
           → (Traces Q p (r α) (map r t) → Traces Q q (r α) (map r t))

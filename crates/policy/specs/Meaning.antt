@@ -1,12 +1,12 @@
 -- The meaning of a policy: document 000, Figure 1, and document 02's negation. From an entering packet a policy has a set of traces. A trace is a non-empty
 -- list of packets, oldest first; the entering packet is not in it unless recorded.
-use Prim.Native.Nat.{ℕ, zero, suc, _<_}
+use Prim.Native.Nat.{ℕ, zero, suc, _<_, _≤_}
 use mathlib.Core.Bool.{Bool, not}
 use mathlib.Core.List.{List, [], _∷_, _++_}
 use mathlib.Core.Logic.{_⊎_, _↔_}
 use mathlib.Core.Path.{_≡_}
 use lib.Dec.{T, eqb}
-use lib.ListN.{getD, set}
+use lib.ListN.{length, getD, set}
 use Rattle.packet.specs.Packets.{valueAt, changed}
 use Rattle.packet.specs.Sizes.{product}
 use Rattle.policy.specs.declared.FieldAction.{FieldAction}
@@ -71,6 +71,14 @@ numbered sizes = record { Packet = ℕ; has = λ f v α. eqb (valueAt sizes f α
 unfoldable pub SameTraces : (P : Packets) → (P .Packet → Type 0) → Policy → Policy → Type 0
 SameTraces P Declared p q = (α : P .Packet) → Declared α → (t : List (P .Packet)) → Traces P p α t ↔ Traces P q α t
 
+-- both policies have the same traces of d packets or fewer from every packet that is declared
+unfoldable pub SameShortTraces : (P : Packets) → (P .Packet → Type 0) → ℕ → Policy → Policy → Type 0
+SameShortTraces P Declared d p q = (α : P .Packet) → Declared α → (t : List (P .Packet)) → length t ≤ d → Traces P p α t ↔ Traces P q α t
+
 -- same traces from every packet, packets being numbers below N
 unfoldable pub SameTracesBelow : List ℕ → Policy → Policy → Type 0
 SameTracesBelow sizes p q = SameTraces (numbered sizes) (λ α. α < product sizes) p q
+
+-- same traces of d packets or fewer from every packet, packets being numbers below N
+unfoldable pub SameShortTracesBelow : List ℕ → ℕ → Policy → Policy → Type 0
+SameShortTracesBelow sizes d p q = SameShortTraces (numbered sizes) (λ α. α < product sizes) d p q

@@ -16,7 +16,7 @@ unfoldable pub verdictLines : Verdict → List ℕ → List ℕ → List ℕ →
 verdictLines (Equal n) ps ls rs trace = verdictLine wordEqual n 0 ++ rowLines (take n ps) (take n ls) (take n rs)
 verdictLines (Left n α) ps ls rs trace = verdictLine wordLeft n α ++ traceLines 0 (take n trace)
 verdictLines (Right n α) ps ls rs trace = verdictLine wordRight n α ++ traceLines 0 (take n trace)
-verdictLines (Full r) ps ls rs trace = refusalLine r
+verdictLines (Full r d) ps ls rs trace = refusalLine r
 verdictLines (Refused r) ps ls rs trace = refusalLine r
 
 -- there are no more rows or packets than were lent
@@ -24,5 +24,5 @@ unfoldable pub Fits : Verdict → List ℕ → List ℕ → List ℕ → List �
 Fits (Equal n) ps ls rs trace = (n ≤ 4096) × (n ≤ length ps) × (n ≤ length ls) × (n ≤ length rs)
 Fits (Left n α) ps ls rs trace = (n ≤ 4096) × (n ≤ length trace)
 Fits (Right n α) ps ls rs trace = (n ≤ 4096) × (n ≤ length trace)
-Fits (Full r) ps ls rs trace = Unit
+Fits (Full r d) ps ls rs trace = Unit
 Fits (Refused r) ps ls rs trace = Unit

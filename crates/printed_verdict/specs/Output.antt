@@ -26,7 +26,7 @@ unfoldable pub wordOfSide : Side → List ℕ
 wordOfSide left = wordLeft
 wordOfSide right = wordRight
 
--- a refusal's number and place; its side is not printed
+-- a refusal's number and place; its side is not printed, nor how far the two agree after 11
 unfoldable pub refusalLine : Refusal → List ℕ
 refusalLine r = verdictLine wordRefused (r .number) (r .place)
 
@@ -38,7 +38,7 @@ tellingLines s α trace = verdictLine (wordOfSide s) (length trace) α ++ traceL
 unfoldable pub answerLines : Columns → SearchAnswer → List ℕ
 answerLines rows (equal n) = verdictLine wordEqual n 0 ++ rowLines (rows .packets) (rows .lefts) (rows .rights)
 answerLines rows (different s α trace) = tellingLines s α trace
-answerLines rows (rowsFull n) = refusalLine (refusal 11 0 n)
+answerLines rows (rowsFull n d) = refusalLine (refusal 11 0 n)
 answerLines rows (traceShort n) = refusalLine (refusal 12 0 n)
 
 -- the whole output, after the causes tested before the search

@@ -53,7 +53,7 @@ pub fn show(
         Verdict::Equal(n) => equal(out, n, packets, lefts, rights),
         Verdict::Left(n, entering) => telling(out, b"left", n, entering, trace),
         Verdict::Right(n, entering) => telling(out, b"right", n, entering, trace),
-        Verdict::Full(r) => refused(out, r),
+        Verdict::Full(r, _) => refused(out, r),
         Verdict::Refused(r) => refused(out, r),
     }
 }

@@ -1,7 +1,7 @@
 -- The call: what is ready where no cause refuses, and the promise. Assumes nothing.
 use Prim.Native.Nat.{ℕ, _≤_}
 use mathlib.Core.List.{List, [], _∷_, _++_}
-use mathlib.Core.Path.{_≡_, refl, sym, ap, _∙_, subst}
+use mathlib.Core.Path.{_≡_, refl, sym, ap, ap₂, _∙_, subst}
 use native.Mathlib.Omega.{arith}
 use lib.ListN.{length, getD, replicate, take, drop, length-replicate, getD-replicate}
 use lib.Seq.{take-append-seam}
@@ -32,7 +32,7 @@ use Rattle.compare.proofs.Comparing.{load-asks}
 use Rattle.verdict.specs.InnerEnding.{endedAnswer}
 use Rattle.verdict.specs.Verdicts.{tellingVerdict, verdictOf, traceAfter, Told}
 use Rattle.search.specs.InnerRows.{RowsRun, RunReady}
-use Rattle.search.specs.Call.{SearchLists, lent, filled, verdictAfter, lentAfter, searchTests, answerHere, rowsHere, searchVerdict, searchLeaves, Telling, Searched, Accepted, SearchDone}
+use Rattle.search.specs.Call.{SearchLists, lent, filled, verdictAfter, lentAfter, searchTests, answerHere, rowsHere, depthHere, fullHere, searchVerdict, searchLeaves, Telling, Searched, Accepted, SearchDone}
 
 zero≢one : _≡_ {A = ℕ} 0 1 → ⊥
 zero≢one z = omega arith
@@ -47,7 +47,7 @@ unfolding verdictOf
 equal-of (equal m) n e = let same : m ≡ n = cc in ap equal same
 equal-of (different left α t) n e = let z : _≡_ {A = ℕ} 0 1 = cc in absurd (zero≢one z)
 equal-of (different right α t) n e = let z : _≡_ {A = ℕ} 0 1 = cc in absurd (zero≢one z)
-equal-of (rowsFull m) n e = let z : _≡_ {A = ℕ} 0 1 = cc in absurd (zero≢one z)
+equal-of (rowsFull m d) n e = let z : _≡_ {A = ℕ} 0 1 = cc in absurd (zero≢one z)
 equal-of (traceShort m) n e = let z : _≡_ {A = ℕ} 0 1 = cc in absurd (zero≢one z)
 
 -- the trace of a telling verdict
@@ -64,23 +64,31 @@ telling-of (different left β t) left n α e = let same : β ≡ α = cc in reco
 telling-of (different left β t) right n α e = let z : _≡_ {A = ℕ} 0 1 = cc in absurd (zero≢one z)
 telling-of (different right β t) left n α e = let z : _≡_ {A = ℕ} 0 1 = cc in absurd (zero≢one z)
 telling-of (different right β t) right n α e = let same : β ≡ α = cc in record { trace = t; answer = ap (λ γ. different right γ t) same; long = cc }
-telling-of (rowsFull m) left n α e = let z : _≡_ {A = ℕ} 0 1 = cc in absurd (zero≢one z)
-telling-of (rowsFull m) right n α e = let z : _≡_ {A = ℕ} 0 1 = cc in absurd (zero≢one z)
+telling-of (rowsFull m d) left n α e = let z : _≡_ {A = ℕ} 0 1 = cc in absurd (zero≢one z)
+telling-of (rowsFull m d) right n α e = let z : _≡_ {A = ℕ} 0 1 = cc in absurd (zero≢one z)
 telling-of (traceShort m) left n α e = let z : _≡_ {A = ℕ} 0 1 = cc in absurd (zero≢one z)
 telling-of (traceShort m) right n α e = let z : _≡_ {A = ℕ} 0 1 = cc in absurd (zero≢one z)
 
 -- the rows of a full verdict
-full-of : (a : SearchAnswer) (r : Refusal) → verdictOf a ≡ Full r → (n : ℕ) × (a ≡ rowsFull n) × (r ≡ refusal 11 0 n)
+record FullWith (a : SearchAnswer) (r : Refusal) (d : ℕ) : Type 0 where
+  rows : ℕ
+  answer : a ≡ rowsFull rows d
+  place : r ≡ refusal 11 0 rows
+
+full-of : (a : SearchAnswer) (r : Refusal) (d : ℕ) → verdictOf a ≡ Full r d → FullWith a r d
 unfolding verdictOf
-full-of (equal m) r e = let z : _≡_ {A = ℕ} 0 1 = cc in absurd (zero≢one z)
-full-of (different left α t) r e = let z : _≡_ {A = ℕ} 0 1 = cc in absurd (zero≢one z)
-full-of (different right α t) r e = let z : _≡_ {A = ℕ} 0 1 = cc in absurd (zero≢one z)
-full-of (rowsFull m) r e = (m, refl, cc)
-full-of (traceShort m) r e = let z : _≡_ {A = ℕ} 0 1 = cc in absurd (zero≢one z)
+full-of (equal m) r d e = let z : _≡_ {A = ℕ} 0 1 = cc in absurd (zero≢one z)
+full-of (different left α t) r d e = let z : _≡_ {A = ℕ} 0 1 = cc in absurd (zero≢one z)
+full-of (different right α t) r d e = let z : _≡_ {A = ℕ} 0 1 = cc in absurd (zero≢one z)
+full-of (rowsFull m c) r d e = let same : c ≡ d = cc in record { rows = m; answer = ap (rowsFull m) same; place = cc }
+full-of (traceShort m) r d e = let z : _≡_ {A = ℕ} 0 1 = cc in absurd (zero≢one z)
 
 refused-telling : (r : Refusal) (s : Side) (n α : ℕ) → Refused r ≡ tellingVerdict s n α → ⊥
 refused-telling r left n α e = let z : _≡_ {A = ℕ} 0 1 = cc in zero≢one z
 refused-telling r right n α e = let z : _≡_ {A = ℕ} 0 1 = cc in zero≢one z
+
+refused-full : {r q : Refusal} {d : ℕ} → Refused r ≡ Full q d → ⊥
+refused-full e = let z : _≡_ {A = ℕ} 0 1 = cc in zero≢one z
 
 -- ---- the tests
 
@@ -166,7 +174,8 @@ module _ {sizes : List ℕ} {L R : NodeLists} {x : SearchLists} where
         equal-same = λ rows q. let z : _≡_ {A = ℕ} 0 1 = cc in absurd (zero≢one z);
         different-tells = λ s n α q. absurd (refused-telling r s n α q);
         full-exactly = λ p. let z : Stopped r ≡ Passed = sym e ∙ p in let o : _≡_ {A = ℕ} 0 1 = cc in absurd (zero≢one o);
-        full-place = λ q f. let z : _≡_ {A = ℕ} 0 1 = cc in absurd (zero≢one z);
+        full-place = λ q d f. absurd (refused-full f);
+        full-same = λ q d f. absurd (refused-full f);
       }
 
   pub promised : searchTests sizes L R x ≡ Passed → {verdict : Verdict} {y : SearchLists} → SearchDone sizes L R x verdict y → Searched sizes L R x verdict y
@@ -177,17 +186,22 @@ module _ {sizes : List ℕ} {L R : NodeLists} {x : SearchLists} where
         leaves = D .leaves ∙ sym (ap (λ (t : Tested). lentAfter t (rowsHere sizes L R x) (answerHere sizes L R x) x) e);
         equal-same = λ rows q. verdicts.equal-same sizes (policies L R) ok (length (x .packets)) (length (x .trace)) rows (equal-of _ rows (sym (D .answers) ∙ q)) .1;
         different-tells = λ s n α q. tells s n α (telling-of _ s n α (sym (D .answers) ∙ q));
-        full-exactly = λ p. (λ q. full q, λ m. D .answers ∙ ap verdictOf (verdicts.full-exactly sizes (policies L R) (length (x .packets)) (length (x .trace)) .1 m));
-        full-place = λ r q. let f = full-of _ r (sym (D .answers) ∙ q) in f .2 ∙ ap (refusal 11 0) (verdicts.full-place sizes (policies L R) (length (x .packets)) (length (x .trace)) (f .0) (f .1));
+        full-exactly = λ p. (λ q. lacking (full-of _ _ _ (sym (D .answers) ∙ q)), λ m. D .answers ∙ ap verdictOf (verdicts.full-exactly sizes (policies L R) (length (x .packets)) (length (x .trace)) .1 m));
+        full-place = λ r d q. here (full-of _ r d (sym (D .answers) ∙ q));
+        full-same = λ r d q. let f = full-of _ r d (sym (D .answers) ∙ q) in verdicts.full-same sizes (policies L R) ok (length (x .packets)) (length (x .trace)) (f .rows) d (f .answer);
       }
     where
       ok : EvaluablePair sizes (policies L R)
       ok = let h = tests-passed sizes L R _ e in legal-pair sizes L R (h .left-legal) (h .right-legal)
 
-      full : verdict ≡ Full (refusal 11 0 (length (x .packets))) → NeedsMore (pairSystem sizes (policies L R)) (length (x .packets))
-      full q =
-          let f = full-of _ _ (sym (D .answers) ∙ q) in
-          verdicts.full-exactly sizes (policies L R) (length (x .packets)) (length (x .trace)) .0 (f .1 ∙ ap rowsFull (verdicts.full-place sizes (policies L R) (length (x .packets)) (length (x .trace)) (f .0) (f .1)))
+      at : {r : Refusal} {d : ℕ} → (f : FullWith (answerHere sizes L R x) r d) → (f .rows ≡ length (x .packets)) × (d ≡ depthHere sizes L R x)
+      at {r} {d} f = verdicts.full-place sizes (policies L R) (length (x .packets)) (length (x .trace)) (f .rows) d (f .answer)
+
+      here : {r : Refusal} {d : ℕ} → FullWith (answerHere sizes L R x) r d → Full r d ≡ fullHere sizes L R x
+      here f = ap₂ Full (f .place ∙ ap (refusal 11 0) (at f .0)) (at f .1)
+
+      lacking : {r : Refusal} → FullWith (answerHere sizes L R x) r (depthHere sizes L R x) → NeedsMore (pairSystem sizes (policies L R)) (length (x .packets))
+      lacking f = verdicts.full-exactly sizes (policies L R) (length (x .packets)) (length (x .trace)) .0 (f .answer ∙ ap (λ n. rowsFull n (depthHere sizes L R x)) (at f .0))
 
       tells : (s : Side) (n α : ℕ) → Trace (answerHere sizes L R x) s n α → Telling sizes L R x s n α (y .trace)
       tells s n α t =

@@ -18,7 +18,7 @@ use Rattle.row_handling.specs.declared.Handled.{Handled}
 use Rattle.row_handling.specs.declared.Handled.the-variants.{Open, Stopped}
 use Rattle.row_handling.specs.Step.{HandleReady, StepDone}
 use Rattle.verdict.specs.declared.Ended as verdict
-use Rattle.verdict.specs.declared.Ended.the-variants.{Full}
+use Rattle.verdict.specs.declared.Ended.the-variants.{Unstarted}
 use Rattle.verdict.specs.declared.Stop.{Stop}
 use Rattle.search.specs.declared.Level.{Level}
 use Rattle.search.specs.declared.Level.the-variants.{Ended, Outgrown}
@@ -157,7 +157,7 @@ module _ {sizes : List ℕ} {nodes tests : List (List ℕ)} {x : Lists} {count :
       (indexed-none (x .packets) (x .left) (x .right) count 12288 (P .table) (omega (arith, P .few)) (omega (arith, P .prepared .packets)), P .parents)
 
   module _ {y : Lists} {a : Appended} (T : Started (withIndex x (replicate 12288 0)) y count a) where
-    pub run-full : a ≡ FullUp → RunDone sizes nodes tests x (withIndex y []) count work (record { row = 0; listed = 0; ended = Full }) work
+    pub run-full : a ≡ FullUp → RunDone sizes nodes tests x (withIndex y []) count work (record { row = 0; listed = 0; ended = Unstarted }) work
     run-full e =
         record {
           first = replicate 12288 0;

@@ -19,7 +19,7 @@ use Rattle.system.proofs.Listing.{earlier}
 use Rattle.system.proofs.Runs.{end-turn, invariant, run-handle}
 use Rattle.pair.specs.Sides.{Side, left, right, policies}
 use Rattle.pair.specs.Pair.{pairSystem}
-use Rattle.pair.specs.Search.{sideOf, searchAnswer, reported}
+use Rattle.pair.specs.Search.{rowsFull, sideOf, searchAnswer, reported}
 use Rattle.pair.proofs.Lawful.{legal-pair, lawful}
 use Rattle.index.specs.declared.Appended.{Appended}
 use Rattle.index.specs.declared.Appended.the-variants.{Rows, Full as FullUp}
@@ -30,11 +30,11 @@ use Rattle.listed_rows.specs.declared.Progress.{Progress}
 use Rattle.listed_rows.specs.Standing.{Standing, pairMasks, Started}
 use Rattle.listed_rows.proofs.Standing.{stands-length}
 use Rattle.listed_rows.proofs.Growing.{SameLengths, lengths-none, lengths-then}
-use Rattle.listed_rows.proofs.Searching.{Running, IsFull, stands-then, entry-at, rooted, path-line, entering-line, search-begins, start-full, search-goes, search-fills, search-ends, search-tells}
+use Rattle.listed_rows.proofs.Searching.{Running, stands-then, entry-at, rooted, path-line, entering-line, search-begins, start-full, search-goes, search-fills, fills-depth, fills-rooted, search-ends, search-tells}
 use Rattle.marks.proofs.Touched.{blank-new}
 use Rattle.compare.specs.Comparison.{BothLoaded, BothBlank}
 use Rattle.verdict.specs.declared.Ended.{Ended}
-use Rattle.verdict.specs.declared.Ended.the-variants.{Done, Full}
+use Rattle.verdict.specs.declared.Ended.the-variants.{Done, Full, Unstarted}
 use Rattle.row_handling.specs.declared.Handled.{Handled}
 use Rattle.row_handling.specs.declared.Handled.the-variants.{Open, Stopped}
 use Rattle.row_handling.specs.Step.{runAt, afterRow, stepAnswer, stepRows, RowHandled, openOrDone}
@@ -118,18 +118,12 @@ module _ {sizes : List ℕ} {nodes tests : List (List ℕ)} {L R : NodeLists} (b
   held-stands : {x z : Lists} {count m : ℕ} → Standing S′ M′ x z count m (held S′ (length (x .packets))) → Standing S′ M′ x z count (length (held S′ (length (x .packets)))) (held S′ (length (x .packets)))
   held-stands {x} {z} {count} T = subst (λ l. Standing S′ M′ x z count l (held S′ (length (x .packets)))) (sym (stands-length S′ M′ T)) T
 
-  full-stop : {x z : Lists} {count : ℕ} → IsFull sizes (policies L R) x z count → {row listed : ℕ} → RowsRun sizes L R x z count (record { row = row; listed = listed; ended = Full })
-  unfolding Readable ReadableAt endedAnswer answerAtEnd
-  full-stop F =
-      record {
-        standing = held-stands (F .standing);
-        readable = tt;
-        answers = F .answer;
-      }
-
   module _ {x : Lists} {count : ℕ} (isCount : count ≡ product sizes) where
-    pub starts-full : {z : Lists} → Started x z count FullUp → RowsRun sizes L R x z count (record { row = 0; listed = 0; ended = Full })
-    starts-full T = full-stop (start-full sizes (policies L R) is-lawful (sym isCount) T)
+    pub starts-full : {z : Lists} → Started x z count FullUp → RowsRun sizes L R x z count (record { row = 0; listed = 0; ended = Unstarted })
+    unfolding Readable ReadableAt endedAnswer answerAtEnd
+    starts-full T =
+        let full = start-full sizes (policies L R) is-lawful (sym isCount) T in
+        record { standing = held-stands (full .standing); readable = tt; answers = full .answer }
 
     pub starts-underway : {y : Lists} {m : ℕ} → Started x y count (Rows m) → length (y .packets) ≡ length (x .packets) → length (y .parents) ≡ length (y .packets)
         → Underway sizes L R x y (record { count = count; listed = m; handled = 0 })
@@ -278,5 +272,12 @@ module _ {sizes : List ℕ} {nodes tests : List (List ℕ)} {L R : NodeLists} (b
                 record { standing = held-stands (end 0 .1); readable = tt; answers = λ lent. end lent .0 }
             go e (tells s γ told side is) = subst (λ e. RowsRun sizes L R x z count (record { row = h; listed = n; ended = e })) is (tells-stop s γ told side)
             go e (fills goes over) =
-                full-stop (search-fills sizes (policies L R) is-lawful (sym isCount) running (O .same) over
-                (subst (λ m. Standing S′ M′ y z count m (take (length (y .packets)) (run S′ (suc k) .rows))) (length-take-le (length (y .packets)) (run S′ (suc k) .rows) (omega (arith, over))) (next-rows goes)))
+                let rows = subst (λ m. Standing S′ M′ y z count m (take (length (y .packets)) (run S′ (suc k) .rows))) (length-take-le (length (y .packets)) (run S′ (suc k) .rows) (omega (arith, over))) (next-rows goes) in
+                let full = search-fills sizes (policies L R) is-lawful (sym isCount) running (O .same) goes over rows in
+                let deep = fills-depth sizes (policies L R) is-lawful (sym isCount) running (O .same) goes over rows still-parents (O .more) in
+                let rooted-here = fills-rooted sizes (policies L R) is-lawful (sym isCount) running (O .same) goes over rows still-parents in
+                record {
+                  standing = held-stands (full .standing);
+                  readable = record { rooted = rooted-here; inside = O .more; within = omega (arith, O .standing .indexed .within, same .packets) };
+                  answers = λ lent. full .answer lent ∙ ap (rowsFull (length (x .packets))) deep;
+                }

@@ -12,9 +12,9 @@ use Rattle.packet.specs.declared.Tested.the-variants.{Passed, Refused as Stoppe
 use Rattle.packet.specs.Refusals.{refusal}
 use Rattle.packet.specs.Sizes.{product, LegalSizes}
 use Rattle.policy.specs.Legality.{Legal}
-use Rattle.policy.specs.Meaning.{SameTracesBelow}
+use Rattle.policy.specs.Meaning.{SameTracesBelow, SameShortTracesBelow}
 use Rattle.policy.specs.NodeLists.{NodeLists, policyOf}
-use Rattle.system.specs.RowOrder.{NeedsMore}
+use Rattle.system.specs.RowOrder.{NeedsMore, depthAtFull}
 use Rattle.pair.specs.Sides.{Side, policies}
 use Rattle.pair.specs.Pair.{pairSystem}
 use Rattle.pair.specs.Search.{SearchAnswer, Columns, searchAnswer, heldColumns, Distinguishes}
@@ -76,6 +76,13 @@ module _ (sizes : List ℕ) (L R : NodeLists) (x : SearchLists) where
   abbrev pub rowsHere : Columns
   rowsHere = heldColumns sizes (policies L R) (length (x .packets))
 
+  -- refusal 11: the rows lent, and the depth of the row being handled when they ran out
+  abbrev pub depthHere : ℕ
+  depthHere = depthAtFull (pairSystem sizes (policies L R)) (length (x .packets))
+
+  abbrev pub fullHere : Verdict
+  fullHere = Full (refusal 11 0 (length (x .packets))) depthHere
+
   unfoldable pub searchVerdict : Verdict
   searchVerdict = verdictAfter searchTests answerHere
 
@@ -96,9 +103,11 @@ module _ (sizes : List ℕ) (L R : NodeLists) (x : SearchLists) where
     -- different only with a packet and trace that exactly one of them has, and no shorter trace tells the two apart from any packet
     pub different-tells : (s : Side) (n α : ℕ) → verdict ≡ tellingVerdict s n α → Telling s n α (y .trace)
     -- where no cause tested earlier holds, full comes exactly when the row order needs more rows than were lent
-    pub full-exactly : searchTests ≡ Passed → (verdict ≡ Full (refusal 11 0 (length (x .packets)))) ↔ NeedsMore (pairSystem sizes (policies L R)) (length (x .packets))
-    -- and it names the rows lent
-    pub full-place : (r : Refusal) → verdict ≡ Full r → r ≡ refusal 11 0 (length (x .packets))
+    pub full-exactly : searchTests ≡ Passed → (verdict ≡ fullHere) ↔ NeedsMore (pairSystem sizes (policies L R)) (length (x .packets))
+    -- and it names the rows lent, and the depth of the row being handled
+    pub full-place : (r : Refusal) (d : ℕ) → verdict ≡ Full r d → Full r d ≡ fullHere
+    -- document 02, A.3: both policies have the same traces of d packets or fewer from every packet
+    pub full-same : (r : Refusal) (d : ℕ) → verdict ≡ Full r d → SameShortTracesBelow sizes d (policyOf L) (policyOf R)
 
 -- what is known of the lent lists where no cause up to 10 holds, and N = count
 pub record Accepted (sizes : List ℕ) (L R : NodeLists) (count : ℕ) (x : SearchLists) : Type 0 where

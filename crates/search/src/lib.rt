@@ -132,7 +132,7 @@ fn run_on(
         Level::Outgrown(_) => Stop {
             row: 0,
             listed: 0,
-            ended: Ended::Full,
+            ended: Ended::Unstarted,
         },
     }
 }
@@ -164,7 +164,7 @@ fn run(
         return Stop {
             row: 0,
             listed: 0,
-            ended: Ended::Full,
+            ended: Ended::Unstarted,
         };
     };
     let progress = Progress {

@@ -14,7 +14,7 @@ use Rattle.packet.specs.declared.Counted.{Counted}
 use Rattle.packet.proofs.Stages.{firstOf-next, firstOf-last, firstOf-refused, firstOf-passed}
 use Rattle.policy.specs.Order.{inOrder, causes, cause, policiesStage, stagesOf, pairOf}
 use Rattle.policy.proofs.OrderLaws as order
-use Rattle.policy.specs.Meaning.{Traces, numbered, SameTraces, SameTracesBelow}
+use Rattle.policy.specs.Meaning.{Traces, numbered, SameTraces, SameShortTraces, SameTracesBelow, SameShortTracesBelow}
 use Rattle.policy.specs.NodeLists.{NodeLists, policyOf}
 use Rattle.policy.specs.NodesOfTree.{treeSize}
 use Rattle.pair.specs.Sides.{Side, left, right, other, at, policies}
@@ -82,6 +82,10 @@ module _ (sizes left-text right-text : List ℕ) (el : textStage left-text ≡ P
   unfolding SameTracesBelow SameTraces
   texts-same f = λ α h t. both-are (tree-traces left-text el α t) (tree-traces right-text er α t) (f α h t)
 
+  texts-short : (d : ℕ) → SameShortTracesBelow sizes d (policyOf (textNodes left-text)) (policyOf (textNodes right-text)) → SameShortTracesBelow sizes d (textTree fieldNames left-text) (textTree fieldNames right-text)
+  unfolding SameShortTracesBelow SameShortTraces
+  texts-short d f = λ α h t l. both-are (tree-traces left-text el α t) (tree-traces right-text er α t) (f α h t l)
+
   texts-tell : (s : Side) (α : ℕ) (t : List ℕ) → Distinguishes sizes (policies (textNodes left-text) (textNodes right-text)) s α t → Distinguishes sizes (textPolicies left-text right-text) s α t
   texts-tell s α t d =
       record {
@@ -100,7 +104,7 @@ refused-telling : {r : Refusal} (s : Side) (n α : ℕ) → Refused r ≡ tellin
 refused-telling left n α e = zero≢one (let z : _≡_ {A = ℕ} 0 1 = cc in z)
 refused-telling right n α e = zero≢one (let z : _≡_ {A = ℕ} 0 1 = cc in z)
 
-refused-full : {r q : Refusal} → Refused r ≡ Full q → ⊥
+refused-full : {r q : Refusal} {d : ℕ} → Refused r ≡ Full q d → ⊥
 refused-full e = zero≢one (let z : _≡_ {A = ℕ} 0 1 = cc in z)
 
 module _ (sizes left-text right-text : List ℕ) (x : SearchLists) where
@@ -113,7 +117,8 @@ module _ (sizes left-text right-text : List ℕ) (x : SearchLists) where
         equal-same = λ rows q. absurd (refused-equal q);
         different-tells = λ s n α q. absurd (refused-telling s n α q);
         full-exactly = λ p. absurd (passed≢stopped (sym p ∙ e));
-        full-place = λ q f. absurd (refused-full f);
+        full-place = λ q d f. absurd (refused-full f);
+        full-same = λ q d f. absurd (refused-full f);
       }
 
   abbrev lists : Tested
@@ -151,6 +156,7 @@ module _ (sizes left-text right-text : List ℕ) (x : SearchLists) where
               different-tells = λ sd n α f. (let t = s .different-tells sd n α f in record { long = t .long; tells = texts-tell sizes left-text right-text l r sd α (take n (y .trace)) (t .tells) });
               full-exactly = λ f. s .full-exactly (sym same ∙ f);
               full-place = s .full-place;
+              full-same = λ r′ d f. texts-short sizes left-text right-text l r d (s .full-same r′ d f);
             }
 
         go : (t : Tested) → textTests ≡ t → TextsSearched sizes left-text right-text x v y

@@ -7,9 +7,9 @@ use lib.ListN.{length, take}
 use Rattle.packet.specs.declared.Refusal.{Refusal}
 use Rattle.packet.specs.declared.Tested.{Tested}
 use Rattle.packet.specs.declared.Tested.the-variants.{Passed, Refused as Stopped}
-use Rattle.packet.specs.Refusals.{refusal, firstOf}
+use Rattle.packet.specs.Refusals.{firstOf}
 use Rattle.policy.specs.Order.{inOrder, stagesOf, pairOf}
-use Rattle.policy.specs.Meaning.{SameTracesBelow}
+use Rattle.policy.specs.Meaning.{SameTracesBelow, SameShortTracesBelow}
 use Rattle.policy.specs.NodeLists.{NodeLists, nodeCount, dupsBelow}
 use Rattle.policy.specs.NodesOfTree.{nodesOf}
 use Rattle.system.specs.RowOrder.{NeedsMore}
@@ -22,7 +22,7 @@ use Rattle.grammar.specs.Answer.{textTree, tested}
 use Rattle.verdict.specs.declared.Verdict.{Verdict}
 use Rattle.verdict.specs.declared.Verdict.the-variants.{Equal, Full, Refused}
 use Rattle.verdict.specs.Verdicts.{tellingVerdict}
-use Rattle.search.specs.Call.{SearchLists, verdictAfter, lentAfter, answerHere, rowsHere, Searched}
+use Rattle.search.specs.Call.{SearchLists, verdictAfter, lentAfter, answerHere, rowsHere, fullHere, Searched}
 
 -- the nodes of a text
 unfoldable pub textNodes : List ℕ → NodeLists
@@ -54,6 +54,10 @@ module _ (sizes left right : List ℕ) (x : SearchLists) where
   abbrev pub textsRows : Columns
   textsRows = rowsHere sizes (textNodes left) (textNodes right) x
 
+  -- refusal 11, too
+  abbrev pub textsFull : Verdict
+  textsFull = fullHere sizes (textNodes left) (textNodes right) x
+
   unfoldable pub textsVerdict : Verdict
   textsVerdict = verdictAfter textsTests textsAnswer
 
@@ -74,9 +78,11 @@ module _ (sizes left right : List ℕ) (x : SearchLists) where
     -- different only with a packet and trace that exactly one of them has, and no shorter trace tells the two apart from any packet
     pub different-tells : (s : Side) (n α : ℕ) → verdict ≡ tellingVerdict s n α → TextsTelling s n α (y .trace)
     -- where no cause tested earlier holds, full comes exactly when the row order needs more rows than were lent
-    pub full-exactly : textsTests ≡ Passed → (verdict ≡ Full (refusal 11 0 (length (x .packets)))) ↔ NeedsMore (pairSystem sizes (policies (textNodes left) (textNodes right))) (length (x .packets))
-    -- and it names the rows lent
-    pub full-place : (r : Refusal) → verdict ≡ Full r → r ≡ refusal 11 0 (length (x .packets))
+    pub full-exactly : textsTests ≡ Passed → (verdict ≡ textsFull) ↔ NeedsMore (pairSystem sizes (policies (textNodes left) (textNodes right))) (length (x .packets))
+    -- and it names the rows lent, and the depth of the row being handled
+    pub full-place : (r : Refusal) (d : ℕ) → verdict ≡ Full r d → Full r d ≡ textsFull
+    -- document 02, A.3: both texts have the same traces of d packets or fewer from every packet
+    pub full-same : (r : Refusal) (d : ℕ) → verdict ≡ Full r d → SameShortTracesBelow sizes d (textTree fieldNames left) (textTree fieldNames right)
 
 -- Inner: after these tests the search on node lists has run; where they refuse, nothing was done.
 pub record Ran (before : Tested) (sizes : List ℕ) (L R : NodeLists) (x : SearchLists) (verdict : Verdict) (y : SearchLists) : Type 0 where

@@ -1,4 +1,5 @@
--- The answer with n rows lent: full exactly when the row order needs more, else the verdict of the stopped run, the same with any more rows lent.
+-- The answer with n rows lent: full exactly when the row order needs more, and how n rows run out; else the verdict of the stopped run, the same with any
+-- more rows lent.
 use mathlib.Core.Path.{_≡_, refl, sym, _∙_, subst, ap}
 use mathlib.Core.Bool.{Bool, true, false, _||_}
 use mathlib.Core.List.{List, [], _∷_, _++_}
@@ -10,7 +11,7 @@ use lib.ListN.{length, take}
 use lib.Seq.{take-all, take-take, length-take-le}
 use borrow.Author.Tests.{lt-ltb, le-ltb}
 use Rattle.system.specs.System.{System, Row, nextRow}
-use Rattle.system.specs.RowOrder.{Entry, startEntry, Run, Turn, finished, telling, handling, starts, listed, append, appendNext, current, turn, handle, runFrom, run, NeedsMore, path, entering, RunAnswer, full, equal, different, runAnswer, answerWith, held}
+use Rattle.system.specs.RowOrder.{Entry, startEntry, Run, Turn, finished, telling, handling, starts, listed, append, appendNext, current, turn, handle, runFrom, run, NeedsMore, depth, path, entering, RunAnswer, full, equal, different, runAnswer, depthBefore, depthAtFull, answerWith, held}
 use Rattle.system.proofs.Basics.{lt-or-le, prefix-chain, Prefix, prefix-refl, prefix-snoc, prefix-length, prefix-take}
 use Rattle.system.proofs.Listing.{append-kept, append-new}
 use Rattle.system.proofs.Runs.{finished≢handling, telling≢handling, Stopped, going-or-stopped, run-handle, run-stay, row-turn}
@@ -87,7 +88,7 @@ module _ (S : System) where
   unfolding answerWith
   answer-verdict n h = rw (le-ltb n (length (run S (suc n) .rows)) h, answerWith)
 
-  answer-more : (n : ℕ) → n < length (run S (suc n) .rows) → answerWith S n ≡ full
+  answer-more : (n : ℕ) → n < length (run S (suc n) .rows) → answerWith S n ≡ full (depthAtFull S n)
   unfolding answerWith
   answer-more n h = rw (lt-ltb n (length (run S (suc n) .rows)) h, answerWith)
 
@@ -101,7 +102,7 @@ module _ (S : System) where
 
   -- What each answer says of the run after n + 1.
   pub data Answered (n : ℕ) : RunAnswer → Type 0 where
-    is-full : n < length (run S (suc n) .rows) → Answered n full
+    is-full : {d : ℕ} → n < length (run S (suc n) .rows) → depthAtFull S n ≡ d → Answered n (full d)
     is-equal : {c : ℕ} → length (run S (suc n) .rows) ≤ n → turn S (run S (suc n)) ≡ finished → length (run S (suc n) .rows) ≡ c → Answered n (equal c)
     is-different : {i α : ℕ} {t : List ℕ} (γ : ℕ) → length (run S (suc n) .rows) ≤ n → turn S (run S (suc n)) ≡ telling γ
         → run S (suc n) .handled ≡ i → entering S (run S (suc n) .rows) i ≡ α → path S (run S (suc n) .rows) i ++ (γ ∷ []) ≡ t → Answered n (different i α t)
@@ -115,18 +116,25 @@ module _ (S : System) where
       short h handling e = absurd (short-stops n h e)
 
       go : (n < length (run S (suc n) .rows)) ⊎ (length (run S (suc n) .rows) ≤ n) → Answered n (answerWith S n)
-      go (inl h) = subst (Answered n) (sym (answer-more n h)) (is-full h)
+      go (inl h) = subst (Answered n) (sym (answer-more n h)) (is-full h refl)
       go (inr h) = short h (turn S (run S (suc n))) refl
 
   -- full exactly when the row order needs more than n rows
-  pub full-iff : (n : ℕ) → (answerWith S n ≡ full) ↔ NeedsMore S n
-  full-iff n = (λ e. record { after = suc n; more = more (subst (Answered n) e (answered n)) }, λ p. answer-more n (needs-more n (p .after) (p .more)))
+  pub full-iff : (n : ℕ) → (answerWith S n ≡ full (depthAtFull S n)) ↔ NeedsMore S n
+  full-iff n = (λ e. more (subst (Answered n) e (answered n)), λ p. answer-more n (needs-more n (p .after) (p .more)))
     where
-      more : Answered n full → n < length (run S (suc n) .rows)
-      more (is-full h) = h
+      more : {d : ℕ} → Answered n (full d) → NeedsMore S n
+      more (is-full h q) = record { after = suc n; more = h }
 
-  not-full : (n : ℕ) → (answerWith S n ≡ full → ⊥) → length (run S (suc n) .rows) ≤ n
-  not-full n ne = ⊎-elim (λ h. absurd (ne (answer-more n h))) (λ h. h) (lt-or-le n (length (run S (suc n) .rows)))
+  -- and it carries the depth at which they ran out, no other
+  pub full-depth : (n d : ℕ) → answerWith S n ≡ full d → d ≡ depthAtFull S n
+  full-depth n d e = go (subst (Answered n) e (answered n))
+    where
+      go : Answered n (full d) → d ≡ depthAtFull S n
+      go (is-full h q) = sym q
+
+  not-full : (n : ℕ) → (NeedsMore S n → ⊥) → length (run S (suc n) .rows) ≤ n
+  not-full n ne = ⊎-elim (λ h. absurd (ne (record { after = suc n; more = h }))) (λ h. h) (lt-or-le n (length (run S (suc n) .rows)))
 
   -- a run that has stopped, with room for its rows, is the run that the answer reads
   settled : (n k : ℕ) → Stopped S (run S k) → length (run S k .rows) ≤ n → run S (suc n) ≡ run S k
@@ -148,7 +156,7 @@ module _ (S : System) where
   answer-telling n k γ e h = answer-stopped n k (λ q. telling≢handling (sym e ∙ q)) h ∙ verdict-telling (run S k) γ e
 
   -- more rows lent, the same answer
-  pub answer-kept : (n m : ℕ) → n ≤ m → (answerWith S n ≡ full → ⊥) → answerWith S m ≡ answerWith S n
+  pub answer-kept : (n m : ℕ) → n ≤ m → (NeedsMore S n → ⊥) → answerWith S m ≡ answerWith S n
   answer-kept n m l ne =
       answer-stopped m (suc n) (short-stops n (not-full n ne)) (omega (arith, not-full n ne)) ∙ sym (answer-verdict n (not-full n ne))
 
@@ -174,15 +182,62 @@ module _ (S : System) where
   unfolding held
   held-prefix n m l = take-take n m (run S (suc m) .rows) l ∙ take-run n (suc m) (inr (omega arith))
 
-  pub held-full : (n : ℕ) → answerWith S n ≡ full → length (held S n) ≡ n
+  pub held-full : (n : ℕ) → NeedsMore S n → length (held S n) ≡ n
   unfolding held
-  held-full n e = length-take-le n (run S (suc n) .rows) (omega (arith, needs-more n (full-iff n .0 e .after) (full-iff n .0 e .more)))
+  held-full n p = length-take-le n (run S (suc n) .rows) (omega (arith, needs-more n (p .after) (p .more)))
 
   -- rows enough: all rows of the stopped run are held
   pub held-stopped : (n k : ℕ) → Stopped S (run S k) → length (run S k .rows) ≤ n → held S n ≡ run S k .rows
   unfolding held
   held-stopped n k ne h = ap (λ x. take n (x .rows)) (settled n k ne h) ∙ take-all n (run S k .rows) h
 
-  -- n rows in place and another to come: full, and those n are the rows held
-  pub full-at : (n k : ℕ) {es : List (Entry S)} → Prefix es (run S k .rows) → length es ≡ n → n < length (run S k .rows) → (answerWith S n ≡ full) × (held S n ≡ es)
-  full-at n k {es} p e h = (full-iff n .1 (record { after = k; more = h }), sym (held-first n k (omega arith)) ∙ prefix-take p n (omega arith) ∙ take-all n es (omega arith))
+  -- ---- how n rows run out
+
+  pub depth-earlier : (n k : ℕ) → n < length (run S k .rows) → depthBefore S n (suc k) ≡ depthBefore S n k
+  unfolding depthBefore
+  depth-earlier n k h = rw (lt-ltb n (length (run S k .rows)) h, depthBefore)
+
+  pub depth-here : (n k : ℕ) → length (run S k .rows) ≤ n → depthBefore S n (suc k) ≡ depth S (run S k .rows) (run S k .handled)
+  unfolding depthBefore
+  depth-here n k h = rw (le-ltb n (length (run S k .rows)) h, depthBefore)
+
+  -- d in the words of document 02, A.3: the starting rows don't fit, and d is 0; or a row is being handled whose successors don't, and d is its depth
+  pub data RanOut (n : ℕ) : ℕ → Type 0 where
+    at-start : {d : ℕ} → n < length (run S 0 .rows) → 0 ≡ d → RanOut n d
+    at-row : {d : ℕ} (k : ℕ) → length (run S k .rows) ≤ n → turn S (run S k) ≡ handling → n < length (run S (suc k) .rows)
+        → depth S (run S k .rows) (run S k .handled) ≡ d → RanOut n d
+
+  -- a run that gets longer handles a row
+  longer-handles : (k : ℕ) → length (run S k .rows) < length (run S (suc k) .rows) → turn S (run S k) ≡ handling
+  longer-handles k h = ⊎-elim (λ e. e) (λ ne. absurd (let same = ap (λ x. length (x .rows)) (run-stay S k ne) in omega (arith, same, h))) (going-or-stopped S (run S k))
+
+  ran-out-by : (n k : ℕ) → n < length (run S k .rows) → RanOut n (depthBefore S n k)
+  unfolding depthBefore
+  ran-out-by n zero h = at-start h refl
+  ran-out-by n (suc k) h = go (lt-or-le n (length (run S k .rows))) (ran-out-by n k)
+    where
+      go : (n < length (run S k .rows)) ⊎ (length (run S k .rows) ≤ n) → (n < length (run S k .rows) → RanOut n (depthBefore S n k)) → RanOut n (depthBefore S n (suc k))
+      go (inl l) ih = subst (RanOut n) (sym (depth-earlier n k l)) (ih l)
+      go (inr l) ih = at-row k l (longer-handles k (omega arith)) h (sym (depth-here n k l))
+
+  pub ran-out : (n : ℕ) → NeedsMore S n → RanOut n (depthAtFull S n)
+  unfolding depthAtFull
+  ran-out n p = ran-out-by n (suc n) (needs-more n (p .after) (p .more))
+
+  -- nothing else is d: what ran out at one place ran out nowhere else
+  depth-since : (n j k : ℕ) → j ≤ k → n < length (run S j .rows) → depthBefore S n k ≡ depthBefore S n j
+  depth-since n j k l h =
+      le-ind (λ m. depthBefore S n m ≡ depthBefore S n j) refl (λ m g e. depth-earlier n m (omega (arith, h, prefix-length (run-longer j m g))) ∙ e) k l
+
+  pub ran-out-is : (n : ℕ) {d : ℕ} → RanOut n d → depthAtFull S n ≡ d
+  unfolding depthAtFull depthBefore
+  ran-out-is n (at-start h e) = depth-since n 0 (suc n) (omega arith) h ∙ e
+  ran-out-is n (at-row k fits goes over e) =
+      depth-since n (suc k) (suc n) (omega (arith, fits, run-handled k goes, row-turn S (run S k) goes .0)) over ∙ depth-here n k fits ∙ e
+
+  pub out-needs-more : (n : ℕ) {d : ℕ} → RanOut n d → NeedsMore S n
+  out-needs-more n (at-start h e) = record { after = 0; more = h }
+  out-needs-more n (at-row k fits goes over e) = record { after = suc k; more = over }
+
+  pub answer-out : (n : ℕ) {d : ℕ} → RanOut n d → answerWith S n ≡ full d
+  answer-out n {d} o = full-iff n .1 (out-needs-more n o) ∙ ap full (ran-out-is n o)

@@ -6,7 +6,7 @@ use Prim.Native.Nat.{ℕ, zero, suc, _+_, _≤_, _<_}
 use native.Mathlib.Nat.{not-suc-le-zero}
 use native.Mathlib.Decide.{le-ind}
 use native.Mathlib.Omega.{arith}
-use lib.ListN.{length, getD, take, length-append, List·getD-append}
+use lib.ListN.{length, getD, take, drop, take-append-drop, length-append, List·getD-append}
 use lib.Seq.{getD-append-seam, take-append-le}
 pub use Rattle.packet.proofs.Tests.{clash, or-true, or-false, and-true, lt-or-le, last-or-before}
 
@@ -44,6 +44,10 @@ module _ {A : Type 0} where
 
   pub prefix-at : {xs ys : List A} → Prefix xs ys → (d : A) (i : ℕ) → i < length xs → getD ys i d ≡ getD xs i d
   prefix-at {xs} {ys} p d i h = subst (λ l. getD l i d ≡ getD xs i d) (p .whole) (List·getD-append xs (p .more) d i h)
+
+  -- the first n
+  pub prefix-first : (n : ℕ) (xs : List A) → Prefix (take n xs) xs
+  prefix-first n xs = record { more = drop n xs; whole = take-append-drop n xs }
 
   pub prefix-take : {xs ys : List A} → Prefix xs ys → (n : ℕ) → n ≤ length xs → take n ys ≡ take n xs
   prefix-take {xs} {ys} p n h = subst (λ l. take n l ≡ take n xs) (p .whole) (take-append-le n xs (p .more) h)

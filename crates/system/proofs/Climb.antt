@@ -9,12 +9,16 @@ use lib.ListN.{length}
 use borrow.Author.Tests.{eq-eqb, ne-eqb}
 use Rattle.system.specs.System.{System}
 use Rattle.system.specs.RowOrder.{Entry, startEntry, entryAt, climbing, climb}
-use Rattle.system.proofs.Basics.{Prefix, prefix-at, prefix-refl, induction}
+use Rattle.system.proofs.Basics.{Prefix, prefix-at, prefix-length, prefix-refl, induction}
 
 module _ (S : System) where
   -- no row comes before its parent
   pub record Earlier (es : List (Entry S)) : Type 0 where
     pub earlier : (i : ℕ) → i < length es → entryAt S es i .parent ≤ i
+
+  -- nor does one of the first rows
+  pub earlier-first : {es fs : List (Entry S)} → Prefix es fs → Earlier fs → Earlier es
+  earlier-first p E = record { earlier = λ i h. subst (λ e. e .parent ≤ i) (prefix-at p (startEntry S 0) i h) (E .earlier i (omega (arith, prefix-length p))) }
 
   module _ {A : Type 0} (first : Entry S → A) (below : Entry S → A → A) where
     climbing-first : (n : ℕ) (es : List (Entry S)) (i : ℕ) → entryAt S es i .parent ≡ i → climbing S first below n es i ≡ first (entryAt S es i)

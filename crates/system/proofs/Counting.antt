@@ -15,7 +15,6 @@ use Rattle.system.specs.InnerTables.{Closed}
 use Rattle.system.proofs.Listing.{Listing}
 use Rattle.system.proofs.Runs.{invariant}
 use Rattle.system.proofs.Tables.{closed-silent, closed-contains}
-use Rattle.system.proofs.Answers.{full-iff}
 use Rattle.system.proofs.Verdicts.{silent-is}
 
 -- x, but v in place of m
@@ -79,7 +78,7 @@ module _ (S : System) where
 
   -- as many rows as a closed table has are enough, and the answer is equal
   pub closed-answer : Lawful S → {Is : Row S → Type 0} → Closed S Is → {m : ℕ} → Counted Is m → answerWith S m ≡ equal (length (held S m))
-  closed-answer L C {m} T = ⊎-elim (λ e. absurd (enough (full-iff S m .0 e))) (λ e. e) (silent-is S L (closed-silent S L C) m)
+  closed-answer L C {m} T = ⊎-elim (λ n. absurd (enough n)) (λ e. e) (silent-is S L (closed-silent S L C) m)
     where
       enough : NeedsMore S m → ⊥
       enough n = omega (arith, n .more, closed-count C T (invariant S L (n .after) .listing))

@@ -8,7 +8,7 @@ use lib.Dec.{eqb, eqb·zero-suc}
 use borrow.Author.Tests.{eqb-true, eq-eqb}
 use Rattle.packet.specs.Lowest.{lowest, orAt}
 use Rattle.system.specs.System.{System, Lawful}
-use Rattle.system.specs.RowOrder.{Entry, starts, sameRow, listed, append, appendNext, lowestTelling, turn, handle, runFrom, run, climbing, climb, depth, path, entering, answerWith, runAnswer, held, full, equal, different}
+use Rattle.system.specs.RowOrder.{Entry, starts, sameRow, listed, append, appendNext, lowestTelling, turn, handle, runFrom, run, climbing, climb, depth, path, entering, depthBefore, depthAtFull, answerWith, runAnswer, held, full, equal, different}
 
 count : ℕ → ℕ → ℕ
 count zero γ = 0
@@ -54,9 +54,14 @@ unfolding count toy lowest orAt starts sameRow listed append appendNext lowestTe
 last-depth = refl
 
 -- six rows are enough, five are not
-answers : answerWith (toy 7) 64 ∷ answerWith (toy 7) 6 ∷ answerWith (toy 7) 5 ∷ [] ≡ equal 6 ∷ equal 6 ∷ full ∷ []
-unfolding count toy lowest orAt starts sameRow listed append appendNext lowestTelling turn handle runFrom run answerWith runAnswer
+answers : answerWith (toy 7) 64 ∷ answerWith (toy 7) 6 ∷ answerWith (toy 7) 5 ∷ [] ≡ equal 6 ∷ equal 6 ∷ full 1 ∷ []
+unfolding count toy lowest orAt starts sameRow listed append appendNext lowestTelling turn handle runFrom run climbing climb depth depthBefore depthAtFull answerWith runAnswer
 answers = refl
+
+-- with fewer rows: one starting row doesn't fit; row 0 is being handled; row 2, of depth 1, is
+runs-out : map (answerWith (toy 7)) (0 ∷ 1 ∷ 2 ∷ 3 ∷ 4 ∷ []) ≡ full 0 ∷ full 0 ∷ full 0 ∷ full 0 ∷ full 1 ∷ []
+unfolding count toy lowest orAt starts sameRow listed append appendNext lowestTelling turn handle runFrom run climbing climb depth depthBefore depthAtFull answerWith runAnswer
+runs-out = refl
 
 -- Both packets tell at 1: at row 4, entered by 0, after the packets 0 and 0; the lower one is named.
 different-at-4 : answerWith (toy 1) 64 ≡ different 4 0 (0 ∷ 0 ∷ 0 ∷ [])

@@ -8,10 +8,11 @@ use native.Mathlib.Omega.{arith}
 use lib.Dec.{eqb, ltb}
 use lib.ListN.{length, getD, take, length-map, List·getD-map}
 use Rattle.system.specs.System.{System, Lawful, Row, nextRow, tells}
-use Rattle.system.specs.RowOrder.{Entry, Run, Turn, finished, telling, handling, startEntry, entryAt, starts, sameRow, listed, append, appendNext, current, turn, handle, runFrom, run, climbing, climb, depth, path, entering, runAnswer, RunAnswer, full, equal, different, answerWith, held}
-use Rattle.system.proofs.Basics.{clash}
+use Rattle.system.specs.RowOrder.{Entry, Run, Turn, finished, telling, handling, startEntry, entryAt, starts, sameRow, listed, append, appendNext, current, turn, handle, runFrom, run, climbing, climb, depth, path, entering, runAnswer, RunAnswer, full, equal, different, depthBefore, depthAtFull, answerWith, held}
+use Rattle.system.proofs.Basics.{clash, lt-or-le}
 use Rattle.system.proofs.Listing.{Listing, grown, weaken, append-kept, append-new}
 use Rattle.system.proofs.Runs.{Invariant, invariant, Turned, at-end, at-telling, at-row, turned, turn-end, turn-telling, turn-row, Stopped, going-or-stopped, row-turn, run-handle, run-stay}
+use Rattle.system.proofs.Answers.{depth-earlier, depth-here}
 
 take-map : {A B : Type 0} (f : A → B) (n : ℕ) (xs : List A) → take n (map f xs) ≡ map f (take n xs)
 take-map f zero xs = refl
@@ -154,13 +155,13 @@ module _ (S S′ : System) (f : S .State → S′ .State) where
                 elim t [
                   | finished ↦ equal (length (y .rows))
                   | telling γ ↦ different (y .handled) (entering R (y .rows) (y .handled)) (path R (y .rows) (y .handled) ++ (γ ∷ []))
-                  | handling ↦ full
+                  | handling ↦ full (depth R (y .rows) (y .handled))
                 ]
 
             go : (t : Turn) → told S′ (mapRun x) t ≡ told S x t
             go finished = ap equal (length-map (x .rows) mapEntry)
             go (telling γ) = ap₂ (λ α w. different (x .handled) α (w ++ (γ ∷ []))) (entering-map (x .rows) (x .handled)) (path-map (x .rows) (x .handled))
-            go handling = refl
+            go handling = ap full (depth-map (x .rows) (x .handled))
 
       -- the same listing, mapped: rows, parents and how many are handled
       pub run-map : (k : ℕ) → run S′ k ≡ mapRun (run S k)
@@ -175,12 +176,27 @@ module _ (S S′ : System) (f : S .State → S′ .State) where
           go (inl e) ih = run-handle S′ k (ap (turn S′) ih ∙ turn-map I ∙ e) ∙ ap (handle S′) ih ∙ handle-map I e ∙ ap mapRun (sym (run-handle S k e))
           go (inr ne) ih = run-stay S′ k (λ e. ne (sym (turn-map I) ∙ ap (turn S′) (sym ih) ∙ e)) ∙ ih ∙ ap mapRun (sym (run-stay S k ne))
 
+      rows-map : (k : ℕ) → length (run S′ k .rows) ≡ length (run S k .rows)
+      rows-map k = ap (λ x. length (x .rows)) (run-map k) ∙ length-map (run S k .rows) mapEntry
+
+      depth-before-map : (n k : ℕ) → depthBefore S′ n k ≡ depthBefore S n k
+      unfolding depthBefore
+      depth-before-map n zero = refl
+      depth-before-map n (suc k) = go (lt-or-le n (length (run S k .rows))) (depth-before-map n k)
+        where
+          go : (n < length (run S k .rows)) ⊎ (length (run S k .rows) ≤ n) → depthBefore S′ n k ≡ depthBefore S n k → depthBefore S′ n (suc k) ≡ depthBefore S n (suc k)
+          go (inl h) ih = depth-earlier S′ n k (omega (arith, rows-map k)) ∙ ih ∙ sym (depth-earlier S n k h)
+          go (inr h) ih =
+              depth-here S′ n k (omega (arith, rows-map k)) ∙ ap (λ x. depth S′ (x .rows) (x .handled)) (run-map k) ∙ depth-map (run S k .rows) (run S k .handled)
+              ∙ sym (depth-here S n k h)
+
       -- the same answer, and the same rows held, mapped
       pub answer-map : (n : ℕ) → answerWith S′ n ≡ answerWith S n
-      unfolding answerWith
+      unfolding answerWith depthAtFull
       answer-map n =
-          ap (λ x. elim (ltb n (length (x .rows))) as (λ b. RunAnswer) [ true ↦ full | false ↦ runAnswer S′ x ]) (run-map (suc n))
-          ∙ ap₂ {A = ℕ} {B = RunAnswer} {C = RunAnswer} (λ m v. elim (ltb n m) as (λ b. RunAnswer) [ true ↦ full | false ↦ v ]) (length-map (run S (suc n) .rows) mapEntry) (verdict-map (invariant S L (suc n)))
+          ap (λ x. elim (ltb n (length (x .rows))) as (λ b. RunAnswer) [ true ↦ full (depthAtFull S′ n) | false ↦ runAnswer S′ x ]) (run-map (suc n))
+          ∙ ap₂ {A = ℕ} {B = RunAnswer} {C = RunAnswer} (λ m v. elim (ltb n m) as (λ b. RunAnswer) [ true ↦ full (depthAtFull S′ n) | false ↦ v ]) (length-map (run S (suc n) .rows) mapEntry) (verdict-map (invariant S L (suc n)))
+          ∙ ap (λ d. elim (ltb n (length (run S (suc n) .rows))) as (λ b. RunAnswer) [ true ↦ full d | false ↦ runAnswer S (run S (suc n)) ]) (depth-before-map n (suc n))
 
       pub held-map : (n : ℕ) → held S′ n ≡ map mapEntry (held S n)
       unfolding held

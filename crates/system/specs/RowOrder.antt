@@ -120,9 +120,10 @@ module _ (S : System) where
   unfoldable pub entering : List (Entry S) → ℕ → ℕ
   entering = climb (λ e. e .row .packet) (λ e α. α)
 
--- The search's answer: the rows lent are too few; equal, with the row count; or different, with the telling row's place, the entering packet and the trace.
+-- The search's answer: the rows lent are too few, with the depth of the row being handled; equal, with the row count; or different, with the telling
+-- row's place, the entering packet and the trace.
 pub data RunAnswer : Type 0 where
-  full : RunAnswer
+  full : ℕ → RunAnswer
   equal : ℕ → RunAnswer
   different : ℕ → ℕ → List ℕ → RunAnswer
 
@@ -133,14 +134,26 @@ module _ (S : System) where
       elim (turn S x) [
         | finished ↦ equal (length (x .rows))
         | telling γ ↦ different (x .handled) (entering S (x .rows) (x .handled)) (path S (x .rows) (x .handled) ++ (γ ∷ []))
-        | handling ↦ full
+        | handling ↦ full (depth S (x .rows) (x .handled))
       ]
+
+  -- Run k has more than n rows: the depth of the row being handled when a row had to be appended and n were listed; 0 if the starting rows, those of
+  -- run 0, didn't fit.
+  unfoldable pub depthBefore : ℕ → ℕ → ℕ
+  depthBefore n zero = 0
+  depthBefore n (suc k) =
+      let x = run S k in
+      elim (ltb n (length (x .rows))) [ true ↦ depthBefore n k | false ↦ depth S (x .rows) (x .handled) ]
+
+  -- d of document 02, A.3, where the row order needs more than n rows; the run after n + 1 rows has more then
+  unfoldable pub depthAtFull : ℕ → ℕ
+  depthAtFull n = depthBefore n (suc n)
 
   -- the answer with n rows lent: full when the row order needs more
   unfoldable pub answerWith : ℕ → RunAnswer
   answerWith n =
       let x = run S (suc n) in
-      elim (ltb n (length (x .rows))) [ true ↦ full | false ↦ runAnswer x ]
+      elim (ltb n (length (x .rows))) [ true ↦ full (depthAtFull n) | false ↦ runAnswer x ]
 
   -- the rows that n lent rows hold in the end
   unfoldable pub held : ℕ → List (Entry S)

@@ -79,6 +79,11 @@ module _ (sizes : List ℕ) (L R : NodeLists) where
       subst (λ (b : TraceAnswer). T (has s b) ↔ SideTraces sizes (policies L R) s α trace) (g .1)
       (trace-iff sizes (policies L R) (evaluable words (t .0)) s α (packets-inside _ _ _ (t .1) .0) trace)
 
+  -- and the entering packet is below N
+  pub answer-enters : (α : ℕ) (trace : List ℕ) (words : ℕ) (a : TraceAnswer) → traceCall sizes L R α trace words ≡ checkedAs a → α < product sizes
+  unfolding traceCall
+  answer-enters α trace words a e = packets-inside _ _ _ (trace-passed sizes L R words α trace (unless-answer _ _ a e .0) .1) .0
+
   -- a trace of length 0 is neither
   pub empty-neither : (α words : ℕ) → traceTests sizes L R α [] words ≡ Passed → traceCall sizes L R α [] words ≡ Neither
   unfolding traceCall checkedUnless checkedAs

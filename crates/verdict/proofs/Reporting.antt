@@ -9,15 +9,15 @@ use borrow.Author.Tests.{lt-ltb, le-ltb}
 use Rattle.packet.specs.Refusals.{refusal}
 use Rattle.system.proofs.Basics.{length-snoc}
 use Rattle.pair.specs.Sides.{Side, left, right}
-use Rattle.pair.specs.Search.{SearchAnswer, different, traceShort, reported}
+use Rattle.pair.specs.Search.{SearchAnswer, different, rowsFull, traceShort, reported}
 use Rattle.parent_traces.specs.ParentLines.{lineDepth, linePath, lineStart}
 use Rattle.packet.specs.Written.{written}
 use Rattle.parent_traces.proofs.Lines.{length-path}
 use Rattle.verdict.specs.declared.Ended.{Ended}
-use Rattle.verdict.specs.declared.Ended.the-variants.{Done, Left as LeftTells, Right as RightTells, Full as FullUp}
+use Rattle.verdict.specs.declared.Ended.the-variants.{Done, Left as LeftTells, Right as RightTells, Full as FullUp, Unstarted}
 use Rattle.verdict.specs.declared.Stop.{Stop}
 use Rattle.verdict.specs.declared.Verdict.{Verdict}
-use Rattle.verdict.specs.declared.Verdict.the-variants.{Equal, Full, Refused}
+use Rattle.verdict.specs.declared.Verdict.the-variants.{Equal, Refused}
 use Rattle.verdict.specs.InnerEnding.{tellingAt, CanRead, tellingAnswer, answerAtEnd, endedAnswer, ReadableAt, Readable}
 use Rattle.verdict.specs.Verdicts.{tellingVerdict, verdictOf, traceAfter, Told}
 
@@ -63,6 +63,10 @@ module _ (packets parents : List ℕ) (stop : Stop) where
   telling-reads left γ C f = subst (ReadableAt packets parents (stop .row) (stop .listed)) f C
   telling-reads right γ C f = subst (ReadableAt packets parents (stop .row) (stop .listed)) f C
 
+  pub full-reads : Readable packets parents stop → stop .ended ≡ FullUp → CanRead packets parents (stop .row) (stop .listed)
+  unfolding Readable ReadableAt
+  full-reads C f = subst (ReadableAt packets parents (stop .row) (stop .listed)) f C
+
 module _ (rows : ℕ) (packets parents : List ℕ) (stop : Stop) (trace : List ℕ) where
   answer-is : (e : Ended) → stop .ended ≡ e → endedAnswer rows (length trace) packets parents stop ≡ answerAtEnd rows (length trace) packets parents (stop .row) e
   unfolding endedAnswer
@@ -76,9 +80,20 @@ module _ (rows : ℕ) (packets parents : List ℕ) (stop : Stop) (trace : List �
   unfolding answerAtEnd verdictOf traceAfter
   ends-done n f = told-as (answer-is (Done n) f) (record { answers = refl; leaves = refl })
 
-  pub ends-full : stop .ended ≡ FullUp → Told (endedAnswer rows (length trace) packets parents stop) trace (Full (refusal 11 0 rows)) trace
-  unfolding answerAtEnd verdictOf traceAfter
-  ends-full f = told-as (answer-is FullUp f) (record { answers = refl; leaves = refl })
+  -- refusal 11 with a depth d
+  told-full : {d : ℕ} {verdict : Verdict} → endedAnswer rows (length trace) packets parents stop ≡ rowsFull rows d → verdict ≡ verdictOf (rowsFull rows d)
+      → Told (endedAnswer rows (length trace) packets parents stop) trace verdict trace
+  unfolding traceAfter
+  told-full f v = told-as f (record { answers = v; leaves = refl })
+
+  pub ends-full : stop .ended ≡ FullUp → {d : ℕ} → d ≡ lineDepth parents (stop .row) → {verdict : Verdict} → verdict ≡ verdictOf (rowsFull rows d)
+      → Told (endedAnswer rows (length trace) packets parents stop) trace verdict trace
+  unfolding answerAtEnd
+  ends-full f e v = told-full (answer-is FullUp f ∙ ap (rowsFull rows) (sym e)) v
+
+  pub ends-unstarted : stop .ended ≡ Unstarted → {verdict : Verdict} → verdict ≡ verdictOf (rowsFull rows 0) → Told (endedAnswer rows (length trace) packets parents stop) trace verdict trace
+  unfolding answerAtEnd
+  ends-unstarted f v = told-full (answer-is Unstarted f) v
 
   pub ends-telling : (s : Side) (γ : ℕ) → stop .ended ≡ tellingAt s γ → (verdict : Verdict) (trace′ : List ℕ)
       → Told (tellingAnswer (length trace) packets parents (stop .row) s γ) trace verdict trace′ → Told (endedAnswer rows (length trace) packets parents stop) trace verdict trace′

@@ -19,14 +19,14 @@ tellingVerdict right n α = Right n α
 unfoldable pub verdictOf : SearchAnswer → Verdict
 verdictOf (equal rows) = Equal rows
 verdictOf (different s α trace) = tellingVerdict s (length trace) α
-verdictOf (rowsFull rows) = Full (refusal 11 0 rows)
+verdictOf (rowsFull rows d) = Full (refusal 11 0 rows) d
 verdictOf (traceShort needed) = Refused (refusal 12 0 needed)
 
 -- the trace list after an answer: written on left and right only
 unfoldable pub traceAfter : SearchAnswer → List ℕ → List ℕ
 traceAfter (equal rows) old = old
 traceAfter (different s α trace) old = written trace old
-traceAfter (rowsFull rows) old = old
+traceAfter (rowsFull rows d) old = old
 traceAfter (traceShort needed) old = old
 
 -- the verdict of an answer, and the trace list after it

@@ -65,9 +65,10 @@ struct Tally {
     skipped: u64,
 }
 
-/// An answer's kind: its first number, with a refusal's or a rejection's second.
+/// An answer's kind: its first number, with a refusal's or a rejection's second; of 11 also whether it says something of traces.
 fn kind(answer: Numbers) -> String {
     match answer {
+        [9, 11, _, _, length, ..] if length > 0 => "refused by 11, d > 0".to_string(),
         [9, number, ..] => format!("refused by {number}"),
         [5, rule, ..] => format!("rejected by rule {rule}"),
         [first, ..] => first.to_string(),

@@ -27,7 +27,7 @@ use netkat_reference::random::Random;
 use netkat_reference::search::Lists;
 
 /// Random cases that are tried.
-const TRIED: u64 = 3500;
+const TRIED: u64 = 3850;
 /// Longest random case that is kept.
 const LONGEST: usize = 1500;
 /// The program reads its input in blocks of this length; no case goes over a block's end, and the second part begins with one.

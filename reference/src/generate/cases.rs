@@ -2,6 +2,7 @@
 
 use super::damage;
 use super::lent::entry;
+use super::run_out;
 use super::tree::{self, Tree};
 use crate::answer::{Refusal, Verdict};
 use crate::automaton::{Automaton, State, Step, START};
@@ -23,7 +24,7 @@ pub enum Extent {
 
 /// A random call with everything it is handed.
 pub fn case(random: &mut Random, extent: Extent) -> Case {
-    match random.below(20) {
+    match random.below(22) {
         0 => values(random),
         1 => number(random),
         2 | 3 => policy_case(random, extent),
@@ -32,12 +33,13 @@ pub fn case(random: &mut Random, extent: Extent) -> Case {
         10 | 11 => texts(random, extent),
         12..=15 => evidence(random, extent),
         16 | 17 => trace(random, extent),
+        18 | 19 => run_out::case(random, extent),
         _ => program(random, extent),
     }
 }
 
 /// Legal sizes.
-fn legal_sizes(random: &mut Random, extent: Extent) -> Vec<u16> {
+pub(super) fn legal_sizes(random: &mut Random, extent: Extent) -> Vec<u16> {
     const SMALL: &[&[u16]] = &[
         &[1],
         &[2],
@@ -180,7 +182,7 @@ fn pair(random: &mut Random, sizes: &[u16], extent: Extent) -> (Tree, Tree) {
     }
 }
 
-fn is_legal(policy: &Tree) -> bool {
+pub(super) fn is_legal(policy: &Tree) -> bool {
     policy.dups() <= MOST_DUPS && policy.size() <= MOST_NODES
 }
 
@@ -200,7 +202,7 @@ fn wide(random: &mut Random, policy: Tree) -> Tree {
 }
 
 /// Node lists of a tree, in some numbering.
-fn numbered(random: &mut Random, policy: &Tree) -> OwnedLists {
+pub(super) fn numbered(random: &mut Random, policy: &Tree) -> OwnedLists {
     let lists = policy.lists();
     if random.one_in(2) {
         tree::renumbered(random, lists.lists())
@@ -290,16 +292,16 @@ fn work(random: &mut Random) -> Vec<u32> {
 }
 
 /// What the search needs for two policies.
-struct Needs {
+pub(super) struct Needs {
     answer: Result<Verdict, Refusal>,
     lists: Lists,
     /// Rows listed at the end; how many there were room for, if that was too few.
-    rows: usize,
+    pub(super) rows: usize,
     trace: usize,
 }
 
 /// Searches with ample lists, to know what a search needs.
-fn needs(sizes: &[u16], left: &OwnedLists, right: &OwnedLists, extent: Extent) -> Needs {
+pub(super) fn needs(sizes: &[u16], left: &OwnedLists, right: &OwnedLists, extent: Extent) -> Needs {
     let room = match extent {
         Extent::Small => 4_000,
         Extent::Large => MOST_ROWS,
@@ -354,6 +356,11 @@ fn lent(random: &mut Random, needs: &Needs) -> Lists {
         2 | 3 => needs.trace,
         _ => needs.trace + random.between(1, 5),
     };
+    lists_of(random, lengths, trace)
+}
+
+/// Lists with four row lists and a trace list of these lengths.
+pub(super) fn lists_of(random: &mut Random, lengths: [usize; 4], trace: usize) -> Lists {
     Lists {
         packet: narrow(&entries(random, lengths[0])),
         left: entries(random, lengths[1]),

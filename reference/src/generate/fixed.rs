@@ -21,6 +21,7 @@ pub fn cases() -> Vec<Case> {
         cases.push(search_nodes(&pair, lent(&pair)));
         cases.push(search_texts(&pair, lent(&pair)));
     }
+    cases.extend(run_out());
     cases.extend(text_edges());
     cases.extend(list_edges());
     cases.extend(tables());
@@ -451,12 +452,47 @@ fn text_edges() -> Vec<Case> {
         .collect()
 }
 
-/// A search that lists tens of thousands of rows, and the same with fewer lent than it needs.
+/// Pairs with every number of rows lent up to the last that is needed, and deep ones with a few numbers of rows.
+fn run_out() -> Vec<Case> {
+    let pairs = [
+        pair(&[1], "dup*", "id+dup;dup*", 3, 9),
+        pair(&[2], "f0=0;dup", "dup;f0=0", 4, 9),
+        pair(&[1], "dup;dup;dup", "dup;dup;dup;drop+dup;dup;dup", 4, 9),
+        pair(&[3], &dups(4, ";"), &dups(4, ";"), 15, 9),
+        pair(&[2, 2], "dup;dup;f0<-1;dup", "dup;dup;dup;f0<-1", 16, 2),
+        pair(&[5], &way(5), "f0=0;(f0<-1+f0!=0;f0<-2);dup", 7, 9),
+        pair(&[9], &way(9), &way(8), 18, 9),
+    ];
+    let mut lent_rows: Vec<(&Pair, usize)> = Vec::new();
+    for pair in &pairs {
+        lent_rows.extend((0..=pair.3).map(|rows| (pair, rows)));
+    }
+    let chain = pair(&[2], &dups(60, ";"), &dups(61, ";"), 0, 70);
+    lent_rows.extend([1, 2, 3, 60, 61, 119, 120, 121, 122].map(|rows| (&chain, rows)));
+    let mut cases = Vec::new();
+    for (pair, rows) in lent_rows {
+        let lists = || Lists::new(rows, pair.4, LEAST_WORK);
+        cases.push(search_nodes(pair, lists()));
+        cases.push(search_texts(pair, lists()));
+    }
+    cases
+}
+
+/// From value 0 of a field to the last of so many, each recorded.
+fn way(values: usize) -> String {
+    let step = |value| format!("f0={value};f0<-{}", value + 1);
+    let steps: Vec<String> = (0..values - 1).map(step).collect();
+    format!("f0=0;(({});dup)*;f0={}", steps.join("+"), values - 1)
+}
+
+/// Searches that list tens of thousands of rows, some of them with fewer lent than they need; the second lists one row after
+/// the other.
 fn large_tables() -> Vec<Case> {
-    let cycles = heavy::cycles();
-    [MOST_ROWS, 40_000]
+    let (cycles, way) = (heavy::cycles(), heavy::long_way());
+    [(cycles, [MOST_ROWS, 40_000]), (way, [43_042, 1_000])]
         .iter()
-        .map(|&rows| pair(&cycles.sizes, &cycles.left, &cycles.right, rows, 3))
+        .flat_map(|(given, lent)| lent.map(|rows| (given, rows)))
+        .map(|(given, rows)| pair(&given.sizes, &given.left, &given.right, rows, 3))
         .map(|pair| search_texts(&pair, lent(&pair)))
         .collect()
 }

@@ -34,6 +34,7 @@ pub fn pairs() -> Vec<Pair> {
         one_way(),
         full_table(),
         cycles(),
+        long_way(),
         many_dups(31),
         many_states(14),
         many_rows(5),
@@ -200,11 +201,7 @@ fn inc(digits: usize, base: u16) -> Pair {
 
 /// Turning every digit on by one, as often as the base says, returns the packet.
 fn flip(digits: usize, base: u16) -> Pair {
-    let turn = |digit: usize| {
-        let on = |value| format!("f{digit}={value};f{digit}<-{}", (value + 1) % base);
-        format!("({})", joined("+", (0..base).map(on)))
-    };
-    let turned = joined(";", (0..digits).map(turn));
+    let turned = joined(";", (0..digits).map(|digit| turn(digit, base)));
     Pair {
         name: format!("flip, {digits} digits to base {base}"),
         sizes: vec![base; digits],
@@ -340,6 +337,30 @@ pub fn chain() -> Pair {
         sizes: vec![1023],
         left: ["dup"; 63].join(";"),
         right: grouped.replace("(dup)", "dup"),
+    }
+}
+
+/// One digit to a base turned on by one.
+fn turn(digit: usize, base: u16) -> String {
+    let on = |value| format!("f{digit}={value};f{digit}<-{}", (value + 1) % base);
+    format!("({})", joined("+", (0..base).map(on)))
+}
+
+/// From packet 0 through all 1,001 packets and round again, each recorded 21 times, and the same in rounds of two packets:
+/// 42,042 rows in one chain behind the starting rows.
+pub fn long_way() -> Pair {
+    let sizes = vec![7, 11, 13];
+    let turned = joined(
+        ";",
+        sizes.iter().enumerate().map(|(at, &base)| turn(at, base)),
+    );
+    let recorded = format!("{turned}{}", ";dup".repeat(21));
+    let begin = all(sizes.len(), "=", 0);
+    Pair {
+        name: "long way".to_string(),
+        sizes,
+        left: format!("{begin};({recorded})*"),
+        right: format!("{begin};(({recorded});({recorded}))*;(id+{recorded})"),
     }
 }
 

@@ -2,8 +2,8 @@
 //!
 //! [`case`] makes one call with everything it is handed. The parts are public too: [`tree`] for policies as trees and
 //! their node lists and texts, [`damage`] for illegal inputs, [`cases`] for whole calls. [`fixed`] has cases that are
-//! always worth running, [`heavy`] pairs that cost a search much, [`network`] those of them that forward packets. [`lent`]
-//! fills the lists that a call may write.
+//! always worth running, [`heavy`] pairs that cost a search much, [`network`] those of them that forward packets,
+//! [`run_out`] searches whose rows run out. [`lent`] fills the lists that a call may write.
 
 pub mod cases;
 pub mod damage;
@@ -11,6 +11,7 @@ pub mod fixed;
 pub mod heavy;
 pub mod lent;
 pub mod network;
+pub mod run_out;
 pub mod tree;
 
 pub use cases::{case, Extent};

@@ -32,14 +32,14 @@ numbers-requires-3 c κs = search needs
 enum-known-answer-4 : tie.Need-enum-known-answer-4
 enum-known-answer-4 c = search needs
 
-of-refusal-requires : tie.Need-of-refusal-requires
-of-refusal-requires c κs = search needs
+of-full-requires : tie.Need-of-full-requires
+of-full-requires c κs = search needs
 
 enum-known-answer-5 : tie.Need-enum-known-answer-5
 enum-known-answer-5 c = search needs
 
-of-refusal-requires-2 : tie.Need-of-refusal-requires-2
-of-refusal-requires-2 c κs = search needs
+of-refusal-requires : tie.Need-of-refusal-requires
+of-refusal-requires c κs = search needs
 
 returns : tie.Need-returns
 unfolding verdictNumbers
@@ -55,11 +55,11 @@ returns-3 c = c .numbers3 .ensures ∙ sym (ap verdictNumbers (c .before .before
 
 returns-4 : tie.Need-returns-4
 unfolding verdictNumbers
-returns-4 c = c .of-refusal .ensures ∙ sym (ap verdictNumbers (c .before .before .answer4 .given .1))
+returns-4 c = c .of-full .ensures ∙ sym (ap verdictNumbers (c .before .before .answer4 .given .1))
 
 returns-5 : tie.Need-returns-5
 unfolding verdictNumbers
-returns-5 c = c .of-refusal2 .ensures ∙ sym (ap verdictNumbers (c .before .before .answer5 .given .1))
+returns-5 c = c .of-refusal .ensures ∙ sym (ap verdictNumbers (c .before .before .answer5 .given .1))
 
 pub of-verdict-spec : {M : Type 1} → statement M
 of-verdict-spec =
@@ -74,9 +74,9 @@ of-verdict-spec =
     cast-numbers-2
     numbers-requires-3
     enum-known-answer-4
-    of-refusal-requires
+    of-full-requires
     enum-known-answer-5
-    of-refusal-requires-2
+    of-refusal-requires
     returns
     returns-2
     returns-3

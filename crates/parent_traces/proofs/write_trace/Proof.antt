@@ -2,7 +2,6 @@
 use borrow.Author.Needs.{needs}
 use native.Mathlib.Omega.{arith}
 use mathlib.Core.Path.{_∙_}
-use Prim.Native.Nat.{_-_}
 use lib.ListN.{length-set}
 use Rattle.parent_traces.proofs.Lines.{Tracing, tracing-begin, tracing-more, tracing-place, tracing-end, rises}
 use Rattle.parent_traces.proofs.write_trace.Statement.{statement}
@@ -14,17 +13,14 @@ Inv-loop packets parents listed h last trace₀ k₀ i₀ parent₀ trace k i pa
 abbrev μ-loop : tie.MeasureT-loop
 μ-loop packets parents listed h last trace₀ k₀ i₀ parent₀ trace k i parent = i
 
-trace-length-requires : tie.Need-trace-length-requires Inv-loop μ-loop
-trace-length-requires c κs = ((c .before .before .before .pre .0), (c .before .before .before .pre .1 .1 .0))
-
-sub-k : tie.Need-sub-k Inv-loop μ-loop
-sub-k c = omega (arith, (c .trace-length .ensures))
+depth-requires : tie.Need-depth-requires Inv-loop μ-loop
+depth-requires c κs = ((c .before .before .before .pre .0), (c .before .before .before .pre .1 .1 .0))
 
 mul-trace : tie.Need-mul-trace Inv-loop μ-loop
-mul-trace c = omega (arith, (c .trace-length .ensures), (c .before .before .before .before .pre .1 .1 .1), c .before .before .before .before .good)
+mul-trace c = omega (arith, (c .depth .ensures), (c .before .before .before .before .pre .1 .1 .1), c .before .before .before .before .good)
 
 slice-write-trace : tie.Need-slice-write-trace Inv-loop μ-loop
-slice-write-trace c = omega (arith, (c .trace-length .ensures), (c .before .before .before .before .pre .1 .1 .1))
+slice-write-trace c = omega (arith, (c .depth .ensures), (c .before .before .before .before .pre .1 .1 .1))
 
 mul-wide : tie.Need-mul-wide Inv-loop μ-loop
 mul-wide c = omega (arith, (c .before .before .before .before .pre .0 .within), (c .before .before .before .before .pre .1 .1 .0), (c .before .before .before .before .good .1 .0))
@@ -36,10 +32,10 @@ wide-requires : tie.Need-wide-requires Inv-loop μ-loop
 wide-requires c κs = search needs
 
 loop-holds : tie.Need-loop-holds Inv-loop μ-loop
-loop-holds c = tracing-begin (c .before .before .before .before .before .before .pre .0) (c .before .before .before .before .before .before .args .packets .now) (c .before .before .before .before .before .before .args .trace .now) (c .before .before .before .before .before .before .args .last) (c .before .before .before .before .before .before .args .h) _ ((c .before .before .trace-length .result) - 1) (omega (arith, (c .before .before .trace-length .ensures))) (omega (arith, (c .before .before .trace-length .ensures), (c .before .before .before .before .before .before .pre .1 .1 .1))) (c .wide .ensures)
+loop-holds c = tracing-begin (c .before .before .before .before .before .before .pre .0) (c .before .before .before .before .before .before .args .packets .now) (c .before .before .before .before .before .before .args .trace .now) (c .before .before .before .before .before .before .args .last) (c .before .before .before .before .before .before .args .h) _ (c .before .before .depth .result) (omega (arith, (c .before .before .depth .ensures))) (omega (arith, (c .before .before .depth .ensures), (c .before .before .before .before .before .before .pre .1 .1 .1))) (c .wide .ensures)
 
-sub-k-2 : tie.Need-sub-k-2 Inv-loop μ-loop
-sub-k-2 c = omega (arith, tracing-place (c .before .before .before .before .before .before .before .before .pre .0) (c .before .before .before .before .before .before .before .before .pre .1 .1 .0) (c .before .loop .inv) (c .loop-test .taken))
+sub-k : tie.Need-sub-k Inv-loop μ-loop
+sub-k c = omega (arith, tracing-place (c .before .before .before .before .before .before .before .before .pre .0) (c .before .before .before .before .before .before .before .before .pre .1 .1 .0) (c .before .loop .inv) (c .loop-test .taken))
 
 mul-trace-2 : tie.Need-mul-trace-2 Inv-loop μ-loop
 mul-trace-2 c = omega (arith, (c .before .loop .inv .on .inside), (c .before .before .before .before .before .before .before .before .pre .1 .0), (c .before .before .before .before .before .before .before .before .pre .1 .1 .0), (c .before .before .before .before .before .before .before .before .good .0))
@@ -48,7 +44,7 @@ shared-slice-read-trace : tie.Need-shared-slice-read-trace Inv-loop μ-loop
 shared-slice-read-trace c = omega (arith, (c .before .before .loop .inv .on .inside), (c .before .before .before .before .before .before .before .before .before .pre .1 .0), (c .before .before .before .before .before .before .before .before .before .pre .1 .1 .0))
 
 mul-trace-3 : tie.Need-mul-trace-3 Inv-loop μ-loop
-mul-trace-3 c = omega (arith, (c .before .before .loop .inv .room), (c .before .before .loop .inv .long), c .before .before .before .before .before .before .before .before .before .good, length-set (c .before .before .before .before .before .before .before .before .before .args .trace .now) ((c .before .before .before .before .before .trace-length .result) - 1) (c .before .before .before .before .before .before .before .before .before .args .last))
+mul-trace-3 c = omega (arith, (c .before .before .loop .inv .room), (c .before .before .loop .inv .long), c .before .before .before .before .before .before .before .before .before .good, length-set (c .before .before .before .before .before .before .before .before .before .args .trace .now) (c .before .before .before .before .before .depth .result) (c .before .before .before .before .before .before .before .before .before .args .last))
 
 slice-write-trace-2 : tie.Need-slice-write-trace-2 Inv-loop μ-loop
 slice-write-trace-2 c = omega (arith, (c .before .before .loop .inv .room), (c .before .before .loop .inv .long), tracing-place (c .before .before .before .before .before .before .before .before .before .pre .0) (c .before .before .before .before .before .before .before .before .before .pre .1 .1 .0) (c .before .before .loop .inv) (c .before .loop-test .taken))
@@ -69,10 +65,10 @@ loop-again : tie.Need-loop-again Inv-loop μ-loop
 loop-again c = tracing-more (c .before .before .before .before .before .before .before .before .before .before .before .pre .0) (c .before .before .before .before .before .before .before .before .before .before .before .pre .1 .1 .0) (c .before .before .before .before .loop .inv) (c .before .before .before .loop-test .taken) _ (c .wide2 .ensures) _ (omega (arith, tracing-place (c .before .before .before .before .before .before .before .before .before .before .before .pre .0) (c .before .before .before .before .before .before .before .before .before .before .before .pre .1 .1 .0) (c .before .before .before .before .loop .inv) (c .before .before .before .loop-test .taken)))
 
 same-length : tie.Need-same-length Inv-loop μ-loop
-same-length c = (c .before .loop .inv .long) ∙ length-set (c .before .before .before .before .before .before .before .before .args .trace .now) ((c .before .before .before .before .trace-length .result) - 1) (c .before .before .before .before .before .before .before .before .args .last)
+same-length c = (c .before .loop .inv .long) ∙ length-set (c .before .before .before .before .before .before .before .before .args .trace .now) (c .before .before .before .before .depth .result) (c .before .before .before .before .before .before .before .before .args .last)
 
 returns : tie.Need-returns Inv-loop μ-loop
-returns c = tracing-end (c .before .before .before .before .before .before .before .before .pre .0) (c .before .before .before .before .before .before .before .before .args .packets .now) (c .before .before .before .before .before .before .before .before .args .trace .now) _ (c .before .before .before .before .before .before .before .before .args .last) (c .before .before .before .before .before .before .before .before .args .h) _ _ ((c .before .before .before .before .trace-length .result) - 1) _ (c .before .before .before .before .before .before .before .before .pre .1 .1 .0) (c .before .loop .inv) (omega (arith, (c .before .before .before .before .trace-length .ensures))) (c .loop-test .left)
+returns c = tracing-end (c .before .before .before .before .before .before .before .before .pre .0) (c .before .before .before .before .before .before .before .before .args .packets .now) (c .before .before .before .before .before .before .before .before .args .trace .now) _ (c .before .before .before .before .before .before .before .before .args .last) (c .before .before .before .before .before .before .before .before .args .h) _ _ (c .before .before .before .before .depth .result) _ (c .before .before .before .before .before .before .before .before .pre .1 .1 .0) (c .before .loop .inv) (omega (arith, (c .before .before .before .before .depth .ensures))) (c .loop-test .left)
 
 pub write-trace-spec : {M : Type 1} → statement M
 write-trace-spec =
@@ -80,15 +76,14 @@ write-trace-spec =
     (tie.spec
     Inv-loop
     μ-loop
-    trace-length-requires
-    sub-k
+    depth-requires
     mul-trace
     slice-write-trace
     mul-wide
     shared-slice-read-wide
     wide-requires
     loop-holds
-    sub-k-2
+    sub-k
     mul-trace-2
     shared-slice-read-trace
     mul-trace-3

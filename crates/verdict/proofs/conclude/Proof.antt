@@ -1,8 +1,7 @@
 -- `conclude` meets its contract. Assumes nothing.
 use borrow.Author.Needs.{needs}
-use Rattle.packet.specs.Refusals.{refusal}
 use Rattle.pair.specs.Sides.{left, right}
-use Rattle.verdict.proofs.Reporting.{ends-done, ends-full, ends-telling, telling-reads}
+use Rattle.verdict.proofs.Reporting.{ends-done, ends-full, ends-unstarted, ends-telling, telling-reads, full-reads}
 use Rattle.verdict.proofs.conclude.Statement.{statement}
 use Rattle.verdict.proofs.conclude.Tie as tie
 
@@ -24,6 +23,18 @@ tell-requires-2 c κs = telling-reads _ _ _ right _ (c .before .before .before .
 enum-told : tie.Need-enum-told
 enum-told c = search needs
 
+depth-requires : tie.Need-depth-requires
+depth-requires c κs = let r = full-reads _ _ _ (c .before .before .before .before .before .pre) (c .enum-told .given .1) in (r .rooted, r .inside)
+
+full-requires : tie.Need-full-requires
+full-requires c κs = search needs
+
+enum-told-2 : tie.Need-enum-told-2
+enum-told-2 c = search needs
+
+full-requires-2 : tie.Need-full-requires-2
+full-requires-2 c κs = search needs
+
 returns : tie.Need-returns
 returns c = ends-done _ _ _ _ _ _ (c .before .ended .given .1)
 
@@ -40,8 +51,10 @@ returns-3 : tie.Need-returns-3
 returns-3 c = ends-telling _ _ _ _ _ right _ (c .before .before .before .before .before .ended3 .given .1) _ _ (c .before .before .tell2 .ensures)
 
 returns-4 : tie.Need-returns-4
-unfolding refusal
-returns-4 c = ends-full _ _ _ _ _ (c .enum-told .given .1)
+returns-4 c = ends-full _ _ _ _ _ (c .before .before .enum-told .given .1) (c .before .depth .ensures) (c .full .ensures)
+
+returns-5 : tie.Need-returns-5
+returns-5 c = ends-unstarted _ _ _ _ _ (c .before .enum-told2 .given .1) (c .full2 .ensures)
 
 pub conclude-spec : {M : Type 1} → statement M
 conclude-spec =
@@ -53,9 +66,14 @@ conclude-spec =
     enum-known-ended-3
     tell-requires-2
     enum-told
+    depth-requires
+    full-requires
+    enum-told-2
+    full-requires-2
     returns
     same-length
     returns-2
     same-length-2
     returns-3
-    returns-4)
+    returns-4
+    returns-5)
