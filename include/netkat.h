@@ -65,6 +65,7 @@ extern "C" {
 #define NETKAT_ROWS 65535  /* most rows of a table */
 #define NETKAT_WORK 16384  /* least length of a work list */
 #define NETKAT_STACK 4194304 /* stack, in bytes, that a call may need */
+#define NETKAT_ROWS_FULL 11 /* the refusal that carries d */
 
 enum {
     NETKAT_DONE = 0, /* equal, accepted */
@@ -131,7 +132,8 @@ void netkat_read(const uint8_t *text, size_t text_length,
  *   9, 11, 0, rows lent, d         more rows are needed than were lent, and it is not known whether the two are equal; but they
  *                                  have the same traces of d packets or fewer from every packet: nothing that passes with fewer than
  *                                  d packets recorded tells them apart. d is the depth of the row being handled, how many rows lie
- *                                  above it by their parents; 0 if the starting rows did not fit. More rows lent never make it less
+ *                                  above it by their parents, and 0 if the starting rows did not fit. Where more rows run out again,
+ *                                  d is no less
  * or refuses by 1 to 10, 12, 19. Once 10 has passed, the row lists (packet, left, right, parent) hold the rows listed so far, of 11 the
  * first rows that fit, and the work list is all 0. `parent` holds the number of the row that listed the row, counted from
  * 0; of a starting row its own number. */

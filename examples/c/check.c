@@ -7,7 +7,6 @@
 #include "netkat.h"
 
 #define ROWS 4096
-#define ROWS_FULL 11 /* the refusal of a search that needs more rows */
 
 typedef struct {
     uint8_t kind[NETKAT_NODES];
@@ -47,7 +46,7 @@ static void check(const char *left_text, const char *right_text, size_t lent) {
     printf("%s against %s\n", left_text, right_text);
     netkat_search(sizes, 1, LISTS(one), LISTS(other), packet, lent, left, lent, right, lent, parent, lent, trace, ROWS,
                   work, NETKAT_WORK, answer);
-    if (answer[0] == NETKAT_REFUSED && answer[1] == ROWS_FULL) {
+    if (answer[0] == NETKAT_REFUSED && answer[1] == NETKAT_ROWS_FULL) {
         printf("  more than %" PRIu64 " rows needed; the same traces up to length %" PRIu64 "\n", answer[3], answer[4]);
         return;
     }

@@ -83,11 +83,16 @@ full-of (different right α t) r d e = let z : _≡_ {A = ℕ} 0 1 = cc in absur
 full-of (rowsFull m c) r d e = let same : c ≡ d = cc in record { rows = m; answer = ap (rowsFull m) same; place = cc }
 full-of (traceShort m) r d e = let z : _≡_ {A = ℕ} 0 1 = cc in absurd (zero≢one z)
 
-refused-telling : (r : Refusal) (s : Side) (n α : ℕ) → Refused r ≡ tellingVerdict s n α → ⊥
-refused-telling r left n α e = let z : _≡_ {A = ℕ} 0 1 = cc in zero≢one z
-refused-telling r right n α e = let z : _≡_ {A = ℕ} 0 1 = cc in zero≢one z
+-- ---- a refusal is no other verdict
 
-refused-full : {r q : Refusal} {d : ℕ} → Refused r ≡ Full q d → ⊥
+pub refused-equal : {r : Refusal} {n : ℕ} → Refused r ≡ Equal n → ⊥
+refused-equal e = let z : _≡_ {A = ℕ} 0 1 = cc in zero≢one z
+
+pub refused-telling : {r : Refusal} (s : Side) (n α : ℕ) → Refused r ≡ tellingVerdict s n α → ⊥
+refused-telling left n α e = let z : _≡_ {A = ℕ} 0 1 = cc in zero≢one z
+refused-telling right n α e = let z : _≡_ {A = ℕ} 0 1 = cc in zero≢one z
+
+pub refused-full : {r q : Refusal} {d : ℕ} → Refused r ≡ Full q d → ⊥
 refused-full e = let z : _≡_ {A = ℕ} 0 1 = cc in zero≢one z
 
 -- ---- the tests
@@ -171,8 +176,8 @@ module _ {sizes : List ℕ} {L R : NodeLists} {x : SearchLists} where
       record {
         answers = sym (ap (λ (t : Tested). verdictAfter t (answerHere sizes L R x)) e);
         leaves = sym (ap (λ (t : Tested). lentAfter t (rowsHere sizes L R x) (answerHere sizes L R x) x) e);
-        equal-same = λ rows q. let z : _≡_ {A = ℕ} 0 1 = cc in absurd (zero≢one z);
-        different-tells = λ s n α q. absurd (refused-telling r s n α q);
+        equal-same = λ rows q. absurd (refused-equal q);
+        different-tells = λ s n α q. absurd (refused-telling s n α q);
         full-exactly = λ p. let z : Stopped r ≡ Passed = sym e ∙ p in let o : _≡_ {A = ℕ} 0 1 = cc in absurd (zero≢one o);
         full-place = λ q d f. absurd (refused-full f);
         full-same = λ q d f. absurd (refused-full f);

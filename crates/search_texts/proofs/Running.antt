@@ -25,9 +25,9 @@ use Rattle.grammar.specs.Tokens.{fieldNames}
 use Rattle.grammar.specs.Answer.{textTree}
 use Rattle.grammar.proofs.NodeLaws.{text-traces}
 use Rattle.verdict.specs.declared.Verdict.{Verdict}
-use Rattle.verdict.specs.declared.Verdict.the-variants.{Equal, Full, Refused}
-use Rattle.verdict.specs.Verdicts.{tellingVerdict}
+use Rattle.verdict.specs.declared.Verdict.the-variants.{Refused}
 use Rattle.search.specs.Call.{SearchLists, verdictAfter, lentAfter, searchTests, searchVerdict, searchLeaves, Searched}
+use Rattle.search.proofs.Answering.{refused-equal, refused-telling, refused-full}
 use Rattle.search_texts.specs.Call.{textNodes, textStage, textPolicies, textsTests, textsAnswer, textsRows, textsVerdict, textsLeaves, TextsSearched, Ran}
 use Rattle.search_texts.proofs.Reading.{stage-answer}
 
@@ -96,16 +96,6 @@ module _ (sizes left-text right-text : List ℕ) (el : textStage left-text ≡ P
       }
 
 -- ---- the public call
-
-refused-equal : {r : Refusal} {n : ℕ} → Refused r ≡ Equal n → ⊥
-refused-equal e = zero≢one (let z : _≡_ {A = ℕ} 0 1 = cc in z)
-
-refused-telling : {r : Refusal} (s : Side) (n α : ℕ) → Refused r ≡ tellingVerdict s n α → ⊥
-refused-telling left n α e = zero≢one (let z : _≡_ {A = ℕ} 0 1 = cc in z)
-refused-telling right n α e = zero≢one (let z : _≡_ {A = ℕ} 0 1 = cc in z)
-
-refused-full : {r q : Refusal} {d : ℕ} → Refused r ≡ Full q d → ⊥
-refused-full e = zero≢one (let z : _≡_ {A = ℕ} 0 1 = cc in z)
 
 module _ (sizes left-text right-text : List ℕ) (x : SearchLists) where
   refused-by : {r : Refusal} → textsTests sizes left-text right-text x ≡ Stopped r → TextsSearched sizes left-text right-text x (Refused r) x

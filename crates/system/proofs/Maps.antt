@@ -155,13 +155,13 @@ module _ (S S′ : System) (f : S .State → S′ .State) where
                 elim t [
                   | finished ↦ equal (length (y .rows))
                   | telling γ ↦ different (y .handled) (entering R (y .rows) (y .handled)) (path R (y .rows) (y .handled) ++ (γ ∷ []))
-                  | handling ↦ full (depth R (y .rows) (y .handled))
+                  | handling ↦ full 0
                 ]
 
             go : (t : Turn) → told S′ (mapRun x) t ≡ told S x t
             go finished = ap equal (length-map (x .rows) mapEntry)
             go (telling γ) = ap₂ (λ α w. different (x .handled) α (w ++ (γ ∷ []))) (entering-map (x .rows) (x .handled)) (path-map (x .rows) (x .handled))
-            go handling = ap full (depth-map (x .rows) (x .handled))
+            go handling = refl
 
       -- the same listing, mapped: rows, parents and how many are handled
       pub run-map : (k : ℕ) → run S′ k ≡ mapRun (run S k)

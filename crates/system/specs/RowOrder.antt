@@ -128,13 +128,13 @@ pub data RunAnswer : Type 0 where
   different : ℕ → ℕ → List ℕ → RunAnswer
 
 module _ (S : System) where
-  -- what a run that has stopped answers; one that goes on would need more rows
+  -- what a run that has stopped answers; one that goes on is not asked
   unfoldable pub runAnswer : Run S → RunAnswer
   runAnswer x =
       elim (turn S x) [
         | finished ↦ equal (length (x .rows))
         | telling γ ↦ different (x .handled) (entering S (x .rows) (x .handled)) (path S (x .rows) (x .handled) ++ (γ ∷ []))
-        | handling ↦ full (depth S (x .rows) (x .handled))
+        | handling ↦ full 0
       ]
 
   -- Run k has more than n rows: the depth of the row being handled when a row had to be appended and n were listed; 0 if the starting rows, those of

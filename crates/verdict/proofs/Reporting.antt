@@ -57,15 +57,10 @@ module _ {packets parents : List ℕ} {row listed : ℕ} (C : CanRead packets pa
 
 -- ---- the row order's end
 
-module _ (packets parents : List ℕ) (stop : Stop) where
-  pub telling-reads : (s : Side) (γ : ℕ) → Readable packets parents stop → stop .ended ≡ tellingAt s γ → CanRead packets parents (stop .row) (stop .listed)
-  unfolding Readable ReadableAt
-  telling-reads left γ C f = subst (ReadableAt packets parents (stop .row) (stop .listed)) f C
-  telling-reads right γ C f = subst (ReadableAt packets parents (stop .row) (stop .listed)) f C
-
-  pub full-reads : Readable packets parents stop → stop .ended ≡ FullUp → CanRead packets parents (stop .row) (stop .listed)
-  unfolding Readable ReadableAt
-  full-reads C f = subst (ReadableAt packets parents (stop .row) (stop .listed)) f C
+-- what can be read where the row order ends so
+pub reads : (packets parents : List ℕ) (stop : Stop) {e : Ended} → Readable packets parents stop → stop .ended ≡ e → ReadableAt packets parents (stop .row) (stop .listed) e
+unfolding Readable
+reads packets parents stop C f = subst (ReadableAt packets parents (stop .row) (stop .listed)) f C
 
 module _ (rows : ℕ) (packets parents : List ℕ) (stop : Stop) (trace : List ℕ) where
   answer-is : (e : Ended) → stop .ended ≡ e → endedAnswer rows (length trace) packets parents stop ≡ answerAtEnd rows (length trace) packets parents (stop .row) e

@@ -1,7 +1,8 @@
 -- `conclude` meets its contract. Assumes nothing.
 use borrow.Author.Needs.{needs}
 use Rattle.pair.specs.Sides.{left, right}
-use Rattle.verdict.proofs.Reporting.{ends-done, ends-full, ends-unstarted, ends-telling, telling-reads, full-reads}
+use Rattle.verdict.specs.InnerEnding.{ReadableAt}
+use Rattle.verdict.proofs.Reporting.{ends-done, ends-full, ends-unstarted, ends-telling, reads}
 use Rattle.verdict.proofs.conclude.Statement.{statement}
 use Rattle.verdict.proofs.conclude.Tie as tie
 
@@ -12,19 +13,22 @@ enum-known-ended-2 : tie.Need-enum-known-ended-2
 enum-known-ended-2 c = search needs
 
 tell-requires : tie.Need-tell-requires
-tell-requires c κs = telling-reads _ _ _ left _ (c .before .before .before .before .before .before .before .pre) (c .before .before .ended2 .given .1)
+unfolding ReadableAt
+tell-requires c κs = reads _ _ _ (c .before .before .before .before .before .before .before .pre) (c .before .before .ended2 .given .1)
 
 enum-known-ended-3 : tie.Need-enum-known-ended-3
 enum-known-ended-3 c = search needs
 
 tell-requires-2 : tie.Need-tell-requires-2
-tell-requires-2 c κs = telling-reads _ _ _ right _ (c .before .before .before .before .before .before .before .pre) (c .before .before .ended3 .given .1)
+unfolding ReadableAt
+tell-requires-2 c κs = reads _ _ _ (c .before .before .before .before .before .before .before .pre) (c .before .before .ended3 .given .1)
 
 enum-told : tie.Need-enum-told
 enum-told c = search needs
 
 depth-requires : tie.Need-depth-requires
-depth-requires c κs = let r = full-reads _ _ _ (c .before .before .before .before .before .pre) (c .enum-told .given .1) in (r .rooted, r .inside)
+unfolding ReadableAt
+depth-requires c κs = let r = reads _ _ _ (c .before .before .before .before .before .pre) (c .enum-told .given .1) in (r .rooted, r .inside)
 
 full-requires : tie.Need-full-requires
 full-requires c κs = search needs
