@@ -255,7 +255,7 @@ fn rows_run_out() {
     within_bound(|| {
         let (one, same, _) = policies();
         let mut checker = checker();
-        // six packets: 0 to 5 rows don't hold the starting rows
+        // six packets: 0 to 5 rows don't hold the starting rows, and 6 to 11 run out while these are handled
         for rows in 0..12 {
             let verdict = checker.search(&one, &same, rows);
             assert_eq!(verdict, Err(full(rows as u64, 0)));
