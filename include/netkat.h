@@ -13,20 +13,30 @@
  * call returns. Entries that a comment does not name keep their contents. `answer` is such a list, of eight entries, and is
  * never null.
  *
- * Policies. A policy is three lists of equal length, 1 to 512: kind, first, second, children before parents, the last node
- * the policy. Kinds: 0 drop, 1 id, 2 test f = v, 3 test f != v, 4 change f <- v (first is f, second is v), 5 dup, 6 sum,
- * 7 sequence (first and second are nodes), 8 star, 9 negation (first is a node); unused entries are 0. A negation passes the
- * packets that its child drops; below it stand kinds 0 to 3, 6, 7 and 9 only. netkat_read makes the lists from a text.
+ * Tables. A table names the fields of a policy. Each call takes two, that of the left policy and that of the right, each as
+ * two lists: names, a cell of NETKAT_CELL bytes for each name, and sizes, one for each name. A cell is the name's length and
+ * then the name; its bytes past the length are not read. A name is 1 to NETKAT_NAME small letters and digits, a letter
+ * first, and none of drop, id, dup; whoever fills a cell from a longer name writes a length over NETKAT_NAME. Two cells hold
+ * the same name if their lengths are the same and their bytes up to it. Fields are numbered from 0: the left table's names
+ * in their order, then those that only the right one has, in its order; there are 1 to NETKAT_FIELDS. A field has the values
+ * 0 to its size - 1, and a packet is a number below the product of all sizes, field 0 counting slowest.
  *
- * Texts. An item is drop, id, dup, f0=1, f0!=1, f0<-1 (fields f0 to f7), anything in parentheses, or ! and an item: a negation.
- * Behind an item * is a star, ; joins a sequence, + a sum; ! binds before *, * before ;, ; before +. Blanks and tabs are
- * allowed between tokens, and != and <- are one token each.
+ * Policies. A policy is three lists of equal length, 1 to 512: kind, first, second, children before parents, the last node
+ * the policy. Kinds: 0 drop, 1 id, 2 test f = v, 3 test f != v, 4 change f <- v (first is the field's number, second is v), 5 dup, 6 sum,
+ * 7 sequence (first and second are nodes), 8 star, 9 negation (first is a node); unused entries are 0. A negation passes the
+ * packets that its child drops; below it stand kinds 0 to 3, 6, 7 and 9 only. Either policy may use every field. netkat_read makes the
+ * lists from a text.
+ *
+ * Texts. An item is drop, id, dup, sw=1, sw!=1, sw<-1 (sw a name of the table of the text's own side), anything in
+ * parentheses, or ! and an item: a negation. Behind an item * is a star, ; joins a sequence, + a sum; ! binds before *, *
+ * before ;, ; before +. Blanks and tabs are allowed between tokens, and != and <- are one token each.
  *
  * Answers. All eight numbers of `answer` are written; those not named below are 0. answer[0] is
  *   0 done, equal or accepted   1 left   2 right   3 both   4 neither   5 rejected   9 refused
  * and a refusal is 9, number, side (0 none, 1 left, 2 right), place:
- *    1 fields not 1 to 8                     2 a size is 0: field               3 product over 1,024: field
- *    4 policy lists unequal, empty, over 512 5 kind over 9: node                6 field, value, unused entry: node
+ *    1 a table without names, or over 8 fields    2 a size is 0: field          3 product over 1,024: field
+ *    4 policy lists unequal, empty, over 512; with side 0 also a table whose names are not NETKAT_CELL bytes for each of its sizes
+ *    5 kind over 9: node                     6 field, value, unused entry: node
  *    7 child not below parent: parent node   8 not a child exactly once: node   9 more than 63 dups: the 64th
  *   10 row lists unequal, more than NETKAT_ROWS rows, or work list under NETKAT_WORK
  *   11 rows full: rows lent; answer[4] is d 12 trace list short: length needed
@@ -35,10 +45,14 @@
  *   14 no token, or bad word: byte          15 over 64 open parentheses: byte  16 no legal text goes on so: byte
  *   17 too many nodes: nodes needed
  *   19 a negation with a change, a dup or a star anywhere below it: the negation's node
- * On lists causes are tested in the order of their numbers, but 19 between 8 and 9, each over the whole input before the next, each of
- * 4 to 9 and 19 on the left policy and then on the right. On two texts 1 to 3 come first, then all of 14 to 17 on the left text, then all
- * of them on the right text, then 4 to 12 and 19 on what the texts say. A refusal leaves every list but `answer` as it was, but for what 11 and 12 leave in the row lists and that
- * the work list is all 0 whenever 10 has passed.
+ *   20 a name that is malformed, repeats an earlier one of its table, or is drop, id or dup: the table's side, the name's index there
+ *   21 a name with another size in the right table: side 1, its index in the left table
+ * Causes are tested in this order, each over the whole input before the next:
+ *   4 with side 0 on the tables, 20 on the left table and then on the right, on all names however many, 21, 1, 2, 3;
+ *   on texts 14 to 17, all of them on the left text and then all of them on the right;
+ *   4, 5, 6, 7, 8, 19, 9, each on the left policy and then on the right; 10; then 11, 12 or 13.
+ * So 4 with side 0 may come before all else. A refusal leaves every list but `answer` as it was, but for what 11 and 12 leave in
+ * the row lists and that the work list is all 0 whenever 10 has passed.
  *
  * Stack. A call needs up to NETKAT_STACK bytes of stack, 4 MiB. Measured on policies as deep as they may be, in KiB:
  *   netkat_values 1, netkat_number 1, netkat_policy 3, netkat_policies 3, netkat_read 66,
@@ -48,7 +62,9 @@
  *
  * Time. Small calls take microseconds, searches and checks of evidence mostly milliseconds. On the costliest policies a row may take
  * some milliseconds, and a call with 65,535 rows minutes. A call can't be cancelled: where that matters, lend fewer rows, or
- * make the call in a process of its own. Calls share no state: any number may run at once. */
+ * make the call in a process of its own. Tables of n and m names are tested by 20 and 21 with at most n*n/2 + m*m/2 + n*m comparisons
+ * of names: nothing for tables that can pass, 1.7 s for 20,000 names in each where it was measured, and the square of that growth for
+ * more. Calls share no state: any number may run at once. */
 #ifndef NETKAT_H
 #define NETKAT_H
 
@@ -59,8 +75,11 @@
 extern "C" {
 #endif
 
-#define NETKAT_VERSION "0.5.0"
+#define NETKAT_VERSION "0.6.0"
 #define NETKAT_NUMBERS 8   /* numbers of an answer */
+#define NETKAT_CELL 16     /* bytes of a name's cell */
+#define NETKAT_NAME 15     /* most bytes of a name */
+#define NETKAT_FIELDS 8    /* most fields of both tables together */
 #define NETKAT_NODES 512   /* most nodes of a policy */
 #define NETKAT_ROWS 65535  /* most rows of a table */
 #define NETKAT_WORK 16384  /* least length of a work list */
@@ -85,28 +104,41 @@ typedef struct {
     uint16_t parent; /* number of the row that listed it */
 } netkat_row;
 
-/* The values of a packet's fields from its number; `values` has as many entries as there are fields.
- * Answers 0 with the values written, or refuses by 1 to 3, 13. */
-void netkat_values(const uint16_t *sizes, size_t sizes_length,
+/* The values of a packet's fields from its number; `values` has as many entries as both tables together have fields.
+ * Answers 0 with the values written, or refuses by 4 with side 0, 20, 21, 1 to 3, 13. */
+void netkat_values(const uint8_t *left_names, size_t left_names_length,
+                   const uint16_t *left_sizes, size_t left_sizes_length,
+                   const uint8_t *right_names, size_t right_names_length,
+                   const uint16_t *right_sizes, size_t right_sizes_length,
                    uint16_t number,
                    uint16_t *values, size_t values_length,
                    uint64_t *answer);
 
-/* The number of the packet with these values. Answers 0, packet; or refuses by 1 to 3, 13. */
-void netkat_number(const uint16_t *sizes, size_t sizes_length,
+/* The number of the packet with these values. Answers 0, packet; or refuses by 4 with side 0, 20, 21, 1 to 3, 13. */
+void netkat_number(const uint8_t *left_names, size_t left_names_length,
+                   const uint16_t *left_sizes, size_t left_sizes_length,
+                   const uint8_t *right_names, size_t right_names_length,
+                   const uint16_t *right_sizes, size_t right_sizes_length,
                    const uint16_t *values, size_t values_length,
                    uint64_t *answer);
 
-/* Are the lists a policy over fields of these sizes? Answers 0, number of dups; or refuses by 1 to 9, 19, side 0. */
-void netkat_policy(const uint16_t *sizes, size_t sizes_length,
+/* Are the lists a policy over the fields of the tables? Answers 0, number of dups; or refuses by 20, 21 with a table's
+ * side, by 1 to 9, 19 with side 0. */
+void netkat_policy(const uint8_t *left_names, size_t left_names_length,
+                   const uint16_t *left_sizes, size_t left_sizes_length,
+                   const uint8_t *right_names, size_t right_names_length,
+                   const uint16_t *right_sizes, size_t right_sizes_length,
                    const uint8_t *kind, size_t kind_length,
                    const uint16_t *first, size_t first_length,
                    const uint16_t *second, size_t second_length,
                    uint64_t *answer);
 
-/* Are the lists two policies over fields of these sizes? Answers 0, number of dups of the left, of the right; or refuses by 1 to 9,
- * 19, each of 4 to 9 and 19 with its side. */
-void netkat_policies(const uint16_t *sizes, size_t sizes_length,
+/* Are the lists two policies over the fields of the tables? Answers 0, number of dups of the left, of the right; or
+ * refuses by 1 to 9, 19 to 21, each of 4 to 9 and 19 on a policy with its side. */
+void netkat_policies(const uint8_t *left_names, size_t left_names_length,
+                     const uint16_t *left_sizes, size_t left_sizes_length,
+                     const uint8_t *right_names, size_t right_names_length,
+                     const uint16_t *right_sizes, size_t right_sizes_length,
                      const uint8_t *left_kind, size_t left_kind_length,
                      const uint16_t *left_first, size_t left_first_length,
                      const uint16_t *left_second, size_t left_second_length,
@@ -115,10 +147,17 @@ void netkat_policies(const uint16_t *sizes, size_t sizes_length,
                      const uint16_t *right_second, size_t right_second_length,
                      uint64_t *answer);
 
-/* Reads a policy's text, as "f0=0;(dup+f1<-2)*;!(f0=0;f1=2)". Answers 0, number of nodes, which stand first in the three lists; or
- * refuses by 14 to 17, side 0. 17 names the nodes needed; over NETKAT_NODES no lists suffice. What is negated is not tested
- * here. */
-void netkat_read(const uint8_t *text, size_t text_length,
+/* Reads the text of the left policy or of the right one, as "sw=0;(dup+port<-2)*;!(sw=0;port=2)": `side` 2 is right, any
+ * other number left. A word is a field exactly if the table of that side names it, whatever the other table has. Answers
+ * 0, number of nodes, which stand first in the three lists; or refuses by 4 with side 0, 20, 21, 1, 2, then by 14 to 17
+ * with side 0. 17 names the nodes needed; over NETKAT_NODES no lists suffice. What is negated is not tested here, nor
+ * are values, nor 3. */
+void netkat_read(const uint8_t *left_names, size_t left_names_length,
+                 const uint16_t *left_sizes, size_t left_sizes_length,
+                 const uint8_t *right_names, size_t right_names_length,
+                 const uint16_t *right_sizes, size_t right_sizes_length,
+                 uint8_t side,
+                 const uint8_t *text, size_t text_length,
                  uint8_t *kind, size_t kind_length,
                  uint16_t *first, size_t first_length,
                  uint16_t *second, size_t second_length,
@@ -134,10 +173,13 @@ void netkat_read(const uint8_t *text, size_t text_length,
  *                                  d packets recorded tells them apart. d is the depth of the row being handled, how many rows lie
  *                                  above it by their parents, and 0 if the starting rows did not fit. Where more rows run out again,
  *                                  d is no less
- * or refuses by 1 to 10, 12, 19. Once 10 has passed, the row lists (packet, left, right, parent) hold the rows listed so far, of 11 the
+ * or refuses by 1 to 10, 12, 19 to 21. Once 10 has passed, the row lists (packet, left, right, parent) hold the rows listed so far, of 11 the
  * first rows that fit, and the work list is all 0. `parent` holds the number of the row that listed the row, counted from
  * 0; of a starting row its own number. */
-void netkat_search(const uint16_t *sizes, size_t sizes_length,
+void netkat_search(const uint8_t *left_names, size_t left_names_length,
+                   const uint16_t *left_sizes, size_t left_sizes_length,
+                   const uint8_t *right_names, size_t right_names_length,
+                   const uint16_t *right_sizes, size_t right_sizes_length,
                    const uint8_t *left_kind, size_t left_kind_length,
                    const uint16_t *left_first, size_t left_first_length,
                    const uint16_t *left_second, size_t left_second_length,
@@ -152,9 +194,12 @@ void netkat_search(const uint16_t *sizes, size_t sizes_length,
                    uint32_t *work, size_t work_length,
                    uint64_t *answer);
 
-/* The same for two texts, which are read before anything is searched: refuses by 1 to 3, by 14 to 17 on the left text, then on
- * the right, both with side 0, then by 4 to 12, 19. */
-void netkat_search_texts(const uint16_t *sizes, size_t sizes_length,
+/* The same for two texts, each over the names of its own table, which are read before anything is searched: refuses by 4
+ * with side 0, 20, 21, 1 to 3, by 14 to 17 on the left text, then on the right, both with side 0, then by 4 to 12, 19. */
+void netkat_search_texts(const uint8_t *left_names, size_t left_names_length,
+                         const uint16_t *left_sizes, size_t left_sizes_length,
+                         const uint8_t *right_names, size_t right_names_length,
+                         const uint16_t *right_sizes, size_t right_sizes_length,
                          const uint8_t *left_text, size_t left_text_length,
                          const uint8_t *right_text, size_t right_text_length,
                          uint16_t *packet, size_t packet_length,
@@ -171,8 +216,11 @@ void netkat_search_texts(const uint16_t *sizes, size_t sizes_length,
  *   5, 2, packet                   (b): the starting row (packet, 1, 1) is missing
  *   5, 3, row                      (c): the outputs of the row differ
  *   5, 4, row, packet              (d): the row's next row at the packet is missing
- * or refuses by 1 to 10, 19. Once 10 has passed, the work list is all 0. */
-void netkat_evidence(const uint16_t *sizes, size_t sizes_length,
+ * or refuses by 1 to 10, 19 to 21. Once 10 has passed, the work list is all 0. */
+void netkat_evidence(const uint8_t *left_names, size_t left_names_length,
+                     const uint16_t *left_sizes, size_t left_sizes_length,
+                     const uint8_t *right_names, size_t right_names_length,
+                     const uint16_t *right_sizes, size_t right_sizes_length,
                      const uint8_t *left_kind, size_t left_kind_length,
                      const uint16_t *left_first, size_t left_first_length,
                      const uint16_t *left_second, size_t left_second_length,
@@ -187,7 +235,10 @@ void netkat_evidence(const uint16_t *sizes, size_t sizes_length,
 
 /* The same for a table that is lent as one list of records, whose parents are not read: answer and work list are those of
  * netkat_evidence with the records' packets, left states and right states as its three lists. */
-void netkat_evidence_rows(const uint16_t *sizes, size_t sizes_length,
+void netkat_evidence_rows(const uint8_t *left_names, size_t left_names_length,
+                          const uint16_t *left_sizes, size_t left_sizes_length,
+                          const uint8_t *right_names, size_t right_names_length,
+                          const uint16_t *right_sizes, size_t right_sizes_length,
                           const uint8_t *left_kind, size_t left_kind_length,
                           const uint16_t *left_first, size_t left_first_length,
                           const uint16_t *left_second, size_t left_second_length,
@@ -199,8 +250,11 @@ void netkat_evidence_rows(const uint16_t *sizes, size_t sizes_length,
                           uint64_t *answer);
 
 /* Which of two policies has a trace from the entering packet? Answers 1 left, 2 right, 3 both, 4 neither; or refuses by 1 to 10,
- * 13, 19. A trace of length 0 is neither's. Once 10 has passed, the work list is all 0. */
-void netkat_trace(const uint16_t *sizes, size_t sizes_length,
+ * 13, 19 to 21. A trace of length 0 is neither's. Once 10 has passed, the work list is all 0. */
+void netkat_trace(const uint8_t *left_names, size_t left_names_length,
+                  const uint16_t *left_sizes, size_t left_sizes_length,
+                  const uint8_t *right_names, size_t right_names_length,
+                  const uint16_t *right_sizes, size_t right_sizes_length,
                   const uint8_t *left_kind, size_t left_kind_length,
                   const uint16_t *left_first, size_t left_first_length,
                   const uint16_t *left_second, size_t left_second_length,

@@ -1,11 +1,18 @@
 """Calls of the C interface as they are stored, and what must be written of each (crates/vectors/src/main.rt; for records
 differential/src/bin/stored.rs)."""
+import itertools
+
+from tables import tables_of
 
 VALUES, NUMBER, POLICY, READ, SEARCH, EVIDENCE, TRACE, TEXTS, POLICIES, RECORDS = range(10)
 # each entry of a list that a call may write, before the call
 BEFORE = 7
 PRIME = 4294967291
 FACTOR = 65599
+# a stored table's sizes and its bytes of names are no more
+MOST_SIZES, MOST_CELLS = 4200, 66000
+# so many equal entries in a row are a part of their own
+RUN = 5
 
 
 def once(entries):
@@ -22,7 +29,7 @@ def quarters(entry):
     return [entry >> shift & 65535 for shift in (48, 32, 16, 0)]
 
 
-def fields(record):
+def fields_of(record):
     """A row record: packet, left, right, parent."""
     packet, left, right, parent = record
     return [packet, *quarters(left), *quarters(right), parent]
@@ -40,9 +47,30 @@ def numbers_of(parts, shown=plain):
     return numbers
 
 
-def lists_of(sizes, *policies):
-    """The sizes and the lists of policies."""
-    return [n for entries in [sizes, *(c for policy in policies for c in policy)] for n in numbers_of(once(entries))]
+def runs(entries):
+    """The parts of a list, those in which one entry is repeated by themselves."""
+    parts, plain_part = [], []
+    for entry, repeats in itertools.groupby(entries):
+        count = len(list(repeats))
+        if count < RUN:
+            plain_part += [entry] * count
+        else:
+            parts += [(1, plain_part), (count, [entry])]
+            plain_part = []
+    return parts + [(1, plain_part)]
+
+
+def table_lists(fields):
+    """The four lists of the tables, which may be given by the sizes of f0, f1, .. in both."""
+    given = tables_of(fields).lists()
+    for cells, sizes in (given[:2], given[2:]):
+        assert len(cells) <= MOST_CELLS and len(sizes) <= MOST_SIZES
+    return [n for entries in given for n in numbers_of(runs(entries))]
+
+
+def lists_of(fields, *policies):
+    """The lists of the tables and those of policies."""
+    return table_lists(fields) + [n for policy in policies for entries in policy for n in numbers_of(once(entries))]
 
 
 def total(first, length, rest=BEFORE, wide=False):

@@ -1,20 +1,22 @@
 #!/usr/bin/env python3
 """Writes the input and the expected output of the program console_cases, worked out from document 01, "The program", and
-document 02, A.1 to A.3.
+document 02, A.1 to A.4.
 
     tools/console_cases.py            write crates/console_cases/stdin and stdout
     tools/console_cases.py --check    compare them with what is stored
 """
+import itertools
 import random
 import sys
 
 from calls import numbers_of
 from engine_cases import DROP, DUP, EQ, ID, NE, NOT, SEQ, SET, STAR, SUM, random_policy
 from policy_cases import answer as legality
-from policy_cases import lists, negated, size_refusal
+from policy_cases import lists, negated
 from search_cases import run
 from stored import store
-from text_cases import WORD, Refused, damaged, joined, parts_of, read, word_token
+from tables import Tables, packets_refusal, table
+from text_cases import Refused, damaged, joined, nodes_of, number_of, parts_of
 
 MOST = 32768
 ROWS = 4096
@@ -28,31 +30,39 @@ def lines(data):
     return found + [last] if last else found
 
 
-def sizes_of(line):
-    """The sizes, or nothing where one of them is no number word."""
-    words = line.split(b",")
-    if any(byte not in WORD for word in words for byte in word):
+def table_of(line):
+    """A line's table, or nothing where an entry has not just one = or no number behind it. An empty line is an empty table."""
+    found = [entry.split(b"=") for entry in line.split(b",")] if line else []
+    sizes = [number_of(entry[1]) if len(entry) == 2 else None for entry in found]
+    return None if None in sizes else table([(entry[0], size) for entry, size in zip(found, sizes)])
+
+
+def tables_of(data):
+    """The tables and the two texts, or nothing where the input is malformed."""
+    four = lines(data)
+    if len(data) > MOST or len(four) != 4:
         return None
-    found = [word_token(word.decode()) for word in words]
-    return [token[1] for token in found] if all(token and token[0] == "number" for token in found) else None
+    given = [table_of(line) for line in four[:2]]
+    return None if None in given else (Tables(*given), four[2:])
 
 
 def answered(data):
     """The three-field lines of the output."""
-    three = lines(data)
-    sizes = sizes_of(three[0]) if len(data) <= MOST and len(three) == 3 else None
-    if sizes is None:
+    given = tables_of(data)
+    if given is None:
         return [("refused", 18, 0)]
-    refused = size_refusal(sizes)
-    if refused:
-        return [("refused", refused[0], refused[2])]
+    tables, texts = given
     try:
-        policies = [lists(read(text, [512] * 3)) for text in three[1:]]
+        refused = packets_refusal(tables)
+        if refused:
+            raise Refused(*refused)
+        policies = [lists(nodes_of(tables, side, text)) for side, text in enumerate(texts, 1)]
     except Refused as refusal:
-        return [("refused", *refusal.answer)]
-    said, rows, trace = legality(sizes, policies), [], []
+        number, _, place = refusal.answer
+        return [("refused", number, place)]
+    said, rows, trace = legality(tables, policies), [], []
     if not said.startswith("refused"):
-        said, rows, trace = run(sizes, policies, ROWS, ROWS)
+        said, rows, trace = run(tables.sizes(), policies, ROWS, ROWS)
     word, *numbers = said.split()
     if word == "refused":
         return [(word, int(numbers[0]), int(numbers[2]))]
@@ -70,6 +80,11 @@ def expected(data):
 
 # ---- cases: parts, as in text_cases
 
+def fields(sizes, end="\n"):
+    """The two lines of tables that have f0, f1, .. of these sizes, split by commas: a part."""
+    return (2, ",".join("f%d=%s" % field for field in enumerate(sizes.split(","))) + end)
+
+
 PAIRS = [
     ("2", "drop", "id"), ("2", "f0=0;dup", "dup;f0=0"), ("2", "f0=0+f0=1", "id"), ("3", "f0=0+f0=1", "id"),
     ("1", "dup*", "id+dup;dup*"), ("1", "dup", "dup;dup"), ("2", "f0<-1;f0=1", "f0<-1"), ("2", "f0<-0+f0<-1", "id"),
@@ -78,50 +93,95 @@ PAIRS = [
 
 INPUTS = [
     # lines and their ends
-    "", "\n", "\r\n", "\n\n", "\n\n\n", "\n\n\n\n", "2", "2\n", "2\nid", "2\nid\n", "2\nid\n\n", "2\nid\nid\n\n", "2\nid\nid\nid",
-    "2\n\nid", "2\r\nid\r\nid\r\n", "2\r\nid\nid", "2\nid\r\nid\r\n", "2\nid\nid\r", "2\rid\rid\r", "2\r\r\nid\nid", "2\nid\r\r\nid",
-    "2\nid\nid\r\n\r\n", "2\nid\n\r\n", "2\n\r\n\r\n", "\r\nid\r\nid", "\n\n\nid", "id\nid\n2",
-    # sizes
-    "\nid\nid", ",\nid\nid", "2,\nid\nid", ",2\nid\nid", "2,,2\nid\nid", " 2\nid\nid", "2 \nid\nid", "2, 2\nid\nid", "2\t\nid\nid",
-    "02\nid\nid", "0\nid\nid", "00\nid\nid", "1,0\nid\nid", "65535\nid\nid", "65536\nid\nid", "99999\nid\nid", "4294967298\nid\nid",
-    "-1\nid\nid", "+1\nid\nid", "1.0\nid\nid", "id\nid\nid", "f0\nid\nid", "2;2\nid\nid", b"2\0\nid\nid", b"\xb2\nid\nid",
-    "1,1,1,1,1,1,1,1\nid\nid", "1,1,1,1,1,1,1,1,1\nid\nid", "1,1,1,1,1,1,1,1,x\nid\nid", "32,32\nid\nid", "5,205\nid\nid", "1025\nid\nid",
-    # causes in their order: 18, 1 to 3, the left text, the right text, the rest
-    "0\n?\n?", "2,0\n\n", "2\n?\n(", "2\nid;\n?", "2\nid\n?", "2\n\n\n", "2\nf1=0\n?", "2\nf0=2\nf0=3", "2\nid\nid;f0=2", "2\nf7=0\nid",
-    "2\nid,id\nid", "2\nid\nid;", "2\nid\nid)",
-    # telling traces longer than one packet, on either side
-    "3\n(f0=0;f0<-1+f0=1;f0<-2);dup\n(f0=0;f0<-1);dup", "3\n(f0=0;f0<-1);dup\n(f0=0;f0<-1+f0=1;f0<-2);dup",
-    "4\n((f0=0;f0<-1+f0=1;f0<-2+f0=2;f0<-3);dup)*;f0=3\nf0=3", "4\nf0=3\n((f0=0;f0<-1+f0=1;f0<-2+f0=2;f0<-3);dup)*;f0=3",
+    "", "\n", "\r\n", "\n\n", "\n\n\n", "\n\n\n\n", "\n\n\n\n\n", "\r\n\r\n\r\n\r\n", "a=2", "a=2\n", "a=2\rb=2\rid\rid\r", "a=2\r\r\na=2\nid\nid",
+    "a=2\na=2\r\r\nid\nid", "\r\nid\r\nid", "\n\n\nid", "id\nid\na=2\na=2", "a=2\r\na=2\nid\r\nid", "a=2\na=2\r\nid\nid\r\n",
+    # an empty line is an empty table
+    "\na=2\nid\nid", "a=2\n\nid\nid", "\n\nid\nid", "\r\na=2\nid\nid", "a=0\n\n?\n?", "\nA=0\n?\n?",
+    # of one field, f0 with two values: lines and their ends, and causes in their order, the left text, the right text, the rest
+    *["f0=2\nf0=2\n" + rest for rest in (
+        "", "id", "id\n", "id\n\n", "id\nid\n\n", "id\nid\nid", "\nid", "id\nid\r", "id\r\r\nid", "id\nid\r\n\r\n", "id\n\r\n", "\r\n\r\n", "?\n(",
+        "id;\n?", "id\n?", "\n\n", "f1=0\n?", "f0=2\nf0=3", "f0=2\nf1=0", "id\nid;f0=2", "f7=0\nid", "id,id\nid", "id\nid;", "id\nid)")],
+    # names: shared, of one table, in other orders
+    "sw=2\nport=2\nsw=0\nport=0", "sw=2\r\nport=2\r\nsw=0\r\nport=0\r\n", "sw=2\nport=2\nport=0\nsw=0", "sw=2\nport=2\nsw=0\nid;sw=0",
+    "sw=2,port=2\nvlan=2,port=2,sw=2\nsw=1\nvlan=0;sw=1", "sw=2,port=3\nport=3,sw=2\nsw=0\nport=0", "sw=2,port=3\nport=3,sw=2\nsw=1;dup\ndup;sw=1",
+    "a=2,aa=2\naa=2,a0=2\naa=0\na0=0", "a=2\na=2\na=0\nA=0", "abcdefghijklmno=2\nabcdefghijklmno=2\nabcdefghijklmno=0\nid",
+    "a=1,b=1,c=1,d=1,e=1,f=1,g=1,h=1\nh=1,g=1,f=1,e=1,d=1,c=1,b=1,a=1\nh=0\na=0",
+    # 20, 21, 1, 2, 3
+    "sw=2,sw=2\nsw=2\nid\nid", "sw=2\ndup=1\nid\nid", "sw=2\nsw=2,id=1,drop=1\nid\nid", "a=1,A=1\nB=1\nid\nid", "sw=2,port=4\nport=5,sw=2\nid\nid",
+    "a=1\na=1,b=1,c=1,d=1,e=1,f=1,g=1,h=1,I=1\nid\nid", "sw=2,port=4\nport=5,sw=3\nid\nid", "a=2\na=0\nid\nid", "a=1,b=1,c=1,d=1,e=1,f=1,g=1,h=1\ni=1\nid\nid",
+    "a=1\nb=0\nid\nid", "a=0\na=0\nid\nid", "a=5\nb=205\nid\nid", "a=32\nb=32\na=1\nid", "a=1025\na=1025\nid\nid", "a=65535\na=65535\nid\nid",
 ]
+
+# entries: malformed ones, then those with a bad name
+ENTRIES = [
+    "a==1", "a=1,", ",a=1", ",", "a=1,,b=1", "a", "a=", "=", "a=1=", "a=01", "a=00", "a=1 ", "a= 1", "a=+1", "a=-1", "a=1.0", "a=b", "a=65536", "a=4294967297",
+    "a=1;b=1", "1", b"a=1\0", b"a=\xb2", "a=1\t", "a=1,b", "A",
+    "=1", "A=1", "a =1", " a=1", "a\t=1", b"a\0=1", b"\0=1", b"\xe9=1", "0=1", "a\r=1", "a;b=1", "a=1, b=1",
+]
+
+# bytes of a name; from 16 on it is none, whatever its length
+LENGTHS = (14, 15, 16, 17, 255, 256, 257, 271, 272, 30000)
+
+
+def entry_cases():
+    for entry in ENTRIES:
+        yield entry, "\na=1\nid\nid"
+        yield "a=1\n", entry, "\nid\nid"
+    # of both lines before 20
+    for entry in ENTRIES[:4]:
+        yield "A=1\n", entry, "\n?\n?"
+        yield entry, "\nA=1\n?\n?"
+    for length in LENGTHS:
+        yield (length, "a"), "=1\na=1\nid\nid"
+        yield "a=1\na=1,", (length, "a"), "=1\nid\nid"
+
+
+def many_names(count):
+    """So many entries with different names of two letters."""
+    letters = "abcdefghijklmnopqrstuvwxyz"
+    return ",".join("%s%s=1" % pair for pair in itertools.islice(itertools.product(letters, repeat=2), count))
+
 
 LONG = [
     # as long as an input may be, and one byte longer; malformed however it goes on
-    ["2\nid\nid", (32761, " ")], ["2\nid\nid", (32760, " "), "\n"], ["2\nid\nid", (32761, " "), "\n"], ["2\nid\nid", (32759, " "), "\r\n"],
-    ["2\nid\nid", (32762, " ")], [(32768, "\n")], [(32769, "2")], [(40000, "2")], ["0\nid\nid", (32762, " ")],
-    # sizes to the end of the longest input
-    [(16384, "1,")], [(16383, "1,"), "1\n"], [(16381, "1,"), "1\n\nid"], [(16379, "1,"), "1\nid\nid"],
+    [fields("2"), "id\nid", (32753, " ")], [fields("2"), "id\nid", (32752, " "), "\n"], [fields("2"), "id\nid", (32753, " "), "\n"],
+    [fields("2"), "id\nid", (32751, " "), "\r\n"], [fields("2"), "id\nid", (32754, " ")], [(32768, "\n")], [(32769, "2")], [(40000, "2")],
+    [fields("0"), "id\nid", (32754, " ")],
+    # a table to the end of the longest input: the second name repeats the first; an entry more is malformed; and one byte too long
+    [(8189, "a=1,"), "a=1\n\nid\nid"], [(8188, "a=1,"), "a=1,\n\nid\nid"], [(8190, "a=1,"), "a=1\n\nid\n"], ["a=1\n", (8188, "a=1,"), "a=1\nid\nid"],
+    [(32757, "a"), "=1\n\nid\nid"], [(32758, "a"), "=1\n\nid\nid"], [(16377, "=,"), "\n\nid\nid"],
     # depth, dups and nodes
-    ["2\n", (64, "("), "id", (64, ")"), "\nid"], ["2\n", (65, "("), "id", (65, ")"), "\nid"], ["2\nid\n", (65, "(")],
-    ["2\ndup", (30, "+dup"), "\nid"], ["2\ndup", (62, "+dup"), "\nid"], ["2\ndup", (63, "+dup"), "\nid"], ["2\nid\ndup", (63, ";dup")],
-    ["2\nid", (511, "*"), "\nid", (511, "*")], ["2\nid", (512, "*"), "\nid"], ["2\nid\nid", (512, "*")],
+    [fields("2"), (64, "("), "id", (64, ")"), "\nid"], [fields("2"), (65, "("), "id", (65, ")"), "\nid"], [fields("2"), "id\n", (65, "(")],
+    [fields("2"), "dup", (30, "+dup"), "\nid"], [fields("2"), "dup", (62, "+dup"), "\nid"], [fields("2"), "dup", (63, "+dup"), "\nid"],
+    [fields("2"), "id\ndup", (63, ";dup")], [fields("2"), "id", (511, "*"), "\nid", (511, "*")], [fields("2"), "id", (512, "*"), "\nid"],
+    [fields("2"), "id\nid", (512, "*")],
     # 4,096 rows, and one more
-    ["512\n", (3, "dup;"), "id;(dup;dup;dup;dup)*\n", (3, "dup;"), "id;(dup;dup;dup;dup)*"],
-    ["819\ndup;dup;dup;dup\ndup;dup;dup;dup"], ["820\ndup;dup;dup;dup\ndup;dup;dup;dup"],
-    ["1024\ndup;dup;dup\ndup;dup;dup"], ["1024\ndup;dup;dup;f0=0\ndup;dup;dup;f0=0;dup"], ["1024\ndup;dup;dup;dup\ndup;dup;dup;dup"],
+    [fields("512"), (3, "dup;"), "id;(dup;dup;dup;dup)*\n", (3, "dup;"), "id;(dup;dup;dup;dup)*"],
+    [fields("819"), "dup;dup;dup;dup\ndup;dup;dup;dup"], [fields("820"), "dup;dup;dup;dup\ndup;dup;dup;dup"],
+    [fields("1024"), "dup;dup;dup\ndup;dup;dup"], [fields("1024"), "dup;dup;dup;f0=0\ndup;dup;dup;f0=0;dup"],
+    [fields("1024"), "dup;dup;dup;dup\ndup;dup;dup;dup"],
+    # telling traces longer than one packet, on either side
+    [fields("3"), "(f0=0;f0<-1+f0=1;f0<-2);dup\n(f0=0;f0<-1);dup"], [fields("3"), "(f0=0;f0<-1);dup\n(f0=0;f0<-1+f0=1;f0<-2);dup"],
+    [fields("4"), "((f0=0;f0<-1+f0=1;f0<-2+f0=2;f0<-3);dup)*;f0=3\nf0=3"], [fields("4"), "f0=3\n((f0=0;f0<-1+f0=1;f0<-2+f0=2;f0<-3);dup)*;f0=3"],
+    # many fields, and sizes
+    [fields("1,1,1,1,1,1,1,1"), "f7=0\nid"], [fields("1,1,1,1,1,1,1,1,1"), "id\nid"], [fields("32,32"), "f1=31\nf1=31"], [fields("5,205"), "?\n?"],
+    [fields("2,0"), "?\n?"], [fields("0"), "?\n?"], [fields("02"), "?\n?"], [fields("65536"), "?\n?"], [fields("x"), "?\n?"],
 ]
 
 
 NEGATIONS = [
-    ["2,2\n!(f0=0;f1=0)\nf0!=0+f1!=0"], ["2\ndup;!f0=0\n!f0=0;dup\n"], ["2\r\n!f0=0*\r\nid\r\n"], ["3\n(f0<-1;!f0=0)*\nid+f0<-1"],
-    ["3\n!f0=0\nf0=1"], ["3\nf0=1\n!f0=0"], ["2\ndup;!f0=0\ndup;f0=0"], ["4\n(!f0=3;dup;(f0=0;f0<-1+f0=1;f0<-2))*\n(f0!=3;dup)*"],
+    [fields("2,2"), "!(f0=0;f1=0)\nf0!=0+f1!=0"], [fields("2"), "dup;!f0=0\n!f0=0;dup\n"], [fields("2", "\r\n"), "!f0=0*\r\nid\r\n"],
+    [fields("3"), "(f0<-1;!f0=0)*\nid+f0<-1"], [fields("3"), "!f0=0\nf0=1"], [fields("3"), "f0=1\n!f0=0"], [fields("2"), "dup;!f0=0\ndup;f0=0"],
+    [fields("4"), "(!f0=3;dup;(f0=0;f0<-1+f0=1;f0<-2))*\n(f0!=3;dup)*"],
     # 19 before 9 and behind 6; the texts first
-    ["2\n!(f0=0*)\nid"], ["2\nid\n!!dup"], ["2\n!(f0=0+dup)\n!dup"], ["2\n!f0<-1\nid"], ["2\ndup", (63, ";dup"), "\n!dup"],
-    ["2\n!dup\ndup", (63, "+dup")], ["2\n!dup\nf0=2"], ["2\nf0=2\n!dup"], ["2\n!dup\n!"], ["2\n!dup\n?"], ["0\n!dup\nid"],
-    ["2\nf0 ! = 0\nid"], ["2\nid\n!!=0"], ["2\n!\nid"], ["2\nid\nid!"], ["2\n!\r\r\nid"], ["!\nid\nid"], ["2!\nid\nid"],
+    [fields("2"), "!(f0=0*)\nid"], [fields("2"), "id\n!!dup"], [fields("2"), "!(f0=0+dup)\n!dup"], [fields("2"), "!f0<-1\nid"],
+    [fields("2"), "dup", (63, ";dup"), "\n!dup"], [fields("2"), "!dup\ndup", (63, "+dup")], [fields("2"), "!dup\nf0=2"], [fields("2"), "f0=2\n!dup"],
+    [fields("2"), "!dup\n!"], [fields("2"), "!dup\n?"], [fields("0"), "!dup\nid"], [fields("2"), "f0 ! = 0\nid"], [fields("2"), "id\n!!=0"],
+    [fields("2"), "!\nid"], [fields("2"), "id\nid!"], [fields("2"), "!\r\r\nid"], ["!\n!\nid\nid"], ["a=2!\na=2\nid\nid"],
     # runs
-    ["2\n", (500, "!"), "f0=0\nf0=0"], ["2\n", (511, "!"), "f0=0\n!f0=0"], ["2\n", (500, "!"), "f0=0\n!f0=0"], ["2\nid\n", (513, "!"), "id"],
-    ["2\n", (512, "!"), "id\nid"], ["2\n", (511, "!"), "dup\nid"], ["2\n", (32761, "!"), "id\nid"], ["2\nid\n", (32763, "!")],
-    ["2\nid\n", (32764, "!")],
+    [fields("2"), (500, "!"), "f0=0\nf0=0"], [fields("2"), (511, "!"), "f0=0\n!f0=0"], [fields("2"), (500, "!"), "f0=0\n!f0=0"],
+    [fields("2"), "id\n", (513, "!"), "id"], [fields("2"), (512, "!"), "id\nid"], [fields("2"), (511, "!"), "dup\nid"],
+    [fields("2"), (32753, "!"), "id\nid"], [fields("2"), "id\n", (32755, "!")], [fields("2"), "id\n", (32756, "!")],
 ]
 
 
@@ -133,17 +193,32 @@ def in_rounds(dups):
 
 WIDE = [
     # states of 20 digits, and of 19
-    ["1\ndup", (62, "+dup"), "\ndup", (61, "+dup")], ["2\ndup", (62, ";dup"), "\ndup", (62, ";dup")],
-    ["1\ndup", (61, ";dup"), "\ndup", (62, ";dup")], ["2\n((dup", (62, "+dup"), ");f0<-1)*\n(dup;f0<-1)*"],
+    [fields("1"), "dup", (62, "+dup"), "\ndup", (61, "+dup")], [fields("2"), "dup", (62, ";dup"), "\ndup", (62, ";dup")],
+    [fields("1"), "dup", (61, ";dup"), "\ndup", (62, ";dup")], [fields("2"), "((dup", (62, "+dup"), ");f0<-1)*\n(dup;f0<-1)*"],
     # over 131,072 bytes
-    ["5\n", *in_rounds(29), "\n", *in_rounds(28)],
+    [fields("5"), *in_rounds(29), "\n", *in_rounds(28)],
 ]
 
 
 RUN_OUT = [
     # deep rows; the line has three fields all the same
-    ["6\n", *in_rounds(29), "\n", *in_rounds(28)], ["1024\ndup;dup;dup;dup;f0=0\ndup;dup;dup;dup"],
+    [fields("6"), *in_rounds(29), "\n", *in_rounds(28)], [fields("1024"), "dup;dup;dup;dup;f0=0\ndup;dup;dup;dup"],
 ]
+
+
+# inputs with a cause each, of which any two are made to hold at once: what is added to the left table, to the right, and to the left text
+CAUSES = {
+    18: (",x", "", ""), 20: (",A=1", "", ""), 21: (",t=2", ",t=3", ""), 1: (",g=1,h=1,i=1,j=1,k=1,l=1,m=1", "", ""), 2: ("", ",n=0", ""),
+    3: (",w=1024", "", ""), 14: ("", "", "?"), 15: ("", "", (65, "(")), 16: ("", "", " id"), 17: ("", "", (512, "*")), 6: ("", "", ";a=2"),
+    19: ("", "", ";!dup"), 9: ("", "", (64, ";dup")),
+}
+
+
+def cause_pairs():
+    """Each two causes that can hold at once; of two of a text 14 stands last."""
+    for one, other in itertools.combinations(CAUSES, 2):
+        left, right, texts = zip(CAUSES[one], CAUSES[other])
+        yield ["a=2,b=1" + "".join(left) + "\na=2" + "".join(right) + "\nid", *texts[::-1], "\nid"]
 
 
 def text_of(nodes, at=-1):
@@ -160,36 +235,51 @@ def text_of(nodes, at=-1):
     return "(%s%s%s)" % (text_of(nodes, first), {SUM: "+", SEQ: ";"}[kind], text_of(nodes, second))
 
 
-def cases():
-    for pair in PAIRS:
-        for end in ("\n", "\r\n"):
-            yield parts_of(end.join(pair))
-            yield parts_of(end.join(pair) + end)
-        yield parts_of("\n".join((pair[0], pair[2], pair[1])))
-    for data in INPUTS:
-        yield parts_of(data)
-    for parts in LONG:
-        yield parts_of(*parts)
-    source = random.Random(18)
-    for count in range(150):
-        sizes = source.choice(([1], [2], [3], [2, 2], [2, 3], [8], [2, 2, 2]))
-        left, right = (text_of(random_policy(source, sizes, source.choice((3, 6, 12)))) for _ in range(2))
-        right = source.choice((left, left + "+drop", "id;" + left, left + "+" + right, right))
-        left, right = (damaged(source, text) if count % 3 == 0 else text.encode() for text in (left, right))
-        end = source.choice((b"\n", b"\r\n"))
-        yield parts_of(",".join(map(str, sizes)).encode() + end + left + end + right + source.choice((b"", end)))
-    for parts in NEGATIONS:
-        yield parts_of(*parts)
-    source = random.Random(27)
-    for count in range(80):
+def table_line(sizes):
+    return ",".join("f%d=%d" % field for field in enumerate(sizes))
+
+
+def random_cases(source, count, whole):
+    """Random texts over f0, f1, .., which both tables have, in orders of their own where a line's end comes last."""
+    for at in range(count):
         sizes = source.choice(([1], [2], [3], [2, 2], [2, 3], [8], [2, 2, 2]))
         nodes = [random_policy(source, sizes, source.choice((3, 6, 12))) for _ in range(2)]
-        left, right = (text_of(negated(source, policy, anything=count % 10 == 0)) for policy in nodes)
-        right = source.choice((left, text_of(negated(source, nodes[0])), "id;" + left, left + "+" + right, right))
-        left, right = (damaged(source, text) if count % 4 == 0 else text.encode() for text in (left, right))
-        yield parts_of("\n".join((",".join(map(str, sizes)), left.decode("latin-1"), right.decode("latin-1"))).encode("latin-1"))
+        left, right = whole(source, nodes, at)
+        end = source.choice((b"\n", b"\r\n"))
+        table = table_line(sizes).encode()
+        other = b",".join(source.sample(table.split(b","), len(sizes)))
+        yield [(1, table + end + other + end + left + end + right + source.choice((b"", end)))]
+
+
+def plain_texts(source, nodes, at):
+    left, right = (text_of(policy) for policy in nodes)
+    right = source.choice((left, left + "+drop", "id;" + left, left + "+" + right, right))
+    return [damaged(source, text) if at % 3 == 0 else text.encode() for text in (left, right)]
+
+
+def negated_texts(source, nodes, at):
+    left, right = (text_of(negated(source, policy, anything=at % 10 == 0)) for policy in nodes)
+    right = source.choice((left, text_of(negated(source, nodes[0])), "id;" + left, left + "+" + right, right))
+    return [damaged(source, text) if at % 4 == 0 else text.encode() for text in (left, right)]
+
+
+def cases():
+    for sizes, left, right in PAIRS:
+        for end in ("\n", "\r\n"):
+            yield parts_of(fields(sizes, end), left + end + right)
+            yield parts_of(fields(sizes, end), left + end + right + end)
+        yield parts_of(fields(sizes), right + "\n" + left)
+    for data in INPUTS:
+        yield parts_of(data)
+    for parts in itertools.chain(entry_cases(), LONG, cause_pairs(), NEGATIONS):
+        yield parts_of(*parts)
+    yield from random_cases(random.Random(18), 80, plain_texts)
+    yield from random_cases(random.Random(27), 40, negated_texts)
     for parts in WIDE + RUN_OUT:
         yield parts_of(*parts)
+    # far over eight names: all of them are tested by 20
+    yield parts_of(many_names(100), "\na=1\nid\nid")
+    yield parts_of("a=1\n", many_names(100), ",ab=1\nid\nid")
 
 
 def main():
@@ -199,7 +289,7 @@ def main():
         answers.append(expected(joined(parts)))
     said = [answer.split(",")[:2] for answer in answers]
     assert {word for word, _ in said} == {"equal", "left", "right", "refused"}
-    assert {int(number) for word, number in said if word == "refused"} == {1, 2, 3, 6, 9, 11, 14, 15, 16, 17, 18, 19}
+    assert {int(number) for word, number in said if word == "refused"} == {1, 2, 3, 6, 9, 11, 14, 15, 16, 17, 18, 19, 20, 21}
     store("console_cases", given, answers, sys.argv[1:] == ["--check"])
 
 

@@ -1,12 +1,13 @@
 """Tables checked, with what the evidence checker answers worked out from document 01, "Row rules for evidence" and "Causes,
-in the order tested", and document 02, A.1 and A.2; output and next by way of document 004's right spines."""
+in the order tested", and document 02, A.1, A.2 and A.4; output and next by way of document 004's right spines."""
 import itertools
 import random
 
-from calls import EVIDENCE, RECORDS, call, cleared, fields, lists_of, numbers_of, plain, quarters
+from calls import EVIDENCE, RECORDS, call, cleared, fields_of, lists_of, numbers_of, plain, quarters
 from engine_cases import DROP, DUP, EQ, ID, NE, NOT, SEQ, SET, STAR, SUM, World, random_policy, stepped, terms
 from policy_cases import answer as legality
 from policy_cases import chain, lists, negated, negations
+from tables import tables_of
 
 WORK = 16384
 RULES = ["a", "b", "c", "d"]
@@ -70,15 +71,15 @@ class Pair:
         return rows
 
 
-def answer(sizes, policies, rows, lengths, words, last):
+def answer(fields, policies, rows, lengths, words, last):
     """The answer with the rows again and again in lists of these lengths, a row put last instead, and so many words; and
-    whether the work list is set to 0."""
-    said = legality(sizes, policies)
+    whether the work list is set to 0. Fields are tables, or the sizes of f0, f1, .. in both."""
+    said = legality(fields, policies)
     if said.startswith("refused"):
         return said, False
     if len(set(lengths)) > 1 or lengths[0] > 65535 or words < WORK:
         return "refused 10 0 0", False
-    pair = Pair(sizes, *(list(zip(*policy)) for policy in policies))
+    pair = Pair(tables_of(fields).sizes(), *(list(zip(*policy)) for policy in policies))
     table = list(itertools.islice(itertools.cycle(rows), lengths[0])) if rows else [(0, 0, 0)] * lengths[0]
     if last and table:
         table[-1] = tuple(last)
@@ -377,29 +378,36 @@ def record_calls():
     for given in ([65535] * 4, [0] * 4, [0, 1, 2, 3], [3, 2, 1, 0], [1, 0, 65535, 32768]):
         records = [(*row, parent) for row, parent in zip(P2_ROWS, given)]
         for table, said in ((records, "accepted"), (records[:3], "rejected 4 1 1"), (records[1:], "rejected 2 0")):
-            yield call(RECORDS, inputs + numbers_of([(1, table)], fields) + [WORK], said, cleared(WORK, True))
+            yield call(RECORDS, inputs + numbers_of([(1, table)], fields_of) + [WORK], said, cleared(WORK, True))
+
+
+def table_calls(fields, policies, rows, lengths, words, last):
+    """The answer, and the calls: the table as three lists and, where these are equally long, as records."""
+    answered, done = answer(fields, policies, rows, lengths, words, last)
+    word, *spot = answered.split()
+    said = " ".join(["rejected", str(RULES.index(word) + 1), *spot]) if word in RULES else answered
+    rows, inputs, stored = rows or [(0, 0, 0)], lists_of(fields, *policies), []
+    columns = []
+    for place, (entries, length) in enumerate(zip(zip(*rows), lengths)):
+        parts = repeated(list(entries), length, last[place:place + 1])
+        columns += numbers_of(parts, quarters if place else plain)
+    stored.append(call(EVIDENCE, inputs + columns + [words], said, cleared(words, done)))
+    if len(set(lengths)) == 1:
+        records = [(*row, parent) for row, parent in zip(rows, parents(len(rows)))]
+        table = numbers_of(repeated(records, lengths[0], [(*last, 9)] if last else []), fields_of)
+        stored.append(call(RECORDS, inputs + table + [words], said, cleared(words, done)))
+    return answered, stored
 
 
 def calls():
-    """Each table as three lists and, where these are equally long, as records."""
     places = set()
     for sizes, policies, rows, lengths, words, last in cases():
-        said, done = answer(sizes, policies, rows, lengths, words, last)
-        rows, inputs = rows or [(0, 0, 0)], lists_of(sizes, *policies)
-        columns = []
-        for place, (entries, length) in enumerate(zip(zip(*rows), lengths)):
-            parts = repeated(list(entries), length, last[place:place + 1])
-            columns += numbers_of(parts, quarters if place else plain)
+        said, stored = table_calls(sizes, policies, rows, lengths, words, last)
         word, *spot = said.split()
         if word in RULES:
             spots = World(sizes).count if word == "b" else lengths[0]
             places.add((word, spot[0] == "0", int(spot[0]) == spots - 1))
-            said = " ".join(["rejected", str(RULES.index(word) + 1), *spot])
-        yield call(EVIDENCE, inputs + columns + [words], said, cleared(words, done))
-        if len(set(lengths)) == 1:
-            records = [(*row, parent) for row, parent in zip(rows, parents(len(rows)))]
-            table = numbers_of(repeated(records, lengths[0], [(*last, 9)] if last else []), fields)
-            yield call(RECORDS, inputs + table + [words], said, cleared(words, done))
+        yield from stored
     yield from record_calls()
     # each rule is broken at a first, a middle and a last spot
     for rule, place in itertools.product(RULES, ((True, False), (False, False), (False, True))):

@@ -1,25 +1,11 @@
 """Tests of one policy and of two, with what they answer worked out from document 01, "Policies" and "Causes, in the order
-tested", and document 02, A.1 and A.2. Two policies are tested by themselves, and by a search with no room at all: where they pass, it refuses by 10."""
+tested", and document 02, A.1, A.2 and A.4. Two policies are tested by themselves, and by a search with no room at all: where they pass, it refuses by 10."""
 import random
 
 from calls import POLICIES, POLICY, SEARCH, call, lists_of, total
+from tables import packets_refusal, tables_of
 
 DROP, ID, EQ, NE, SET, DUP, SUM, SEQ, STAR, NOT = range(10)
-
-
-def size_refusal(sizes):
-    """Causes 1 to 3."""
-    if not 1 <= len(sizes) <= 8:
-        return (1, 0, 0)
-    for field, size in enumerate(sizes):
-        if size == 0:
-            return (2, 0, field)
-    count = 1
-    for field, size in enumerate(sizes):
-        count *= size
-        if count > 1024:
-            return (3, 0, field)
-    return None
 
 
 def children(kind, first, second):
@@ -81,10 +67,13 @@ def few_dups(sizes, kind, first, second):
     return places[63] if len(places) > 63 else None
 
 
-def answer(sizes, policies):
-    refused = size_refusal(sizes)
+def answer(fields, policies):
+    """The answer in words; fields are tables, or the sizes of f0, f1, .. in both."""
+    tables = tables_of(fields)
+    refused = packets_refusal(tables)
     if refused:
         return "refused %d %d %d" % refused
+    sizes = tables.sizes()
     causes = ((4, lengths), (5, kinds), (6, entries), (7, below), (8, once), (19, negated_tests), (9, few_dups))
     for number, cause in causes:
         for side, policy in enumerate(policies, 1):
@@ -324,14 +313,18 @@ def cases():
         yield sizes, [damaged(rng, lists(negated(rng, one, 0.2, anything=True))), damaged(rng, lists(negated(rng, two)))]
 
 
+def tested_call(fields, policies):
+    """One policy tested, or two."""
+    said = answer(fields, policies).replace("legal", "done")
+    return call(POLICY if len(policies) == 1 else POLICIES, lists_of(fields, *policies), said)
+
+
 def calls():
     sums = [lists(chain([(DUP, 0, 0)] * count, SUM)) for count in (63, 64)]
     assert [answer([2], [policy]) for policy in sums] == ["legal 63", "refused 9 0 125"]
     for sizes, policies in cases():
-        said, inputs = answer(sizes, policies), lists_of(sizes, *policies)
-        if len(policies) == 1:
-            yield call(POLICY, inputs, said.replace("legal", "done"))
-        else:
-            yield call(POLICIES, inputs, said.replace("legal", "done"))
-            none = total([], 0)
-            yield call(SEARCH, inputs + [0] * 6, said if said.startswith("refused") else "refused 10 0 0", *[none] * 6)
+        yield tested_call(sizes, policies)
+        if len(policies) > 1:
+            said = answer(sizes, policies)
+            said = said if said.startswith("refused") else "refused 10 0 0"
+            yield call(SEARCH, lists_of(sizes, *policies) + [0] * 6, said, *[total([], 0)] * 6)

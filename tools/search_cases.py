@@ -1,15 +1,16 @@
 """Searches, with what they answer and leave in the lists worked out from document 01, "States and rows" and "Causes, in the
-order tested", and document 02, A.1 to A.3; output and next by way of document 004's right spines."""
+order tested", and document 02, A.1 to A.4; output and next by way of document 004's right spines."""
 import itertools
 import random
 
-from calls import SEARCH, TEXTS, call, cleared, lists_of, numbers_of, total
+from calls import SEARCH, TEXTS, call, cleared, lists_of, numbers_of, table_lists, total
 from engine_cases import DROP, DUP, EQ, ID, NE, SET, STAR, SUM, World, random_policy, stepped, terms
 from evidence_cases import NEGATED, NEGATED_ROWS, P2, P5, P10, damaged, dups, equal_negations, equal_pairs
 from evidence_cases import negation, seq_of, starred, sum_of
 from policy_cases import answer as legality
 from policy_cases import chain, lists, negated, negations
-from text_cases import parts_of, read
+from tables import packets_refusal, tables_of
+from text_cases import Refused, joined, nodes_of, parts_of
 
 WORK = 16384
 
@@ -58,18 +59,50 @@ def run(sizes, policies, room, most):
     return "equal %d" % len(rows), rows, None
 
 
-def answer(sizes, policies, lengths):
-    """The answer in words, and the sums over the lent lists."""
+def answer(fields, policies, lengths):
+    """The answer in words, and the sums over the lent lists; fields are tables, or the sizes of f0, f1, .. in both."""
     *row_lists, most, words = lengths
-    said, rows, trace, done = legality(sizes, policies), [], None, False
+    said, rows, trace, done = legality(fields, policies), [], None, False
     if not said.startswith("refused"):
         if len(set(row_lists)) > 1 or row_lists[0] > 65535 or words < WORK:
             said = "refused 10 0 0"
         else:
-            said, rows, trace = run(sizes, policies, row_lists[0], most)
+            said, rows, trace = run(tables_of(fields).sizes(), policies, row_lists[0], most)
             done = True
+    return said, sums_of(lengths, rows, trace, done)
+
+
+def sums_of(lengths, rows=(), trace=None, done=False):
+    """The sums over the lent lists with these rows and this trace first, the work list cleared or as it was."""
+    *row_lists, most, words = lengths
     columns = [total([row[column] for row in rows], length, wide=column in (1, 2)) for column, length in enumerate(row_lists)]
-    return said, [*columns, total(trace or [], most), cleared(words, done)]
+    return [*columns, total(trace or [], most), cleared(words, done)]
+
+
+def texts_answer(fields, texts, lengths):
+    """The same of two texts as parts: the tables and 3, each text, then all else."""
+    tables = tables_of(fields)
+    policies, refused = [], packets_refusal(tables)
+    try:
+        if refused:
+            raise Refused(*refused)
+        policies = [lists(nodes_of(tables, side, joined(text))) for side, text in enumerate(texts, 1)]
+    except Refused as refused:
+        return "refused %d %d %d" % refused.answer, sums_of(lengths)
+    return answer(tables, policies, lengths)
+
+
+def search_call(fields, policies, lengths):
+    """The answer in words, and the call."""
+    said, sums = answer(fields, policies, lengths)
+    return said, call(SEARCH, lists_of(fields, *policies) + lengths, said, *sums)
+
+
+def texts_call(fields, texts, lengths):
+    """The same of two texts as parts."""
+    said, sums = texts_answer(fields, texts, lengths)
+    written = [number for text in texts for number in numbers_of(text)]
+    return said, call(TEXTS, table_lists(fields) + written + lengths, said, *sums)
 
 
 # ---- cases
@@ -297,14 +330,14 @@ DEEP = [
 ]
 
 
-def policies_of(texts):
-    return tuple(lists(read(text.encode(), [512] * 3)) for text in texts)
+def policies_of(sizes, texts):
+    return tuple(lists(nodes_of(sizes, side, text.encode())) for side, text in enumerate(texts, 1))
 
 
 def run_out_cases():
     """Sizes, two texts, the rows lent."""
     for sizes, left, right, lengths, said in RUN_OUT:
-        pair = policies_of((left, right))
+        pair = policies_of(sizes, (left, right))
         for rows, length in enumerate(lengths):
             assert run(sizes, pair, rows, 9)[0] == "refused 11 0 %d %d" % (rows, length)
         assert run(sizes, pair, len(lengths), 9)[0] == said
@@ -313,7 +346,7 @@ def run_out_cases():
             yield sizes, (right, left), rows
     for sizes, left, right, numbers, wide in DEEP:
         for rows in numbers:
-            said = run(sizes, policies_of((left, right)), rows, 99)[0].split()
+            said = run(sizes, policies_of(sizes, (left, right)), rows, 99)[0].split()
             assert said[0] != "refused" or int(said[4]) == max(rows // wide - 1, 0)
             yield sizes, (left, right), rows
 
@@ -337,24 +370,25 @@ def run_out_calls():
     found = set()
     for sizes, texts, rows in run_out_cases():
         lengths = [rows] * 4 + [rows % 7, WORK]
-        policies = policies_of(texts)
-        said, sums = answer(sizes, policies, lengths)
-        yield call(SEARCH, lists_of(sizes, *policies) + lengths, said, *sums)
-        written = [number for text in texts for number in numbers_of(parts_of(text))]
-        yield call(TEXTS, lists_of(sizes) + written + lengths, said, *sums)
+        policies = policies_of(sizes, texts)
+        said, of_lists = search_call(sizes, policies, lengths)
+        also_said, of_texts = texts_call(sizes, [parts_of(text) for text in texts], lengths)
+        assert said == also_said
+        yield of_lists
+        yield of_texts
     for sizes, policies, rows in random_run_out():
         lengths = [rows] * 4 + [9, WORK]
-        said, sums = answer(sizes, policies, lengths)
+        said, stored = search_call(sizes, policies, lengths)
         found.add(int(said.split()[4]))
-        yield call(SEARCH, lists_of(sizes, *policies) + lengths, said, *sums)
+        yield stored
     assert found >= set(range(5))
 
 
 def calls():
     found = set()
     for sizes, policies, lengths in itertools.chain(cases(), negation_cases(), wide_cases()):
-        said, sums = answer(sizes, policies, lengths)
+        said, stored = search_call(sizes, policies, lengths)
         found.add(" ".join(said.split()[:2]) if said.startswith("refused") else said.split()[0])
-        yield call(SEARCH, lists_of(sizes, *policies) + lengths, said, *sums)
+        yield stored
     assert found == {"equal", "left", "right"} | {"refused %d" % number for number in (*range(1, 13), 19)}
     yield from run_out_calls()

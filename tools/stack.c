@@ -3,7 +3,7 @@
  *
  * The inputs: policies as deep as 512 nodes allow (nested stars and negations, sequences that nest to either side, sums, and mixtures,
  * over a dup, a change or a test), with 63 dups where they have many, on 1,024 packets; tables and traces of these; a chain of 63 dups, whose
- * rows are one more than fit; the deepest parentheses. What lies below the frame that makes
+ * rows are one more than fit; the deepest parentheses; eight fields, most with long names, in tables of opposite orders. What lies below the frame that makes
  * the call is counted, so that of the smallest calls the thread's own end shows. Each call runs once unpainted, so that what
  * the loader does at a first call is not counted. */
 #define _GNU_SOURCE
@@ -26,8 +26,17 @@ struct policy {
     size_t nodes, dups;
 };
 
-static const uint16_t sizes[] = {2, 2, 2, 2, 2, 2, 4, 4};
-#define FIELDS (sizeof sizes / sizeof *sizes)
+#define FIELDS NETKAT_FIELDS
+#define NAMED(digit) {2, 'f', digit}
+#define LONG(digit) {15, 'f', 'i', 'e', 'l', 'd', 'o', 'f', 'a', 'h', 'e', 'a', 'd', 'e', 'r', digit}
+
+/* names that the texts use, and long ones in both tables in different orders, which tests compare most of */
+static const uint8_t names[FIELDS][NETKAT_CELL] = {
+    NAMED('0'), NAMED('1'), LONG('2'), LONG('3'), LONG('4'), LONG('5'), LONG('6'), LONG('7')};
+static const uint8_t turned[FIELDS][NETKAT_CELL] = {
+    LONG('7'), LONG('6'), LONG('5'), LONG('4'), LONG('3'), LONG('2'), NAMED('1'), NAMED('0')};
+static const uint16_t sizes[FIELDS] = {2, 2, 2, 2, 2, 2, 4, 4}, turned_sizes[FIELDS] = {4, 4, 2, 2, 2, 2, 2, 2};
+#define TABLES *names, sizeof names, sizes, FIELDS, *turned, sizeof turned, turned_sizes, FIELDS
 
 static struct policy one, other;
 static uint16_t packet[NETKAT_ROWS], parent[NETKAT_ROWS], trace[NETKAT_ROWS];
@@ -89,16 +98,16 @@ static void chain(struct policy *p) {
 #define POLICY(p) (p).kind, (p).nodes, (p).first, (p).nodes, (p).second, (p).nodes
 #define LISTS(n) packet, n, left, n, right, n, parent, n, trace, n, work, NETKAT_WORK
 
-static void values(void) { uint16_t v[FIELDS]; netkat_values(sizes, FIELDS, 1023, v, FIELDS, answer); }
-static void number(void) { uint16_t v[FIELDS] = {0}; netkat_number(sizes, FIELDS, v, FIELDS, answer); }
-static void policy(void) { netkat_policy(sizes, FIELDS, POLICY(one), answer); }
-static void policies(void) { netkat_policies(sizes, FIELDS, POLICY(one), POLICY(other), answer); }
-static void reads(void) { netkat_read(text, text_length, other.kind, 512, other.first, 512, other.second, 512, answer); }
-static void search(void) { netkat_search(sizes, FIELDS, POLICY(one), POLICY(other), LISTS(room), answer); }
-static void texts(void) { netkat_search_texts(sizes, FIELDS, text, text_length, text, text_length, LISTS(room), answer); }
-static void evidence(void) { netkat_evidence(sizes, FIELDS, POLICY(one), POLICY(other), packet, rows, left, rows, right, rows, work, NETKAT_WORK, answer); }
-static void evidence_rows(void) { netkat_evidence_rows(sizes, FIELDS, POLICY(one), POLICY(other), records, rows, work, NETKAT_WORK, answer); }
-static void traces(void) { netkat_trace(sizes, FIELDS, POLICY(one), POLICY(other), 0, trace, 8, work, NETKAT_WORK, answer); }
+static void values(void) { uint16_t v[FIELDS]; netkat_values(TABLES, 1023, v, FIELDS, answer); }
+static void number(void) { uint16_t v[FIELDS] = {0}; netkat_number(TABLES, v, FIELDS, answer); }
+static void policy(void) { netkat_policy(TABLES, POLICY(one), answer); }
+static void policies(void) { netkat_policies(TABLES, POLICY(one), POLICY(other), answer); }
+static void reads(void) { netkat_read(TABLES, 2, text, text_length, other.kind, 512, other.first, 512, other.second, 512, answer); }
+static void search(void) { netkat_search(TABLES, POLICY(one), POLICY(other), LISTS(room), answer); }
+static void texts(void) { netkat_search_texts(TABLES, text, text_length, text, text_length, LISTS(room), answer); }
+static void evidence(void) { netkat_evidence(TABLES, POLICY(one), POLICY(other), packet, rows, left, rows, right, rows, work, NETKAT_WORK, answer); }
+static void evidence_rows(void) { netkat_evidence_rows(TABLES, POLICY(one), POLICY(other), records, rows, work, NETKAT_WORK, answer); }
+static void traces(void) { netkat_trace(TABLES, POLICY(one), POLICY(other), 0, trace, 8, work, NETKAT_WORK, answer); }
 
 static uint8_t *base;
 

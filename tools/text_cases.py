@@ -1,32 +1,42 @@
-"""Texts read, with what the reader answers worked out from document 01, "Text" and causes 14 to 17, and document 02, A.1."""
+"""Texts read, with what the reader answers worked out from document 01, "Text" and causes 14 to 17, and document 02, A.1 and A.4."""
 import random
 import string
 
-from calls import READ, call, numbers_of, total
+from calls import READ, call, numbers_of, table_lists, total
+from tables import numbered, refusal, tables_of
 
 WORD = set((string.ascii_letters + string.digits).encode())
 SINGLE = {ord(c): c for c in "=+;*()!"}
 
 
+# f0 to f7 on the left, and one of them on the right
+EIGHT = numbered([2] * 8, [2])
+
+
 class Refused(Exception):
-    def __init__(self, number, place):
+    def __init__(self, number, side, place):
         super().__init__()
-        self.answer = (number, place)
+        self.answer = (number, side, place)
 
 
-def word_token(word):
-    """drop, id, dup, f0 to f7, or a number to 65,535 without leading zeros."""
-    if word in ("drop", "id", "dup"):
-        return (word, None)
-    if len(word) == 2 and word[0] == "f" and word[1] in "01234567":
-        return ("field", int(word[1]))
-    if word.isdigit() and (word == "0" or word[0] != "0") and len(word) <= 5 and int(word) <= 65535:
-        return ("number", int(word))
-    return None
+def number_of(word):
+    """A number to 65,535 without leading zeros, or nothing."""
+    legal = word.isdigit() and (word == b"0" or word[:1] != b"0") and len(word) <= 5 and int(word) <= 65535
+    return int(word) if legal else None
 
 
-def tokens(text):
-    """The tokens with the bytes at which they start, or cause 14."""
+def word_token(word, names):
+    """drop, id, dup, a field's name, or a number."""
+    if word in (b"drop", b"id", b"dup"):
+        return (word.decode(), None)
+    if word in names:
+        return ("field", names[word])
+    number = number_of(word)
+    return None if number is None else ("number", number)
+
+
+def tokens(text, names):
+    """The tokens with the bytes at which they start, or cause 14; names are those of the text's side with their fields."""
     found, at = [], 0
     while at < len(text):
         if text[at] in b" \t":
@@ -36,7 +46,7 @@ def tokens(text):
         if text[at] in WORD:
             while at < len(text) and text[at] in WORD:
                 at += 1
-            token = word_token(text[start:at].decode())
+            token = word_token(text[start:at], names)
         elif text[at:at + 2] in (b"!=", b"<-"):
             at += 2
             token = (text[start:at].decode(), None)
@@ -44,7 +54,7 @@ def tokens(text):
             at += 1
             token = (SINGLE[text[start]], None) if text[start] in SINGLE else None
         if token is None:
-            raise Refused(14, start)
+            raise Refused(14, 0, start)
         found.append((token, start))
     return found
 
@@ -56,7 +66,7 @@ def depth(found):
         if name == "(":
             open_now += 1
             if open_now > 64:
-                raise Refused(15, start)
+                raise Refused(15, 0, start)
         elif name == ")":
             open_now = max(0, open_now - 1)
 
@@ -73,7 +83,7 @@ class Reader:
     def take(self, *names):
         """The value of the next token, which has one of the names; else cause 16."""
         if self.peek() not in names:
-            raise Refused(16, self.found[self.at][1] if self.at < len(self.found) else self.end)
+            raise Refused(16, 0, self.found[self.at][1] if self.at < len(self.found) else self.end)
         token = self.found[self.at][0]
         self.at += 1
         return token
@@ -130,23 +140,32 @@ class Reader:
         self.take("end")
 
 
-def read(text, lengths):
-    found = tokens(text)
+def read(text, lengths, names):
+    """The nodes of a text, or causes 14 to 17."""
+    found = tokens(text, names)
     depth(found)
     reader = Reader(found + [(("end", None), len(text))], len(text))
     reader.whole()
     if len(reader.nodes) > min(512, min(lengths)):
-        raise Refused(17, len(reader.nodes))
+        raise Refused(17, 0, len(reader.nodes))
     return reader.nodes
 
 
-def expected(text, lengths):
+def nodes_of(fields, side, text):
+    """The nodes of a text of this side, of any number that is legal; causes 14 to 17."""
+    return read(text, [512] * 3, tables_of(fields).fields(side))
+
+
+def expected(tables, side, text, lengths):
     """The answer in words, and the nodes written."""
     try:
-        nodes = read(text, lengths)
+        refused = refusal(tables)
+        if refused:
+            raise Refused(*refused)
+        nodes = read(text, lengths, tables.fields(side))
         return "done %d" % len(nodes), nodes
     except Refused as refused:
-        return "refused %d 0 %d" % refused.answer, []
+        return "refused %d %d %d" % refused.answer, []
 
 
 def joined(parts):
@@ -166,7 +185,7 @@ def all_cases():
     for text in TEXTS:
         yield parts_of(text), (9, 9, 9)
     for text in ("f0=0;dup", "id+dup;dup*", "(id+dup)*;f3<-65535"):
-        nodes = len(read(text.encode(), (99, 99, 99)))
+        nodes = len(nodes_of(EIGHT, 1, text.encode()))
         for short in range(3):
             for less in (0, 1, nodes):
                 lengths = [nodes + 2] * 3
@@ -180,7 +199,7 @@ def all_cases():
     for text in NEGATIONS:
         yield parts_of(text), (9, 9, 9)
     text = "!(f0=0;!f1!=1)*"
-    nodes = len(read(text.encode(), (99, 99, 99)))
+    nodes = len(nodes_of(EIGHT, 1, text.encode()))
     for short in range(3):
         for less in (0, 1, nodes):
             lengths = [nodes + 2] * 3
@@ -346,8 +365,12 @@ LONG_NEGATIONS = [
 ]
 
 
+def read_call(tables, side, parts, lengths):
+    said, nodes = expected(tables, side, joined(parts), lengths)
+    sums = (total([node[column] for node in nodes], length) for column, length in enumerate(lengths))
+    return call(READ, table_lists(tables) + [side] + numbers_of(parts) + list(lengths), said, *sums)
+
+
 def calls():
     for parts, lengths in all_cases():
-        said, nodes = expected(joined(parts), lengths)
-        sums = (total([node[column] for node in nodes], length) for column, length in enumerate(lengths))
-        yield call(READ, numbers_of(parts) + list(lengths), said, *sums)
+        yield read_call(EIGHT, 1, parts, lengths)

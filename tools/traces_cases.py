@@ -1,4 +1,4 @@
-"""Traces checked, with what the trace checker answers worked out from documents 01 and 02 (A.1, A.2) by a reading of document 000's Figure 1: which
+"""Traces checked, with what the trace checker answers worked out from documents 01 and 02 (A.1, A.2, A.4) by a reading of document 000's Figure 1: which
 part of a trace each node of a policy can have written, and, for short traces, the sets of traces themselves."""
 import random
 import sys
@@ -6,6 +6,7 @@ import sys
 from calls import TRACE, call, cleared, lists_of, numbers_of
 from policy_cases import DROP, ID, EQ, NE, SET, DUP, SUM, SEQ, STAR, NOT, chain, legal, lists, negated, negations, stars
 from policy_cases import answer as legality
+from tables import tables_of
 
 sys.setrecursionlimit(10000)
 WORDS = 16384
@@ -116,13 +117,13 @@ def has(packets, nodes, packet, trace):
     return answer
 
 
-def answer(sizes, left, right, entering, trace, words):
-    refused = legality(sizes, [left, right])
+def answer(fields, left, right, entering, trace, words):
+    refused = legality(fields, [left, right])
     if refused.startswith("refused"):
         return refused, False
     if words < WORDS:
         return "refused 10 0 0", False
-    packets = Packets(sizes)
+    packets = Packets(tables_of(fields).sizes())
     for place, packet in enumerate([entering] + trace):
         if packet >= packets.count:
             return "refused 13 0 %d" % place, True
@@ -131,16 +132,18 @@ def answer(sizes, left, right, entering, trace, words):
 
 
 class Case:
-    def __init__(self, sizes, left, right, entering, rest, words=WORDS, times=0, part=()):
-        self.sizes, self.entering, self.words, self.times = sizes, entering, words, times
+    """A call; fields are tables, or the sizes of f0, f1, .. in both."""
+
+    def __init__(self, fields, left, right, entering, rest, words=WORDS, times=0, part=()):
+        self.fields, self.entering, self.words, self.times = fields, entering, words, times
         self.left, self.right = (p if isinstance(p, tuple) else lists(p) for p in (left, right))
         self.part, self.rest = list(part), list(rest)
 
     def call(self):
         trace = self.part * self.times + self.rest
-        said, done = answer(self.sizes, self.left, self.right, self.entering, trace, self.words)
+        said, done = answer(self.fields, self.left, self.right, self.entering, trace, self.words)
         parts = numbers_of([(self.times, self.part), (1, self.rest)])
-        inputs = [*lists_of(self.sizes, self.left, self.right), self.entering, *parts, self.words]
+        inputs = [*lists_of(self.fields, self.left, self.right), self.entering, *parts, self.words]
         return said, call(TRACE, inputs, said, cleared(self.words, done))
 
 

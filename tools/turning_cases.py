@@ -1,53 +1,39 @@
-"""Calls that turn numbers into values and back, with what they answer worked out from document 01, "Packets"."""
-from calls import BEFORE, NUMBER, VALUES, call, numbers_of, once, total
+"""Calls that turn numbers into values and back, with what they answer worked out from document 01, "Packets", and document 02, A.4."""
+from calls import BEFORE, NUMBER, VALUES, call, numbers_of, once, table_lists, total
+from tables import packets_refusal, tables_of
 
 
-def refusal(sizes, length):
-    """Causes 1 to 3, then 13 for a list of another length than k."""
-    if not 1 <= len(sizes) <= 8:
-        return (1, 0)
-    for field, size in enumerate(sizes):
-        if size == 0:
-            return (2, field)
-    count = 1
-    for field, size in enumerate(sizes):
-        count *= size
-        if count > 1024:
-            return (3, field)
-    if length != len(sizes):
-        return (13, len(sizes))
-    return None
+def refusal(tables, length):
+    """What the tables are refused by, 3, then 13 for a list of another length than there are fields."""
+    refused = packets_refusal(tables)
+    if not refused and length != len(tables.sizes()):
+        refused = (13, 0, len(tables.sizes()))
+    return refused
 
 
-def values_of(sizes, number, length):
-    refused = refusal(sizes, length)
-    count = 1
-    for size in sizes:
-        count *= size
-    if not refused and number >= count:
-        refused = (13, 0)
-    if refused:
-        return "refused %d 0 %d" % refused, [BEFORE] * length
-    values = []
-    for size in reversed(sizes):
-        number, value = divmod(number, size)
-        values.insert(0, value)
-    return "done", values
-
-
-def number_of(sizes, values):
-    refused = refusal(sizes, len(values))
+def values_of(fields, number, length):
+    """The answer in words, and the values written."""
+    tables = tables_of(fields)
+    refused, values = refusal(tables, length), []
     if not refused:
-        for field, (size, value) in enumerate(zip(sizes, values)):
+        for size in reversed(tables.sizes()):
+            number, value = divmod(number, size)
+            values.insert(0, value)
+        if number:
+            refused = (13, 0, 0)
+    return ("refused %d %d %d" % refused, [BEFORE] * length) if refused else ("done", values)
+
+
+def number_of(fields, values):
+    tables = tables_of(fields)
+    refused, number = refusal(tables, len(values)), 0
+    if not refused:
+        for field, (size, value) in enumerate(zip(tables.sizes(), values)):
             if value >= size:
-                refused = (13, field)
+                refused = (13, 0, field)
                 break
-    if refused:
-        return "refused %d 0 %d" % refused
-    number = 0
-    for size, value in zip(sizes, values):
-        number = number * size + value
-    return "done %d" % number
+            number = number * size + value
+    return "refused %d %d %d" % refused if refused else "done %d" % number
 
 
 SIZES = [
@@ -77,12 +63,15 @@ def cases():
             yield NUMBER, sizes, [t if i == field else 0 for i, t in enumerate(top)]
 
 
+def values_call(fields, number, length):
+    said, values = values_of(fields, number, length)
+    return call(VALUES, table_lists(fields) + [number, length], said, total(values, length))
+
+
+def number_call(fields, values):
+    return call(NUMBER, table_lists(fields) + numbers_of(once(values)), number_of(fields, values))
+
+
 def calls():
     for which, sizes, *given in cases():
-        inputs = numbers_of(once(sizes))
-        if which == VALUES:
-            number, length = given
-            said, values = values_of(sizes, number, length)
-            yield call(VALUES, inputs + [number, length], said, total(values, length))
-        else:
-            yield call(NUMBER, inputs + numbers_of(once(*given)), number_of(sizes, *given))
+        yield values_call(sizes, *given) if which == VALUES else number_call(sizes, *given)

@@ -1,6 +1,6 @@
 #!/usr/bin/env python3
 """Writes the first part of the stored calls and of what must be written of them: the calls of the scripts below, each of
-which works its answers out from document 01. The second part is the second implementation's (differential/, stored). The program
+which works its answers out from documents 01 and 02. The second part is the second implementation's (differential/, stored). The program
 vectors runs the calls of crates/vectors; evidence by records, which it does not know, is in differential/records, and stored runs it.
 
     tools/vectors.py            write the first part of stdin and stdout in both folders
@@ -10,6 +10,7 @@ import pathlib
 import sys
 
 import evidence_cases
+import names_cases
 import policy_cases
 import search_cases
 import text_cases
@@ -17,12 +18,13 @@ import traces_cases
 import turning_cases
 from calls import RECORDS
 
-SCRIPTS = (turning_cases, policy_cases, text_cases, search_cases, evidence_cases, traces_cases)
+SCRIPTS = (turning_cases, policy_cases, text_cases, search_cases, evidence_cases, traces_cases, names_cases)
 ROOT = pathlib.Path(__file__).resolve().parent.parent
 # each folder, and whether its calls are those on records
 FOLDERS = {"crates/vectors": False, "differential/records": True}
 # the program reads blocks of this length; no call goes over a block's end, and the second part begins with a block
 BLOCK = 65536
+MOST_BLOCKS = 64
 SECOND = "calls of the second implementation\n"
 
 
@@ -49,6 +51,7 @@ def store(folder, given, expected, check):
     held, _, rest = stored[0].partition(SECOND)
     lines = sum(not line.isspace() for line in held.splitlines())
     answers = stored[1].splitlines(keepends=True)
+    assert len(given + SECOND + rest) <= MOST_BLOCKS * BLOCK, "more than the program reads"
     if not check:
         (ROOT / folder / "stdin").write_text(given + SECOND + rest)
         (ROOT / folder / "stdout").write_text(expected + "".join(answers[lines:]))

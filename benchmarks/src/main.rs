@@ -8,6 +8,7 @@
 mod before;
 mod clock;
 mod measure;
+mod names;
 mod plot;
 mod report;
 mod tables;

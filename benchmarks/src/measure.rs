@@ -4,6 +4,7 @@ use std::time::{Duration, Instant};
 
 use netkat_reference::answer::Numbers;
 use netkat_reference::case::Case;
+use netkat_reference::names;
 
 use crate::clock;
 use crate::report::thousands;
@@ -146,9 +147,9 @@ fn clocked(case: &mut Case, runner: Runner) -> (Numbers, f64) {
 fn rows_of(case: &Case, answer: Numbers) -> (Option<usize>, Option<usize>) {
     match (case, answer) {
         (Case::Search { .. }, [0, rows, ..]) => (Some(rows as usize), Some(rows as usize)),
-        (Case::Search { sizes, lists, .. }, [9, 11, _, rows, ..]) => {
+        (Case::Search { tables, lists, .. }, [9, 11, _, rows, ..]) => {
             let rows = rows as usize;
-            let starting: usize = sizes.iter().map(|&size| usize::from(size)).product();
+            let starting = names::packets(tables.lend()).map_or(0, |packets| packets.count());
             let handled = (starting < rows).then(|| usize::from(lists.parent[rows - 1]) + 1);
             (Some(rows), handled)
         }

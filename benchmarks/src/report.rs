@@ -365,6 +365,9 @@ const WHAT: &str = "\
   and of the 256 packets of a counter of eight bits, unrolled once and twice; the last with a test that one of the two fails.
 - text: one call of the reader on 1,048,576 bytes. A legal text has at most 512 nodes, so the legal one is mostly
   parentheses and blanks; the others are refused at their end. The last is a run of `!`.
+- names: texts over eight names of fifteen letters that differ in the last one, in both tables, in opposite orders: the combinatorial pairs
+  of eight fields searched, and a megabyte of tests read; then tables of thousands of names, refused when all of them have been compared: by
+  1, by 21 at the last name, and by 20 at the last name of the right table.
 - forty checks: texts checked one after the other, with 4,096 rows lent: document 01's pairs, the networks, and random
   pairs.
 - random sweep: pairs of random policies from a fixed seed, made as for the comparison of library and second implementation

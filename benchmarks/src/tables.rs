@@ -18,7 +18,12 @@ type Row = (u16, State, State);
 fn row_order(pair: &Pair) -> (Vec<Row>, usize) {
     let mut lists = Lists::new(MOST_ROWS, 0, LEAST_WORK);
     let (left, right) = (nodes(&pair.left), nodes(&pair.right));
-    let answer = search::search(&pair.sizes, left.lists(), right.lists(), lists.lend());
+    let answer = search::search(
+        pair.tables().lend(),
+        left.lists(),
+        right.lists(),
+        lists.lend(),
+    );
     let rows = match answer {
         Ok(Verdict::Equal { rows }) => rows,
         _ => panic!("{}: {answer:?}", pair.name),
@@ -29,7 +34,7 @@ fn row_order(pair: &Pair) -> (Vec<Row>, usize) {
 
 fn evidence(name: &str, pair: &Pair, rows: &[Row]) -> Benchmark {
     let case = Case::Evidence {
-        sizes: pair.sizes.clone(),
+        tables: pair.tables(),
         left: nodes(&pair.left),
         right: nodes(&pair.right),
         lists: Lists {

@@ -2,13 +2,15 @@
 
 use netkat_reference::case::Case;
 use netkat_reference::generate::cases;
+use netkat_reference::generate::fixed::{eight_fields, nodes_of};
 use netkat_reference::generate::heavy::{self, Pair};
 use netkat_reference::generate::tree;
+use netkat_reference::names::OwnedTables;
 use netkat_reference::policy::{OwnedLists, MOST_NODES};
 use netkat_reference::random::Random;
 use netkat_reference::search::{Lists, LEAST_WORK, MOST_ROWS};
-use netkat_reference::text;
 
+use crate::names;
 use crate::report::thousands;
 use crate::tables;
 use crate::traces;
@@ -36,6 +38,14 @@ impl Extent {
         match self {
             Extent::Full => &[1_000, 2_000, 4_000, 8_000, 16_000, 32_000, MOST_ROWS],
             Extent::Quick => &[1_000, 8_000],
+        }
+    }
+
+    /// Names of a table that has far too many.
+    pub fn names(self) -> usize {
+        match self {
+            Extent::Full => 4_000,
+            Extent::Quick => 500,
         }
     }
 
@@ -75,6 +85,8 @@ pub enum Group {
     Traces,
     /// Long texts.
     Text,
+    /// Long names, and many.
+    Names,
     /// Checks one after the other.
     Checks,
     /// Random pairs.
@@ -97,6 +109,7 @@ impl Group {
             Group::Records => "records",
             Group::Traces => "traces",
             Group::Text => "text",
+            Group::Names => "names",
             Group::Checks => "forty checks",
             Group::Sweep => "random sweep",
         }
@@ -149,6 +162,7 @@ pub fn benchmarks(extent: Extent) -> Vec<Benchmark> {
     all.extend(tables::records(extent));
     all.extend(traces::benchmarks());
     all.extend(texts());
+    all.extend(names::benchmarks(extent));
     all.push(checks());
     all
 }
@@ -163,15 +177,17 @@ fn heavy_pairs(extent: Extent) -> Vec<Pair> {
     ]
 }
 
-/// The nodes of a text that is legal.
+/// The nodes of a legal text over f0 to f7.
 pub fn nodes(text: &str) -> OwnedLists {
-    text::nodes(text.as_bytes(), MOST_NODES).expect("a legal text")
+    let nodes = nodes_of(text);
+    assert!(!nodes.kind.is_empty(), "no legal text: {text}");
+    nodes
 }
 
 /// The search of a pair with so many rows lent.
 pub fn search(pair: &Pair, rows: usize) -> Case {
     Case::Search {
-        sizes: pair.sizes.clone(),
+        tables: pair.tables(),
         left: nodes(&pair.left),
         right: nodes(&pair.right),
         lists: Lists::new(rows, rows, LEAST_WORK),
@@ -235,7 +251,7 @@ pub fn sweep() -> impl Iterator<Item = Benchmark> {
     (0..SWEPT).map(move |pair| {
         let (sizes, left, right) = cases::numbered_pair(&mut random, cases::Extent::Large);
         let case = Case::Search {
-            sizes,
+            tables: OwnedTables::numbered(&sizes),
             left,
             right,
             lists: Lists::new(MOST_ROWS, MOST_ROWS, LEAST_WORK),
@@ -245,7 +261,7 @@ pub fn sweep() -> impl Iterator<Item = Benchmark> {
 }
 
 /// Bytes of a long text.
-const MEGABYTE: usize = 1 << 20;
+pub const MEGABYTE: usize = 1 << 20;
 
 /// 256 times `id` in a sum, each in 64 parentheses, with blanks between up to a megabyte: legal texts are no longer
 /// without blanks, for a text has at most 512 nodes.
@@ -279,7 +295,14 @@ fn texts() -> Vec<Benchmark> {
             first: vec![0; MOST_NODES],
             second: vec![0; MOST_NODES],
         };
-        Benchmark::new(Group::Text, name, Case::Read { text, nodes })
+        let tables = eight_fields();
+        let case = Case::Read {
+            tables,
+            side: 1,
+            text,
+            nodes,
+        };
+        Benchmark::new(Group::Text, name, case)
     };
     vec![
         read("a megabyte, 511 nodes and blanks", legal_text()),
@@ -312,7 +335,7 @@ const CHECKS: usize = 40;
 /// Checks of texts one after the other, small ones, networks and random ones mixed.
 fn checks() -> Benchmark {
     let check = |sizes: &[u16], left: &[u8], right: &[u8]| Case::Texts {
-        sizes: sizes.to_vec(),
+        tables: OwnedTables::numbered(sizes),
         left: left.to_vec(),
         right: right.to_vec(),
         lists: Lists::new(CHECK_ROWS, CHECK_ROWS, LEAST_WORK),
@@ -336,8 +359,9 @@ fn checks() -> Benchmark {
             0 => tree::same(&mut random, sizes, &policy),
             _ => tree::changed(&mut random, sizes, &policy),
         };
-        let left = tree::text(&mut random, &policy);
-        let right = tree::text(&mut random, &other);
+        let names: Vec<String> = (0..sizes.len()).map(|field| format!("f{field}")).collect();
+        let left = tree::text(&mut random, &names, &policy);
+        let right = tree::text(&mut random, &names, &other);
         cases.push(check(sizes, &left, &right));
     }
     random.shuffle(&mut cases);

@@ -3,14 +3,29 @@
 use std::mem::{align_of, size_of};
 use std::slice;
 
-use netkat::lists::{self, Columns, Lent, Nodes, Numbers};
+use netkat::lists::{self, Columns, Lent, Names, Nodes, Numbers, Tables};
 use netkat::Row;
 use netkat_reference::case::Case;
 use netkat_reference::evidence::Record;
+use netkat_reference::names::{OwnedTable, OwnedTables};
 use netkat_reference::policy::OwnedLists;
 use netkat_reference::search::Lists;
 
 pub mod program;
+
+fn names(table: &OwnedTable) -> Names<'_> {
+    Names {
+        cells: &table.cells,
+        sizes: &table.sizes,
+    }
+}
+
+fn both(tables: &OwnedTables) -> Tables<'_> {
+    Tables {
+        left: names(&tables.left),
+        right: names(&tables.right),
+    }
+}
 
 fn nodes(policy: &OwnedLists) -> Nodes<'_> {
     Nodes {
@@ -43,30 +58,40 @@ fn rows(records: &[Record]) -> &[Row] {
 pub fn run(case: &mut Case) -> Option<Numbers> {
     Some(match case {
         Case::Values {
-            sizes,
+            tables,
             number,
             values,
-        } => lists::values(sizes, *number, values),
-        Case::Number { sizes, values } => lists::number(sizes, values),
-        Case::Policy { sizes, policy } => lists::policy(sizes, nodes(policy)),
-        Case::Policies { sizes, left, right } => lists::policies(sizes, nodes(left), nodes(right)),
-        Case::Read { text, nodes } => {
-            lists::read(text, &mut nodes.kind, &mut nodes.first, &mut nodes.second)
+        } => lists::values(both(tables), *number, values),
+        Case::Number { tables, values } => lists::number(both(tables), values),
+        Case::Policy { tables, policy } => lists::policy(both(tables), nodes(policy)),
+        Case::Policies {
+            tables,
+            left,
+            right,
+        } => lists::policies(both(tables), nodes(left), nodes(right)),
+        Case::Read {
+            tables,
+            side,
+            text,
+            nodes,
+        } => {
+            let (kind, first) = (&mut nodes.kind, &mut nodes.first);
+            lists::read(both(tables), *side, text, kind, first, &mut nodes.second)
         }
         Case::Search {
-            sizes,
+            tables,
             left,
             right,
             lists,
-        } => lists::search(sizes, nodes(left), nodes(right), lent(lists)),
+        } => lists::search(both(tables), nodes(left), nodes(right), lent(lists)),
         Case::Texts {
-            sizes,
+            tables,
             left,
             right,
             lists,
-        } => lists::search_texts(sizes, left, right, lent(lists)),
+        } => lists::search_texts(both(tables), left, right, lent(lists)),
         Case::Evidence {
-            sizes,
+            tables,
             left,
             right,
             lists,
@@ -76,23 +101,36 @@ pub fn run(case: &mut Case) -> Option<Numbers> {
                 left: &lists.left,
                 right: &lists.right,
             };
-            lists::evidence(sizes, nodes(left), nodes(right), rows, &mut lists.work)
+            lists::evidence(
+                both(tables),
+                nodes(left),
+                nodes(right),
+                rows,
+                &mut lists.work,
+            )
         }
         Case::Records {
-            sizes,
+            tables,
             left,
             right,
             rows: records,
             work,
-        } => lists::evidence_rows(sizes, nodes(left), nodes(right), rows(records), work),
+        } => lists::evidence_rows(both(tables), nodes(left), nodes(right), rows(records), work),
         Case::Trace {
-            sizes,
+            tables,
             left,
             right,
             entering,
             trace,
             work,
-        } => lists::trace(sizes, nodes(left), nodes(right), *entering, trace, work),
+        } => lists::trace(
+            both(tables),
+            nodes(left),
+            nodes(right),
+            *entering,
+            trace,
+            work,
+        ),
         Case::Program { .. } => return None,
     })
 }

@@ -20,6 +20,11 @@ static uint64_t left[ROWS], right[ROWS], answer[NETKAT_NUMBERS];
 static uint32_t work[NETKAT_WORK];
 static netkat_row records[ROWS];
 
+/* One field, sw with two values, in both tables: a name's length, the name, and what nobody reads. */
+static const uint8_t names[NETKAT_CELL] = {2, 's', 'w'};
+static const uint16_t sizes[] = {2};
+#define TABLE names, NETKAT_CELL, sizes, 1
+
 /* A policy's three lists, as arguments. */
 #define LISTS(p) (p).kind, (p).nodes, (p).first, (p).nodes, (p).second, (p).nodes
 
@@ -30,21 +35,20 @@ static void stop_if_refused(void) {
     }
 }
 
-static policy read_policy(const char *text) {
+static policy read_policy(uint8_t side, const char *text) {
     policy p;
-    netkat_read((const uint8_t *)text, strlen(text), p.kind, NETKAT_NODES, p.first, NETKAT_NODES, p.second, NETKAT_NODES,
-                answer);
+    netkat_read(TABLE, TABLE, side, (const uint8_t *)text, strlen(text), p.kind, NETKAT_NODES, p.first, NETKAT_NODES, p.second,
+                NETKAT_NODES, answer);
     stop_if_refused();
     p.nodes = answer[1];
     return p;
 }
 
 static void check(const char *left_text, const char *right_text, size_t lent) {
-    const uint16_t sizes[] = {2};
-    policy one = read_policy(left_text), other = read_policy(right_text);
+    policy one = read_policy(1, left_text), other = read_policy(2, right_text);
 
     printf("%s against %s\n", left_text, right_text);
-    netkat_search(sizes, 1, LISTS(one), LISTS(other), packet, lent, left, lent, right, lent, parent, lent, trace, ROWS,
+    netkat_search(TABLE, TABLE, LISTS(one), LISTS(other), packet, lent, left, lent, right, lent, parent, lent, trace, ROWS,
                   work, NETKAT_WORK, answer);
     if (answer[0] == NETKAT_REFUSED && answer[1] == NETKAT_ROWS_FULL) {
         printf("  more than %" PRIu64 " rows needed; the same traces up to length %" PRIu64 "\n", answer[3], answer[4]);
@@ -58,13 +62,13 @@ static void check(const char *left_text, const char *right_text, size_t lent) {
             printf("  %" PRIu16 " %" PRIu64 " %" PRIu64 "\n", packet[i], left[i], right[i]);
             records[i] = (netkat_row){packet[i], left[i], right[i], parent[i]};
         }
-        netkat_evidence(sizes, 1, LISTS(one), LISTS(other), packet, rows, left, rows, right, rows, work, NETKAT_WORK, answer);
+        netkat_evidence(TABLE, TABLE, LISTS(one), LISTS(other), packet, rows, left, rows, right, rows, work, NETKAT_WORK, answer);
         stop_if_refused();
         printf("  table %s\n", answer[0] == NETKAT_DONE ? "accepted" : "rejected");
-        netkat_evidence_rows(sizes, 1, LISTS(one), LISTS(other), records, rows, work, NETKAT_WORK, answer);
+        netkat_evidence_rows(TABLE, TABLE, LISTS(one), LISTS(other), records, rows, work, NETKAT_WORK, answer);
         stop_if_refused();
         printf("  table of records %s\n", answer[0] == NETKAT_DONE ? "accepted" : "rejected");
-        netkat_evidence(sizes, 1, LISTS(one), LISTS(other), NULL, 0, NULL, 0, NULL, 0, work, NETKAT_WORK, answer);
+        netkat_evidence(TABLE, TABLE, LISTS(one), LISTS(other), NULL, 0, NULL, 0, NULL, 0, work, NETKAT_WORK, answer);
         stop_if_refused();
         printf("  empty table %s by rule %" PRIu64 "\n", answer[0] == NETKAT_DONE ? "accepted" : "rejected", answer[1]);
     } else {
@@ -74,14 +78,14 @@ static void check(const char *left_text, const char *right_text, size_t lent) {
         for (size_t i = 0; i < length; i++) {
             printf(" %" PRIu16, trace[i]);
         }
-        netkat_trace(sizes, 1, LISTS(one), LISTS(other), entering, trace, length, work, NETKAT_WORK, answer);
+        netkat_trace(TABLE, TABLE, LISTS(one), LISTS(other), entering, trace, length, work, NETKAT_WORK, answer);
         stop_if_refused();
         printf("\n  the trace is %s alone\n", answer[0] == NETKAT_LEFT ? "left's" : answer[0] == NETKAT_RIGHT ? "right's" : "not one policy's");
     }
 }
 
 int main(void) {
-    check("f0=0;dup", "dup;f0=0", ROWS);
+    check("sw=0;dup", "dup;sw=0", ROWS);
     check("dup", "dup;dup", ROWS);
     check("dup*", "id+dup;dup*", 4);
     return 0;

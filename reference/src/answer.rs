@@ -9,9 +9,9 @@ pub type Numbers = [u64; 8];
 /// A numbered cause for which a call gives no result.
 #[derive(Clone, Copy, Debug, PartialEq, Eq)]
 pub struct Refusal {
-    /// The cause, 1 to 19.
+    /// The cause, 1 to 21.
     pub number: u8,
-    /// The policy it concerns: 0 none, 1 left, 2 right.
+    /// The policy or the table of names that it concerns: 0 none, 1 left, 2 right.
     pub side: u8,
     /// Where: a field, node, byte, row, length, as the cause says.
     pub place: u64,
@@ -70,6 +70,16 @@ pub enum Side {
     Left,
     /// The second policy.
     Right,
+}
+
+impl Side {
+    /// The side that a number names where a text is read: 2 is right, any other left.
+    pub fn of_text(number: u8) -> Side {
+        match number {
+            2 => Side::Right,
+            _ => Side::Left,
+        }
+    }
 }
 
 /// What the evidence checker says of a table.

@@ -2,9 +2,10 @@
 
 use std::fmt::Write;
 
-use crate::answer::{Numbered, Numbers};
+use crate::answer::{Numbered, Numbers, Side};
 use crate::automaton::State;
 use crate::evidence::{self, Record, Table};
+use crate::names::{OwnedTable, OwnedTables};
 use crate::policy::{self, OwnedLists};
 use crate::search::{self, Lists};
 use crate::{packets, program, text, traces};
@@ -14,8 +15,8 @@ use crate::{packets, program, text, traces};
 pub enum Case {
     /// A packet's number turned into values.
     Values {
-        /// Sizes of the fields.
-        sizes: Vec<u16>,
+        /// Tables of names.
+        tables: OwnedTables,
         /// The number turned.
         number: u16,
         /// Lent for the values.
@@ -23,22 +24,22 @@ pub enum Case {
     },
     /// Values turned into a packet's number.
     Number {
-        /// Sizes of the fields.
-        sizes: Vec<u16>,
+        /// Tables of names.
+        tables: OwnedTables,
         /// The values turned.
         values: Vec<u16>,
     },
     /// One policy tested.
     Policy {
-        /// Sizes of the fields.
-        sizes: Vec<u16>,
+        /// Tables of names.
+        tables: OwnedTables,
         /// The policy.
         policy: OwnedLists,
     },
     /// Two policies tested.
     Policies {
-        /// Sizes of the fields.
-        sizes: Vec<u16>,
+        /// Tables of names.
+        tables: OwnedTables,
         /// Left policy.
         left: OwnedLists,
         /// Right policy.
@@ -46,6 +47,10 @@ pub enum Case {
     },
     /// One text read.
     Read {
+        /// Tables of names.
+        tables: OwnedTables,
+        /// The text's side: 2 is right, any other number left.
+        side: u8,
         /// The text.
         text: Vec<u8>,
         /// Lent for the nodes.
@@ -53,8 +58,8 @@ pub enum Case {
     },
     /// Two policies searched.
     Search {
-        /// Sizes of the fields.
-        sizes: Vec<u16>,
+        /// Tables of names.
+        tables: OwnedTables,
         /// Left policy.
         left: OwnedLists,
         /// Right policy.
@@ -64,8 +69,8 @@ pub enum Case {
     },
     /// Two texts searched.
     Texts {
-        /// Sizes of the fields.
-        sizes: Vec<u16>,
+        /// Tables of names.
+        tables: OwnedTables,
         /// Left text.
         left: Vec<u8>,
         /// Right text.
@@ -75,8 +80,8 @@ pub enum Case {
     },
     /// A table checked.
     Evidence {
-        /// Sizes of the fields.
-        sizes: Vec<u16>,
+        /// Tables of names.
+        tables: OwnedTables,
         /// Left policy.
         left: OwnedLists,
         /// Right policy.
@@ -86,8 +91,8 @@ pub enum Case {
     },
     /// A table of records checked.
     Records {
-        /// Sizes of the fields.
-        sizes: Vec<u16>,
+        /// Tables of names.
+        tables: OwnedTables,
         /// Left policy.
         left: OwnedLists,
         /// Right policy.
@@ -99,8 +104,8 @@ pub enum Case {
     },
     /// A trace checked.
     Trace {
-        /// Sizes of the fields.
-        sizes: Vec<u16>,
+        /// Tables of names.
+        tables: OwnedTables,
         /// Left policy.
         left: OwnedLists,
         /// Right policy.
@@ -182,6 +187,18 @@ fn hex(bytes: &[u8]) -> String {
     printed
 }
 
+/// The two lists of each table.
+fn names(tables: &OwnedTables) -> [String; 4] {
+    let OwnedTables { left, right } = tables;
+    let cells = |table: &OwnedTable| hex(&table.cells);
+    [
+        cells(left),
+        list(&left.sizes),
+        cells(right),
+        list(&right.sizes),
+    ]
+}
+
 /// The three lists of a policy.
 fn nodes(policy: &OwnedLists) -> [String; 3] {
     [
@@ -235,9 +252,12 @@ impl Case {
     pub fn tested(&self) -> Option<Case> {
         match self {
             Case::Search {
-                sizes, left, right, ..
+                tables,
+                left,
+                right,
+                ..
             } => Some(Case::Policies {
-                sizes: sizes.clone(),
+                tables: tables.clone(),
                 left: left.clone(),
                 right: right.clone(),
             }),
@@ -249,7 +269,7 @@ impl Case {
     pub fn lent_otherwise(&self) -> Option<Case> {
         match self {
             Case::Evidence {
-                sizes,
+                tables,
                 left,
                 right,
                 lists,
@@ -265,7 +285,7 @@ impl Case {
                     parent: any_parent(row),
                 };
                 Some(Case::Records {
-                    sizes: sizes.clone(),
+                    tables: tables.clone(),
                     left: left.clone(),
                     right: right.clone(),
                     rows: (0..count).map(record).collect(),
@@ -273,7 +293,7 @@ impl Case {
                 })
             }
             Case::Records {
-                sizes,
+                tables,
                 left,
                 right,
                 rows,
@@ -281,7 +301,7 @@ impl Case {
             } => {
                 let (packet, left_states, right_states, _) = columns(rows);
                 Some(Case::Evidence {
-                    sizes: sizes.clone(),
+                    tables: tables.clone(),
                     left: left.clone(),
                     right: right.clone(),
                     lists: Lists {
@@ -319,32 +339,43 @@ impl Case {
     pub fn run(&mut self) -> Numbers {
         match self {
             Case::Values {
-                sizes,
+                tables,
                 number,
                 values,
-            } => packets::values(sizes, *number, values).numbers(),
-            Case::Number { sizes, values } => packets::number(sizes, values).numbers(),
-            Case::Policy { sizes, policy } => policy::check(sizes, policy.lists()).numbers(),
-            Case::Policies { sizes, left, right } => {
-                policy::check_pair(sizes, left.lists(), right.lists()).numbers()
+            } => packets::values(tables.lend(), *number, values).numbers(),
+            Case::Number { tables, values } => packets::number(tables.lend(), values).numbers(),
+            Case::Policy { tables, policy } => {
+                policy::check(tables.lend(), policy.lists()).numbers()
             }
-            Case::Read { text, nodes } => {
-                text::read(text, &mut nodes.kind, &mut nodes.first, &mut nodes.second).numbers()
+            Case::Policies {
+                tables,
+                left,
+                right,
+            } => policy::check_pair(tables.lend(), left.lists(), right.lists()).numbers(),
+            Case::Read {
+                tables,
+                side,
+                text,
+                nodes,
+            } => {
+                let (kind, first) = (&mut nodes.kind, &mut nodes.first);
+                let side = Side::of_text(*side);
+                text::read(tables.lend(), side, text, kind, first, &mut nodes.second).numbers()
             }
             Case::Search {
-                sizes,
+                tables,
                 left,
                 right,
                 lists,
-            } => search::search(sizes, left.lists(), right.lists(), lists.lend()).numbers(),
+            } => search::search(tables.lend(), left.lists(), right.lists(), lists.lend()).numbers(),
             Case::Texts {
-                sizes,
+                tables,
                 left,
                 right,
                 lists,
-            } => search::search_texts(sizes, left, right, lists.lend()).numbers(),
+            } => search::search_texts(tables.lend(), left, right, lists.lend()).numbers(),
             Case::Evidence {
-                sizes,
+                tables,
                 left,
                 right,
                 lists,
@@ -355,20 +386,20 @@ impl Case {
                     right: &lists.right,
                 };
                 let (left, right) = (left.lists(), right.lists());
-                evidence::check(sizes, left, right, table, &mut lists.work).numbers()
+                evidence::check(tables.lend(), left, right, table, &mut lists.work).numbers()
             }
             Case::Records {
-                sizes,
+                tables,
                 left,
                 right,
                 rows,
                 work,
             } => {
                 let (left, right) = (left.lists(), right.lists());
-                evidence::check_records(sizes, left, right, rows, work).numbers()
+                evidence::check_records(tables.lend(), left, right, rows, work).numbers()
             }
             Case::Trace {
-                sizes,
+                tables,
                 left,
                 right,
                 entering,
@@ -376,7 +407,7 @@ impl Case {
                 work,
             } => {
                 let (left, right) = (left.lists(), right.lists());
-                traces::check(sizes, left, right, *entering, trace, work).numbers()
+                traces::check(tables.lend(), left, right, *entering, trace, work).numbers()
             }
             Case::Program { input, output } => {
                 *output = program::run(input);
@@ -390,51 +421,68 @@ impl Case {
         let mut fields = Vec::new();
         match self {
             Case::Values {
-                sizes,
+                tables,
                 number,
                 values,
-            } => fields.extend([list(sizes), number.to_string(), list(values)]),
-            Case::Number { sizes, values } => fields.extend([list(sizes), list(values)]),
-            Case::Policy { sizes, policy } => {
-                fields.push(list(sizes));
+            } => {
+                fields.extend(names(tables));
+                fields.extend([number.to_string(), list(values)]);
+            }
+            Case::Number { tables, values } => {
+                fields.extend(names(tables));
+                fields.push(list(values));
+            }
+            Case::Policy { tables, policy } => {
+                fields.extend(names(tables));
                 fields.extend(nodes(policy));
             }
-            Case::Policies { sizes, left, right } => {
-                fields.push(list(sizes));
+            Case::Policies {
+                tables,
+                left,
+                right,
+            } => {
+                fields.extend(names(tables));
                 fields.extend(nodes(left));
                 fields.extend(nodes(right));
             }
-            Case::Read { text, nodes: lent } => {
-                fields.push(hex(text));
+            Case::Read {
+                tables,
+                side,
+                text,
+                nodes: lent,
+            } => {
+                fields.extend(names(tables));
+                fields.extend([side.to_string(), hex(text)]);
                 fields.extend(nodes(lent));
             }
             Case::Search {
-                sizes,
+                tables,
                 left,
                 right,
                 lists,
             } => {
-                fields.push(list(sizes));
+                fields.extend(names(tables));
                 fields.extend(nodes(left));
                 fields.extend(nodes(right));
                 fields.extend(lent(lists));
             }
             Case::Texts {
-                sizes,
+                tables,
                 left,
                 right,
                 lists,
             } => {
-                fields.extend([list(sizes), hex(left), hex(right)]);
+                fields.extend(names(tables));
+                fields.extend([hex(left), hex(right)]);
                 fields.extend(lent(lists));
             }
             Case::Evidence {
-                sizes,
+                tables,
                 left,
                 right,
                 lists,
             } => {
-                fields.push(list(sizes));
+                fields.extend(names(tables));
                 fields.extend(nodes(left));
                 fields.extend(nodes(right));
                 fields.extend([
@@ -445,13 +493,13 @@ impl Case {
                 ]);
             }
             Case::Records {
-                sizes,
+                tables,
                 left,
                 right,
                 rows,
                 work,
             } => {
-                fields.push(list(sizes));
+                fields.extend(names(tables));
                 fields.extend(nodes(left));
                 fields.extend(nodes(right));
                 let (packet, left_states, right_states, parent) = columns(rows);
@@ -464,14 +512,14 @@ impl Case {
                 ]);
             }
             Case::Trace {
-                sizes,
+                tables,
                 left,
                 right,
                 entering,
                 trace,
                 work,
             } => {
-                fields.push(list(sizes));
+                fields.extend(names(tables));
                 fields.extend(nodes(left));
                 fields.extend(nodes(right));
                 fields.extend([entering.to_string(), list(trace), list(work)]);

@@ -3,6 +3,7 @@
 use crate::answer::{Refusal, Ruling};
 use crate::automaton::{Automaton, State, Step, START};
 use crate::index::RowSet;
+use crate::names::{self, Tables};
 use crate::packets::Packets;
 use crate::policy::{self, NodeLists};
 use crate::search::test_lists;
@@ -62,39 +63,39 @@ impl Rows for [Record] {
     }
 }
 
-/// Checks a table in three lists. Tests 1 to 8, 19, 9 and 10, then the rules.
+/// Checks a table in three lists. Tests the tables of names, 3, 4 to 8, 19, 9 and 10, then the rules.
 pub fn check(
-    sizes: &[u16],
+    tables: Tables,
     left: NodeLists,
     right: NodeLists,
     table: Table,
     work: &mut [u32],
 ) -> Result<Ruling, Refusal> {
     let lengths = [table.packet.len(), table.left.len(), table.right.len()];
-    check_rows(sizes, left, right, &table, &lengths, work)
+    check_rows(tables, left, right, &table, &lengths, work)
 }
 
 /// Checks a table of records in the same way.
 pub fn check_records(
-    sizes: &[u16],
+    tables: Tables,
     left: NodeLists,
     right: NodeLists,
     records: &[Record],
     work: &mut [u32],
 ) -> Result<Ruling, Refusal> {
-    check_rows(sizes, left, right, records, &[records.len()], work)
+    check_rows(tables, left, right, records, &[records.len()], work)
 }
 
 /// Checks rows lent in lists of these lengths.
 fn check_rows<R: Rows + ?Sized>(
-    sizes: &[u16],
+    tables: Tables,
     left: NodeLists,
     right: NodeLists,
     rows: &R,
     lengths: &[usize],
     work: &mut [u32],
 ) -> Result<Ruling, Refusal> {
-    let packets = Packets::new(sizes)?;
+    let packets = names::packets(tables)?;
     let (left, right) = policy::pair(&packets, left, right)?;
     test_lists(lengths, work.len())?;
     work.fill(0);

@@ -15,6 +15,7 @@ pub mod case;
 pub mod evidence;
 pub mod generate;
 pub mod index;
+pub mod names;
 pub mod packets;
 pub mod policy;
 pub mod program;

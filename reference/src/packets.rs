@@ -1,13 +1,12 @@
-//! Packets: declared fields, numbers in mixed radix, sets of packets.
+//! Packets: joint fields, numbers in mixed radix, sets of packets.
 
 use crate::answer::Refusal;
+use crate::names::{self, Tables};
 
 /// Most packets that sizes may declare.
 pub const MOST_PACKETS: usize = 1024;
-/// Most fields.
-pub const MOST_FIELDS: usize = 8;
 
-/// Declared fields: legal sizes with what follows from them.
+/// Joint fields: legal sizes with what follows from them.
 #[derive(Clone, Debug)]
 pub struct Packets {
     sizes: Vec<usize>,
@@ -19,14 +18,8 @@ pub struct Packets {
 }
 
 impl Packets {
-    /// Tests 1 to 3.
+    /// Packets over joint fields of these sizes, none of them 0. Tests 3.
     pub fn new(sizes: &[u16]) -> Result<Packets, Refusal> {
-        if !(1..=MOST_FIELDS).contains(&sizes.len()) {
-            return Err(Refusal::new(1, 0));
-        }
-        if let Some(field) = sizes.iter().position(|&size| size == 0) {
-            return Err(Refusal::new(2, field));
-        }
         let sizes: Vec<usize> = sizes.iter().copied().map(usize::from).collect();
         let mut count = 1;
         for (field, size) in sizes.iter().enumerate() {
@@ -92,9 +85,9 @@ impl Packets {
     }
 }
 
-/// Turns a packet's number into the values of its fields. Tests 1 to 3, then 13.
-pub fn values(sizes: &[u16], number: u16, values: &mut [u16]) -> Result<(), Refusal> {
-    let packets = Packets::new(sizes)?;
+/// Turns a packet's number into the values of its fields. Tests the tables, 3, then 13.
+pub fn values(tables: Tables, number: u16, values: &mut [u16]) -> Result<(), Refusal> {
+    let packets = names::packets(tables)?;
     if values.len() != packets.fields() {
         return Err(Refusal::new(13, packets.fields()));
     }
@@ -108,13 +101,14 @@ pub fn values(sizes: &[u16], number: u16, values: &mut [u16]) -> Result<(), Refu
     Ok(())
 }
 
-/// Turns the values of all fields into the packet's number. Tests 1 to 3, then 13.
-pub fn number(sizes: &[u16], values: &[u16]) -> Result<u16, Refusal> {
-    let packets = Packets::new(sizes)?;
+/// Turns the values of all fields into the packet's number. Tests the tables, 3, then 13.
+pub fn number(tables: Tables, values: &[u16]) -> Result<u16, Refusal> {
+    let packets = names::packets(tables)?;
     if values.len() != packets.fields() {
         return Err(Refusal::new(13, packets.fields()));
     }
-    if let Some(field) = (0..values.len()).find(|&field| values[field] >= sizes[field]) {
+    let outside = |(&value, &size): (&u16, &usize)| usize::from(value) >= size;
+    if let Some(field) = values.iter().zip(&packets.sizes).position(outside) {
         return Err(Refusal::new(13, field));
     }
     let number: usize = values

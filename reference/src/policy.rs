@@ -1,6 +1,7 @@
 //! Policies as node lists, and when a list is legal.
 
 use crate::answer::Refusal;
+use crate::names::{self, Tables};
 use crate::packets::Packets;
 
 /// Most nodes of a policy.
@@ -276,17 +277,17 @@ pub fn single(packets: &Packets, lists: NodeLists) -> Result<Policy, Refusal> {
     Ok(Policy::from_legal(lists))
 }
 
-/// Tests two policies by 1 to 8, 19 and 9, and answers the number of dups of each.
+/// Tests the tables, 3, then two policies by 4 to 8, 19 and 9, and answers the number of dups of each.
 pub fn check_pair(
-    sizes: &[u16],
+    tables: Tables,
     left: NodeLists,
     right: NodeLists,
 ) -> Result<(usize, usize), Refusal> {
-    let (left, right) = pair(&Packets::new(sizes)?, left, right)?;
+    let (left, right) = pair(&names::packets(tables)?, left, right)?;
     Ok((left.dups(), right.dups()))
 }
 
-/// Tests one policy by 1 to 8, 19 and 9, and answers its number of dups.
-pub fn check(sizes: &[u16], lists: NodeLists) -> Result<usize, Refusal> {
-    Ok(single(&Packets::new(sizes)?, lists)?.dups())
+/// Tests the tables, 3, then one policy by 4 to 8, 19 and 9, and answers its number of dups.
+pub fn check(tables: Tables, lists: NodeLists) -> Result<usize, Refusal> {
+    Ok(single(&names::packets(tables)?, lists)?.dups())
 }

@@ -1,6 +1,7 @@
-//! The program: three lines in, three-field lines out.
+//! The program: four lines in, three-field lines out.
 
 use crate::answer::{Refusal, Side, Verdict};
+use crate::names::{OwnedTable, OwnedTables};
 use crate::search::{search_texts, Lists, LEAST_WORK};
 use crate::text::number_word;
 
@@ -20,21 +21,46 @@ fn lines(input: &[u8]) -> Vec<&[u8]> {
     lines
 }
 
-/// An input taken apart.
-type Request<'a> = (Vec<u16>, &'a [u8], &'a [u8]);
+/// An input taken apart: tables, left text, right text.
+type Request<'a> = (OwnedTables, &'a [u8], &'a [u8]);
 
-/// Sizes, left text and right text; 18 if the input is not of that form.
+/// 18 if the input is not of that form.
 fn parse(input: &[u8]) -> Result<Request<'_>, Refusal> {
     let malformed = Refusal::new(18, 0);
     if input.len() > MOST_INPUT {
         return Err(malformed);
     }
-    let (sizes, left, right) = match lines(input)[..] {
-        [sizes, left, right] => (sizes, left, right),
+    let (names, left, right) = match lines(input)[..] {
+        [one, other, left, right] => ((table(one), table(other)), left, right),
         _ => return Err(malformed),
     };
-    let sizes: Option<Vec<u16>> = sizes.split(|&byte| byte == b',').map(number_word).collect();
-    Ok((sizes.ok_or(malformed)?, left, right))
+    match names {
+        (Some(one), Some(other)) => {
+            let tables = OwnedTables {
+                left: one,
+                right: other,
+            };
+            Ok((tables, left, right))
+        }
+        _ => Err(malformed),
+    }
+}
+
+/// The table of a line; an empty line is an empty table.
+fn table(line: &[u8]) -> Option<OwnedTable> {
+    if line.is_empty() {
+        return Some(OwnedTable::default());
+    }
+    line.split(|&byte| byte == b',').map(entry).collect()
+}
+
+/// A name, which may be any bytes here, and its size, with just one `=` between them.
+fn entry(entry: &[u8]) -> Option<(&[u8], u16)> {
+    let mut parts = entry.split(|&byte| byte == b'=');
+    match (parts.next(), parts.next(), parts.next()) {
+        (Some(name), Some(size), None) => Some((name, number_word(size)?)),
+        _ => None,
+    }
 }
 
 /// The output as it grows.
@@ -65,7 +91,7 @@ impl Output {
 pub fn run(input: &[u8]) -> Vec<u8> {
     let mut lists = Lists::new(ROWS, ROWS, LEAST_WORK);
     let answer = parse(input)
-        .and_then(|(sizes, left, right)| search_texts(&sizes, left, right, lists.lend()));
+        .and_then(|(tables, left, right)| search_texts(tables.lend(), left, right, lists.lend()));
     let mut output = Output::default();
     match answer {
         Ok(Verdict::Equal { rows }) => {

@@ -3,6 +3,7 @@
 use crate::answer::{Refusal, Side, Verdict};
 use crate::automaton::{Automaton, State, Step, START};
 use crate::index::RowSet;
+use crate::names::{self, Fields, Tables};
 use crate::packets::{set, Packets};
 use crate::policy::{self, NodeLists, Policy, MOST_NODES};
 use crate::text;
@@ -89,27 +90,27 @@ pub(crate) fn test_work(work: usize) -> Result<(), Refusal> {
     Ok(())
 }
 
-/// Searches two policies. Tests 1 to 8, 19, 9 to 12.
+/// Searches two policies. Tests the tables, 3, then 4 to 8, 19, 9 to 12.
 pub fn search(
-    sizes: &[u16],
+    tables: Tables,
     left: NodeLists,
     right: NodeLists,
     lent: Lent,
 ) -> Result<Verdict, Refusal> {
-    let packets = Packets::new(sizes)?;
-    compare(&packets, left, right, lent)
+    compare(&names::packets(tables)?, left, right, lent)
 }
 
-/// Searches two texts. Tests 1 to 3, then 14 to 17 on each text, then 4 to 8, 19, 9 to 12.
+/// Searches two texts. Tests the tables, 3, then 14 to 17 on each text, then 4 to 8, 19, 9 to 12.
 pub fn search_texts(
-    sizes: &[u16],
+    tables: Tables,
     left: &[u8],
     right: &[u8],
     lent: Lent,
 ) -> Result<Verdict, Refusal> {
-    let packets = Packets::new(sizes)?;
-    let left = text::nodes(left, MOST_NODES)?;
-    let right = text::nodes(right, MOST_NODES)?;
+    let fields = Fields::new(tables)?;
+    let packets = fields.packets()?;
+    let left = text::nodes(&fields, Side::Left, left, MOST_NODES)?;
+    let right = text::nodes(&fields, Side::Right, right, MOST_NODES)?;
     compare(&packets, left.lists(), right.lists(), lent)
 }
 

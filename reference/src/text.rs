@@ -1,7 +1,7 @@
 //! The text notation: tokens, grammar, nodes.
 
-use crate::answer::Refusal;
-use crate::packets::MOST_FIELDS;
+use crate::answer::{Refusal, Side};
+use crate::names::{Fields, Tables};
 use crate::policy::{kind, OwnedLists, MOST_NODES};
 
 /// Most parentheses open at once.
@@ -41,21 +41,25 @@ pub fn number_word(word: &[u8]) -> Option<u16> {
     u16::try_from(number).ok()
 }
 
+/// The names that a text may use: those of its side's table.
+#[derive(Clone, Copy)]
+struct Names<'a>(&'a Fields, Side);
+
 /// The token that a word is.
-fn word_token(word: &[u8]) -> Option<Token> {
+fn word_token(names: Names, word: &[u8]) -> Option<Token> {
     match word {
         b"drop" => Some(Token::Drop),
         b"id" => Some(Token::Id),
         b"dup" => Some(Token::Dup),
-        [b'f', digit] if (b'0'..b'0' + MOST_FIELDS as u8).contains(digit) => {
-            Some(Token::Field(u16::from(digit - b'0')))
-        }
-        _ => number_word(word).map(Token::Number),
+        _ => match names.0.number(names.1, word) {
+            Some(field) => Some(Token::Field(field)),
+            None => number_word(word).map(Token::Number),
+        },
     }
 }
 
 /// The token at the head of a non-empty text, and its length.
-fn head(text: &[u8]) -> Option<(Token, usize)> {
+fn head(names: Names, text: &[u8]) -> Option<(Token, usize)> {
     let token = match text {
         [b'=', ..] => (Token::Equals, 1),
         [b'!', b'=', ..] => (Token::Differs, 2),
@@ -71,14 +75,14 @@ fn head(text: &[u8]) -> Option<(Token, usize)> {
                 .iter()
                 .position(|byte| !byte.is_ascii_alphanumeric())
                 .unwrap_or(text.len());
-            (word_token(&text[..length])?, length)
+            (word_token(names, &text[..length])?, length)
         }
     };
     Some(token)
 }
 
 /// Splits a text into tokens; 14 where that fails.
-fn tokens(text: &[u8]) -> Result<Vec<Placed>, Refusal> {
+fn tokens(names: Names, text: &[u8]) -> Result<Vec<Placed>, Refusal> {
     let mut tokens = Vec::new();
     let mut at = 0;
     while at < text.len() {
@@ -86,7 +90,7 @@ fn tokens(text: &[u8]) -> Result<Vec<Placed>, Refusal> {
             at += 1;
             continue;
         }
-        let (token, length) = head(&text[at..]).ok_or(Refusal::new(14, at))?;
+        let (token, length) = head(names, &text[at..]).ok_or(Refusal::new(14, at))?;
         tokens.push((token, at));
         at += length;
     }
@@ -234,9 +238,9 @@ impl Parser<'_> {
     }
 }
 
-/// The nodes of a text of at most `room` nodes. Tests 14 to 17.
-pub fn nodes(text: &[u8], room: usize) -> Result<OwnedLists, Refusal> {
-    let tokens = tokens(text)?;
+/// The nodes of a side's text of at most `room` nodes. Tests 14 to 17.
+pub fn nodes(fields: &Fields, side: Side, text: &[u8], room: usize) -> Result<OwnedLists, Refusal> {
+    let tokens = tokens(Names(fields, side), text)?;
     test_parentheses(&tokens)?;
     let mut parser = Parser {
         tokens: &tokens,
@@ -255,15 +259,18 @@ pub fn nodes(text: &[u8], room: usize) -> Result<OwnedLists, Refusal> {
     Ok(lists)
 }
 
-/// Reads a text into lent lists and answers the node count. Tests 14 to 17; a refusal writes nothing.
+/// Reads a side's text into lent lists and answers the node count. Tests the tables, then 14 to 17; a refusal writes
+/// nothing.
 pub fn read(
+    tables: Tables,
+    side: Side,
     text: &[u8],
     kind: &mut [u8],
     first: &mut [u16],
     second: &mut [u16],
 ) -> Result<usize, Refusal> {
     let room = kind.len().min(first.len()).min(second.len());
-    let nodes = nodes(text, room)?;
+    let nodes = nodes(&Fields::new(tables)?, side, text, room)?;
     let count = nodes.kind.len();
     kind[..count].copy_from_slice(&nodes.kind);
     first[..count].copy_from_slice(&nodes.first);

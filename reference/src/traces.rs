@@ -2,20 +2,21 @@
 
 use crate::answer::{Holders, Refusal};
 use crate::automaton::{Automaton, Step, START};
+use crate::names::{self, Tables};
 use crate::packets::{set, Packets};
 use crate::policy::{self, NodeLists, Policy};
 use crate::search::test_work;
 
-/// Checks a trace. Tests 1 to 8, 19, 9, 10 for the work list, then 13.
+/// Checks a trace. Tests the tables, 3, 4 to 8, 19, 9, 10 for the work list, then 13.
 pub fn check(
-    sizes: &[u16],
+    tables: Tables,
     left: NodeLists,
     right: NodeLists,
     entering: u16,
     trace: &[u16],
     work: &mut [u32],
 ) -> Result<Holders, Refusal> {
-    let packets = Packets::new(sizes)?;
+    let packets = names::packets(tables)?;
     let (left, right) = policy::pair(&packets, left, right)?;
     test_work(work.len())?;
     work.fill(0);

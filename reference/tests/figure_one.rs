@@ -1,6 +1,8 @@
 //! The search against the definitions, followed to the letter and without any automaton: trace sets enumerated as in
 //! Figure 1 up to a length, right spines as terms, the row order by scanning.
 
+mod common;
+
 use std::collections::BTreeSet;
 
 use netkat_reference::answer::{Holders, Refusal, Ruling, Side, Verdict};
@@ -11,6 +13,8 @@ use netkat_reference::policy::{kind, OwnedLists};
 use netkat_reference::random::Random;
 use netkat_reference::search::{search, Lists, LEAST_WORK};
 use netkat_reference::traces;
+
+use common::tables;
 
 /// A policy as a term; dups carry their numbers.
 #[derive(Clone, Debug)]
@@ -285,7 +289,13 @@ fn verdicts_agree_with_figure_one() {
         let (left, right) = pair(&mut random, sizes);
         let (left_term, right_term) = (term(&left), term(&right));
         let mut lists = Lists::new(5000, 5000, LEAST_WORK);
-        let answer = search(sizes, left.lists(), right.lists(), lists.lend()).unwrap();
+        let answer = search(
+            tables(sizes).lend(),
+            left.lists(),
+            right.lists(),
+            lists.lend(),
+        )
+        .unwrap();
         let same_to = |most| {
             packets(sizes)
                 .iter()
@@ -336,7 +346,12 @@ fn rows_are_the_row_order() {
         let mut lists = Lists::new(room, 100, LEAST_WORK);
         lists.packet.fill(77);
         lists.parent.fill(78);
-        let answer = search(sizes, left.lists(), right.lists(), lists.lend());
+        let answer = search(
+            tables(sizes).lend(),
+            left.lists(),
+            right.lists(),
+            lists.lend(),
+        );
         for row in 0..room {
             let listed = (
                 lists.packet[row].into(),
@@ -418,7 +433,12 @@ fn run(
     rows: usize,
 ) -> (Result<Verdict, Refusal>, usize) {
     let mut lists = Lists::new(rows, 3000, LEAST_WORK);
-    let answer = search(sizes, left.lists(), right.lists(), lists.lend());
+    let answer = search(
+        tables(sizes).lend(),
+        left.lists(),
+        right.lists(),
+        lists.lend(),
+    );
     // No row has two empty states.
     let states = lists.left.iter().zip(&lists.right);
     let listed = states.take_while(|&(left, right)| left | right != 0);
@@ -451,7 +471,14 @@ fn traces_agree_with_figure_one() {
         seen[kind] += 1;
         let mut work = vec![1; LEAST_WORK];
         let (left, right) = (left.lists(), right.lists());
-        let answer = traces::check(sizes, left, right, entering, &trace, &mut work);
+        let answer = traces::check(
+            tables(sizes).lend(),
+            left,
+            right,
+            entering,
+            &trace,
+            &mut work,
+        );
         assert_eq!(answer, Ok(expected));
     }
     assert!(seen.iter().all(|&count| count > 20), "{seen:?}");
@@ -535,7 +562,13 @@ fn tables_are_ruled_on_by_the_row_rules() {
             right: &right_states,
         };
         let mut work = vec![1; LEAST_WORK];
-        let answer = evidence::check(sizes, left.lists(), right.lists(), table, &mut work);
+        let answer = evidence::check(
+            tables(sizes).lend(),
+            left.lists(),
+            right.lists(),
+            table,
+            &mut work,
+        );
         assert_eq!(answer, Ok(expected));
         let record = |&(packet, left, right): &(usize, u64, u64)| Record {
             packet: packet as u16,
@@ -545,7 +578,8 @@ fn tables_are_ruled_on_by_the_row_rules() {
         };
         let records: Vec<Record> = rows.iter().map(record).collect();
         let (left, right) = (left.lists(), right.lists());
-        let answer = evidence::check_records(sizes, left, right, &records, &mut work);
+        let answer =
+            evidence::check_records(tables(sizes).lend(), left, right, &records, &mut work);
         assert_eq!(answer, Ok(expected));
     }
     assert!(seen.iter().all(|&count| count > 50), "{seen:?}");

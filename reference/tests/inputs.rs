@@ -2,8 +2,8 @@
 
 mod common;
 
-use common::nodes;
-use netkat_reference::answer::Refusal;
+use common::{nodes, read, tables};
+use netkat_reference::answer::{Refusal, Side};
 use netkat_reference::generate::heavy;
 use netkat_reference::policy::{self, OwnedLists};
 use netkat_reference::program;
@@ -15,7 +15,7 @@ fn refusal<T>(number: u8, place: usize) -> Result<T, Refusal> {
 
 #[test]
 fn sizes() {
-    let check = |sizes: &[u16]| packets::values(sizes, 0, &mut vec![9; sizes.len()]);
+    let check = |sizes: &[u16]| packets::values(tables(sizes).lend(), 0, &mut vec![9; sizes.len()]);
     assert_eq!(check(&[]), refusal(1, 0));
     assert_eq!(check(&[0; 9]), refusal(1, 0));
     assert_eq!(check(&[2; 8]), Ok(()));
@@ -29,21 +29,22 @@ fn sizes() {
 
 #[test]
 fn turning() {
-    let sizes = [2, 3, 4];
+    let tables = tables(&[2, 3, 4]);
+    let tables = tables.lend();
     for number in 0..24 {
         let mut values = [9; 3];
-        assert_eq!(packets::values(&sizes, number, &mut values), Ok(()));
+        assert_eq!(packets::values(tables, number, &mut values), Ok(()));
         assert_eq!(values, [number / 12, number / 4 % 3, number % 4]);
-        assert_eq!(packets::number(&sizes, &values), Ok(number));
+        assert_eq!(packets::number(tables, &values), Ok(number));
     }
     let mut values = [9; 3];
-    assert_eq!(packets::values(&sizes, 24, &mut values), refusal(13, 0));
+    assert_eq!(packets::values(tables, 24, &mut values), refusal(13, 0));
     assert_eq!(values, [9; 3]);
-    assert_eq!(packets::values(&sizes, 99, &mut [9; 2]), refusal(13, 3));
-    assert_eq!(packets::number(&sizes, &[9; 4]), refusal(13, 3));
-    assert_eq!(packets::number(&sizes, &[]), refusal(13, 3));
-    assert_eq!(packets::number(&sizes, &[0, 3, 4]), refusal(13, 1));
-    assert_eq!(packets::number(&sizes, &[2, 3, 4]), refusal(13, 0));
+    assert_eq!(packets::values(tables, 99, &mut [9; 2]), refusal(13, 3));
+    assert_eq!(packets::number(tables, &[9; 4]), refusal(13, 3));
+    assert_eq!(packets::number(tables, &[]), refusal(13, 3));
+    assert_eq!(packets::number(tables, &[0, 3, 4]), refusal(13, 1));
+    assert_eq!(packets::number(tables, &[2, 3, 4]), refusal(13, 0));
 }
 
 /// Lists from nodes.
@@ -57,7 +58,8 @@ fn lists(given: &[(u8, u16, u16)]) -> OwnedLists {
 
 #[test]
 fn node_lists() {
-    let check = |given: &[(u8, u16, u16)]| policy::check(&[2, 3], lists(given).lists());
+    let check =
+        |given: &[(u8, u16, u16)]| policy::check(tables(&[2, 3]).lend(), lists(given).lists());
     assert_eq!(check(&[]), refusal(4, 0));
     assert_eq!(check(&[(1, 0, 0)]), Ok(0));
     assert_eq!(check(&[(5, 0, 0)]), Ok(1));
@@ -99,20 +101,29 @@ fn node_lists() {
     // Dups.
     let dups = |count: usize| nodes(&vec!["dup"; count].join("+"));
     for count in [31, 32, 33, 62, 63] {
-        assert_eq!(policy::check(&[1], dups(count).lists()), Ok(count));
+        assert_eq!(
+            policy::check(tables(&[1]).lend(), dups(count).lists()),
+            Ok(count)
+        );
     }
-    assert_eq!(policy::check(&[1], dups(64).lists()), refusal(9, 125));
-    assert_eq!(policy::check(&[1], dups(200).lists()), refusal(9, 125));
+    assert_eq!(
+        policy::check(tables(&[1]).lend(), dups(64).lists()),
+        refusal(9, 125)
+    );
+    assert_eq!(
+        policy::check(tables(&[1]).lend(), dups(200).lists()),
+        refusal(9, 125)
+    );
     // Lengths.
     let mut long = lists(&[(1, 0, 0)]);
     while long.kind.len() < 512 {
         long.push(8, long.kind.len() as u16 - 1, 0);
     }
-    assert_eq!(policy::check(&[1], long.lists()), Ok(0));
+    assert_eq!(policy::check(tables(&[1]).lend(), long.lists()), Ok(0));
     let shorter = |change: fn(&mut OwnedLists)| {
         let mut lists = long.clone();
         change(&mut lists);
-        policy::check(&[1], lists.lists())
+        policy::check(tables(&[1]).lend(), lists.lists())
     };
     assert_eq!(shorter(|lists| lists.kind.truncate(511)), refusal(4, 0));
     assert_eq!(shorter(|lists| lists.first.truncate(511)), refusal(4, 0));
@@ -127,7 +138,7 @@ fn node_lists() {
 
 #[test]
 fn negated_kinds() {
-    let check = |text: &str| policy::check(&[2, 3], nodes(text).lists());
+    let check = |text: &str| policy::check(tables(&[2, 3]).lend(), nodes(text).lists());
     for legal in [
         "!drop",
         "!id",
@@ -164,7 +175,10 @@ fn negated_kinds() {
     }
     // The lowest in number, whichever is inner or stands to the left.
     let apart = [(5, 0, 0), (1, 0, 0), (9, 1, 0), (9, 0, 0), (6, 3, 2)];
-    assert_eq!(policy::check(&[1], lists(&apart).lists()), refusal(19, 3));
+    assert_eq!(
+        policy::check(tables(&[1]).lend(), lists(&apart).lists()),
+        refusal(19, 3)
+    );
     // 512 nodes, nested as deep as can be.
     let nested = format!("{}f0=0", "!".repeat(511));
     assert_eq!(check(&nested), Ok(0));
@@ -176,7 +190,13 @@ fn negated_kinds() {
 fn causes_go_before_sides() {
     let search = |left: &OwnedLists, right: &OwnedLists| {
         let mut lent = search::Lists::new(9, 9, 0);
-        search::search(&[2], left.lists(), right.lists(), lent.lend()).unwrap_err()
+        search::search(
+            tables(&[2]).lend(),
+            left.lists(),
+            right.lists(),
+            lent.lend(),
+        )
+        .unwrap_err()
     };
     let empty = lists(&[]);
     let unknown = lists(&[(10, 0, 0)]);
@@ -205,11 +225,6 @@ fn causes_go_before_sides() {
         }
     }
     assert_eq!(search(&legal, &legal), Refusal::new(10, 0));
-}
-
-/// Reads a text into lists of 512.
-fn read(text: &str) -> Result<OwnedLists, Refusal> {
-    text::nodes(text.as_bytes(), 512)
 }
 
 fn refused(text: &str) -> (u8, u64) {
@@ -419,6 +434,17 @@ fn what_no_legal_text_continues_with() {
     }
 }
 
+/// Reads a text over f0 to f7 into lent lists.
+fn read_into(
+    text: &[u8],
+    kind: &mut [u8],
+    first: &mut [u16],
+    second: &mut [u16],
+) -> Result<usize, Refusal> {
+    let eight = tables(&[1; 8]);
+    text::read(eight.lend(), Side::Left, text, kind, first, second)
+}
+
 #[test]
 fn node_counts() {
     let stars = |count| format!("id{}", "*".repeat(count));
@@ -429,19 +455,19 @@ fn node_counts() {
     assert_eq!(refused(&format!("{};", stars(600))), (16, 603));
     // Lent lists.
     let (mut kind, mut first, mut second) = ([9; 5], [9; 4], [9; 3]);
-    let count = text::read(b"f1<-2*", &mut kind, &mut first, &mut second);
+    let count = read_into(b"f1<-2*", &mut kind, &mut first, &mut second);
     assert_eq!(count, Ok(2));
     assert_eq!(kind, [4, 8, 9, 9, 9]);
     assert_eq!(first, [1, 0, 9, 9]);
     assert_eq!(second, [2, 0, 9]);
-    let count = text::read(b"f1<-2***", &mut kind, &mut first, &mut second);
+    let count = read_into(b"f1<-2***", &mut kind, &mut first, &mut second);
     assert_eq!(count, refusal(17, 4));
     assert_eq!(kind, [4, 8, 9, 9, 9]);
     assert_eq!(
-        text::read(b"id", &mut [], &mut [0], &mut [0]),
+        read_into(b"id", &mut [], &mut [0], &mut [0]),
         refusal(17, 1)
     );
-    assert_eq!(text::read(b"", &mut [], &mut [], &mut []), refusal(16, 0));
+    assert_eq!(read_into(b"", &mut [], &mut [], &mut []), refusal(16, 0));
 }
 
 fn program(input: &str) -> String {
@@ -451,14 +477,17 @@ fn program(input: &str) -> String {
 #[test]
 fn the_example() {
     let output = "equal,4,0\r\n0,1,1\r\n1,1,1\r\n0,2,2\r\n1,0,2\r\n";
-    assert_eq!(program("2\nf0=0;dup\ndup;f0=0\n"), output);
-    assert_eq!(program("2\r\nf0=0;dup\r\ndup;f0=0\r\n"), output);
-    assert_eq!(program("2\r\nf0=0;dup\ndup;f0=0"), output);
+    assert_eq!(program("f0=2\nf0=2\nf0=0;dup\ndup;f0=0\n"), output);
+    assert_eq!(program("f0=2\r\nf0=2\r\nf0=0;dup\r\ndup;f0=0\r\n"), output);
+    assert_eq!(program("f0=2\r\nf0=2\r\nf0=0;dup\ndup;f0=0"), output);
     assert_eq!(
-        program("1\ndup\ndup;dup\n"),
+        program("f0=1\nf0=1\ndup\ndup;dup\n"),
         "left,2,0\r\n1,0,0\r\n2,0,1\r\n"
     );
-    assert_eq!(program("3\nf0=0+f0=1\nid"), "right,1,2\r\n1,2,1\r\n");
+    assert_eq!(
+        program("f0=3\nf0=3\nf0=0+f0=1\nid"),
+        "right,1,2\r\n1,2,1\r\n"
+    );
 }
 
 #[test]
@@ -466,39 +495,39 @@ fn program_inputs() {
     for (input, number, place) in [
         ("", 18, 0),
         ("\n", 18, 0),
-        ("2\nid\n", 18, 0),
-        ("2\nid\n\n", 16, 0),
-        ("2\nid\n\r\n", 16, 0),
-        ("2\nid\nid\n\n", 18, 0),
-        ("2\nid\nid\n\r", 18, 0),
-        ("2\nid\nid\r", 14, 2),
-        ("2\nid\r\r\nid", 14, 2),
-        ("2\r\r\nid\nid", 18, 0),
-        ("\nid\nid", 18, 0),
-        ("2,\nid\nid", 18, 0),
-        ("2, 2\nid\nid", 18, 0),
-        ("02\nid\nid", 18, 0),
-        ("65536\nid\nid", 18, 0),
-        ("65535\n?\nid", 3, 0),
-        ("0\n?\nid", 2, 0),
-        ("1,1,1,1,1,1,1,1,0\n?\nid", 1, 0),
-        ("5,205\n?\nid", 3, 1),
-        ("2\n?\n?", 14, 0),
-        ("2\nid\n id ?", 14, 4),
-        ("2\nid;f0=2\nf0=2", 6, 1),
-        ("2\nid\nid;f1=0", 6, 1),
-        ("2\n!!dup\nid", 19, 1),
-        ("2\nid\n!(f0=0+dup)", 19, 3),
-        ("2\n!(f0=0*)\n!dup", 19, 2),
-        ("2\n!\n!!dup", 16, 1),
-        ("2\n!dup\nf0 ! = 0", 16, 3),
-        ("2\n!dup\nf0=2", 6, 0),
+        ("f0=2\nf0=2\nid\n", 18, 0),
+        ("f0=2\nf0=2\nid\n\n", 16, 0),
+        ("f0=2\nf0=2\nid\n\r\n", 16, 0),
+        ("f0=2\nf0=2\nid\nid\n\n", 18, 0),
+        ("f0=2\nf0=2\nid\nid\n\r", 18, 0),
+        ("f0=2\nf0=2\nid\nid\r", 14, 2),
+        ("f0=2\nf0=2\nid\r\r\nid", 14, 2),
+        ("f0=2\r\r\nf0=2\nid\nid", 18, 0),
+        ("\nid\nid\n", 18, 0),
+        ("2\n2\nid\nid", 18, 0),
+        ("f0=2, f1=2\nf0=2\nid\nid", 20, 1),
+        ("f0=02\nf0=02\nid\nid", 18, 0),
+        ("f0=65536\nf0=65536\nid\nid", 18, 0),
+        ("f0=65535\nf0=65535\n?\nid", 3, 0),
+        ("f0=0\nf0=0\n?\nid", 2, 0),
+        ("f0=1,f1=1,f2=1,f3=1,f4=1,f5=1,f6=1,f7=1,f8=0\nf0=1,f1=1,f2=1,f3=1,f4=1,f5=1,f6=1,f7=1,f8=0\n?\nid", 1, 0),
+        ("f0=5,f1=205\nf0=5,f1=205\n?\nid", 3, 1),
+        ("f0=2\nf0=2\n?\n?", 14, 0),
+        ("f0=2\nf0=2\nid\n id ?", 14, 4),
+        ("f0=2\nf0=2\nid;f0=2\nf0=2", 6, 1),
+        ("f0=2\nf0=2\nid\nid;f1=0", 14, 3),
+        ("f0=2\nf0=2\n!!dup\nid", 19, 1),
+        ("f0=2\nf0=2\nid\n!(f0=0+dup)", 19, 3),
+        ("f0=2\nf0=2\n!(f0=0*)\n!dup", 19, 2),
+        ("f0=2\nf0=2\n!\n!!dup", 16, 1),
+        ("f0=2\nf0=2\n!dup\nf0 ! = 0", 16, 3),
+        ("f0=2\nf0=2\n!dup\nf0=2", 6, 0),
     ] {
         let expected = format!("refused,{number},{place}\r\n");
         assert_eq!(program(input), expected, "{input:?}");
     }
     let padded = |length: usize| {
-        let mut input = "2\nid\nid".to_string();
+        let mut input = "f0=2\nf0=2\nid\nid".to_string();
         input.push_str(&" ".repeat(length - input.len()));
         program(&input)
     };
@@ -510,7 +539,7 @@ fn program_inputs() {
 fn the_program_lends_4096_rows() {
     // The starting rows and three more for each fit, four don't.
     let chain = |dups: usize| vec!["dup"; dups].join(";");
-    let run = |dups| program(&format!("1024\n{0}\n{0}", chain(dups)));
+    let run = |dups| program(&format!("f0=1024\nf0=1024\n{0}\n{0}", chain(dups)));
     assert!(run(3).starts_with("equal,4096,0\r\n"));
     assert_eq!(run(4), "refused,11,4096\r\n");
 }
@@ -524,11 +553,11 @@ fn the_program_prints_states_of_64_bits() {
     assert_eq!(output.len(), 14 + 5 * 7 + 4060 * 45);
     let dups = |count: usize| vec!["dup"; count].join("+");
     assert_eq!(
-        program(&format!("1\n{}\n{}\n", dups(63), dups(62))),
+        program(&format!("f0=1\nf0=1\n{}\n{}\n", dups(63), dups(62))),
         "equal,2,0\r\n0,1,1\r\n0,18446744073709551614,9223372036854775806\r\n"
     );
     assert_eq!(
-        program(&format!("1\nid\n{}\n", dups(64))),
+        program(&format!("f0=1\nf0=1\nid\n{}\n", dups(64))),
         "refused,9,125\r\n"
     );
 }

@@ -4,7 +4,7 @@ mod common;
 
 use std::collections::BTreeSet;
 
-use common::{nodes, search, search_with, Outcome};
+use common::{nodes, search, search_with, tables, Outcome};
 use netkat_reference::answer::{Holders, Numbered, Refusal, Ruling, Side, Verdict};
 use netkat_reference::evidence::{self, Record, Table};
 use netkat_reference::generate::{case, heavy, Extent};
@@ -41,7 +41,7 @@ fn different(sizes: &[u16], left: &str, right: &str, side: Side, entering: u16, 
     let mut work = vec![7; LEAST_WORK];
     assert_eq!(
         traces::check(
-            sizes,
+            tables(sizes).lend(),
             one.lists(),
             other.lists(),
             entering,
@@ -148,17 +148,20 @@ fn every_call_on_policies_tests_what_is_negated() {
         left: &[9],
         right: &[9],
     };
-    let ruling = evidence::check(&[2], left, right, table, &mut work);
+    let ruling = evidence::check(tables(&[2]).lend(), left, right, table, &mut work);
     assert_eq!(ruling, Err(refused.on(2)));
-    let holders = traces::check(&[2], right, left, 9, &[9], &mut work);
+    let holders = traces::check(tables(&[2]).lend(), right, left, 9, &[9], &mut work);
     assert_eq!(holders, Err(refused.on(1)));
     assert!(work.iter().all(|&word| word == 3));
-    assert_eq!(policy::check(&[2], right), Err(refused));
-    assert_eq!(policy::check_pair(&[2], left, right), Err(refused.on(2)));
+    assert_eq!(policy::check(tables(&[2]).lend(), right), Err(refused));
+    assert_eq!(
+        policy::check_pair(tables(&[2]).lend(), left, right),
+        Err(refused.on(2))
+    );
     // Before 10.
-    let answer = evidence::check(&[2], left, right, table, &mut []);
+    let answer = evidence::check(tables(&[2]).lend(), left, right, table, &mut []);
     assert_eq!(answer, Err(refused.on(2)));
-    let answer = evidence::check_records(&[2], left, right, &[], &mut []);
+    let answer = evidence::check_records(tables(&[2]).lend(), left, right, &[], &mut []);
     assert_eq!(answer, Err(refused.on(2)));
 }
 
@@ -185,13 +188,20 @@ fn ruling(sizes: &[u16], left: &str, right: &str, rows: &[(u16, u64, u64)]) -> R
     };
     let mut work = vec![3; LEAST_WORK + 5];
     let (left, right) = (nodes(left), nodes(right));
-    let ruling = evidence::check(sizes, left.lists(), right.lists(), table, &mut work).unwrap();
+    let ruling = evidence::check(
+        tables(sizes).lend(),
+        left.lists(),
+        right.lists(),
+        table,
+        &mut work,
+    )
+    .unwrap();
     assert!(work.iter().all(|&word| word == 0));
     for parent in [0, 65_535] {
         let rows = records(rows, |_| parent);
         work.fill(3);
         let (left, right) = (left.lists(), right.lists());
-        let answer = evidence::check_records(sizes, left, right, &rows, &mut work);
+        let answer = evidence::check_records(tables(sizes).lend(), left, right, &rows, &mut work);
         assert_eq!(answer, Ok(ruling));
         assert!(work.iter().all(|&word| word == 0));
     }
@@ -323,7 +333,7 @@ fn tables_of_records() {
     let check = |rows: &[Record], work| {
         let mut work = vec![3; work];
         let (left, right) = (left.lists(), right.lists());
-        let answer = evidence::check_records(&[2], left, right, rows, &mut work);
+        let answer = evidence::check_records(tables(&[2]).lend(), left, right, rows, &mut work);
         let left_as_was = work.iter().all(|&word| word == 3);
         assert_eq!(left_as_was, answer == Err(Refusal::new(10, 0)));
         answer
@@ -386,7 +396,7 @@ fn lists_of_10() {
         lists.work.fill(5);
         change(&mut lists);
         let before = lists.clone();
-        let answer = search_texts(&[1], b"id", b"drop", lists.lend());
+        let answer = search_texts(tables(&[1]).lend(), b"id", b"drop", lists.lend());
         if answer == Err(Refusal::new(10, 0)) {
             assert_eq!(lists, before);
         } else {
@@ -484,10 +494,11 @@ fn a_trace_that_does_not_fit() {
 fn texts_are_tested_before_policies() {
     let answer = |left: &str, right: &str| search(&[2], left, right).answer.unwrap_err();
     assert_eq!(answer("f0=2", "id id"), Refusal::new(16, 3));
-    assert_eq!(answer("f0=2", "f1=0"), Refusal::new(6, 0).on(1));
-    assert_eq!(answer("id;f0=1", "id;f1=0"), Refusal::new(6, 1).on(2));
+    assert_eq!(answer("f0=2", "f0=3"), Refusal::new(6, 0).on(1));
+    assert_eq!(answer("f0=2", "f1=0"), Refusal::new(14, 0));
+    assert_eq!(answer("id;f0=1", "id;f0=2"), Refusal::new(6, 1).on(2));
     let dups = ["dup"; 64].join(";");
-    assert_eq!(answer(&dups, "id;f1=0"), Refusal::new(6, 1).on(2));
+    assert_eq!(answer(&dups, "id;f0=2"), Refusal::new(6, 1).on(2));
     assert_eq!(answer(&dups, "id"), Refusal::new(9, 125).on(1));
     assert_eq!(answer("id", &dups), Refusal::new(9, 125).on(2));
     assert_eq!(search(&[], "?", "?").answer, Err(Refusal::new(1, 0)));
@@ -502,7 +513,7 @@ fn the_trace_checker() {
     let check = |entering, trace: &[u16], work| {
         let mut work = vec![1; work];
         let answer = traces::check(
-            &[2],
+            tables(&[2]).lend(),
             left.lists(),
             right.lists(),
             entering,
@@ -529,7 +540,7 @@ fn traces_of_negations() {
     let check = |entering, trace: &[u16]| {
         let mut work = vec![1; LEAST_WORK];
         let (left, right) = (left.lists(), right.lists());
-        traces::check(&[3], left, right, entering, trace, &mut work)
+        traces::check(tables(&[3]).lend(), left, right, entering, trace, &mut work)
     };
     assert_eq!(check(0, &[0, 0]), Ok(Holders::Right));
     assert_eq!(check(1, &[1, 1]), Ok(Holders::Left));

@@ -2,12 +2,12 @@
 
 use std::error::Error;
 
-use netkat::{Checker, Holders, Policy, Refusal, Row, Rows, Ruling, Side, Verdict};
+use netkat::{Checker, Holders, Refusal, Row, Rows, Ruling, Side, Tables, Verdict};
 
 fn check(left_text: &str, right_text: &str, lent: usize) -> Result<(), Box<dyn Error>> {
-    let left = Policy::read(left_text.as_bytes())?;
-    let right = Policy::read(right_text.as_bytes())?;
-    let mut checker = Checker::new(&[2]);
+    let mut checker = Checker::new(Tables::shared(&[("sw", 2)]));
+    let left = checker.read(Side::Left, left_text.as_bytes())?;
+    let right = checker.read(Side::Right, right_text.as_bytes())?;
 
     println!("{left_text} against {right_text}");
     let verdict = match checker.search(&left, &right, lent) {
@@ -86,7 +86,7 @@ fn said(ruling: Ruling) -> &'static str {
 }
 
 fn main() -> Result<(), Box<dyn Error>> {
-    check("f0=0;dup", "dup;f0=0", 4096)?;
+    check("sw=0;dup", "dup;sw=0", 4096)?;
     check("dup", "dup;dup", 4096)?;
     check("dup*", "id+dup;dup*", 4)
 }

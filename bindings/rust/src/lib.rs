@@ -1,18 +1,19 @@
 //! NetKAT policy equivalence: a safe wrapper of the verified library.
 //!
 //! ```
-//! use netkat::{Checker, Policy, Verdict};
+//! use netkat::{Checker, Ruling, Side, Tables, Verdict};
 //!
-//! let one = Policy::read(b"f0=0;dup")?;
-//! let other = Policy::read(b"dup;f0=0")?;
-//! let mut checker = Checker::new(&[2]);
+//! // both policies call their fields alike
+//! let mut checker = Checker::new(Tables::shared(&[("sw", 2), ("port", 3)]));
+//! let one = checker.read(Side::Left, b"sw=0;dup;port<-2")?;
+//! let other = checker.read(Side::Right, b"dup;sw=0;port<-2")?;
 //! if let Verdict::Equal(rows) = checker.search(&one, &other, 4096)? {
-//!     assert_eq!(checker.evidence(&one, &other, &rows)?, netkat::Ruling::Accepted);
+//!     assert_eq!(checker.evidence(&one, &other, &rows)?, Ruling::Accepted);
 //! }
 //! # Ok::<(), netkat::Refusal>(())
 //! ```
 //!
-//! [`Checker`] and [`Policy`] own their lists and give typed answers; [`lists`] lends slices of any lengths and gives the eight
+//! [`Checker`], [`Tables`] and [`Policy`] own their lists and give typed answers; [`lists`] lends slices of any lengths and gives the eight
 //! numbers of the C interface; [`raw`] is that interface itself. The library is proved, this wrapper is not.
 //!
 //! A call needs up to 4 MiB of stack, measured at most 2029 KiB: a thread that makes calls is started with at least [`STACK`] (Rust
@@ -29,6 +30,12 @@ pub mod raw;
 use lists::{Columns, Lent, Nodes, Numbers};
 pub use raw::Row;
 
+/// Most bytes of a field's name.
+pub const MOST_NAME: usize = 15;
+/// Bytes of a cell: a name's length, then the name.
+const CELL: usize = MOST_NAME + 1;
+/// Most fields of both tables together.
+pub const MOST_FIELDS: usize = 8;
 /// Most nodes of a policy.
 pub const MOST_NODES: usize = 512;
 /// Most rows of a table.
@@ -53,11 +60,11 @@ pub enum Side {
 /// Why a call gives no result; `include/netkat.h` lists the numbers.
 #[derive(Clone, Copy, Debug, PartialEq, Eq)]
 pub struct Refusal {
-    /// The cause, 1 to 17 or 19.
+    /// The cause, 1 to 17 or 19 to 21.
     pub number: u64,
-    /// The policy it concerns, if it names one.
+    /// The policy or the table that it concerns, if it names one.
     pub side: Option<Side>,
-    /// Field, node, byte, row or length, as the cause says.
+    /// Field, node, byte, row, length or name, as the cause says.
     pub place: u64,
     /// Of 11, how far the two agree: they have the same traces of so many packets or fewer from every packet. No other cause says so.
     pub agreed: Option<u64>,
@@ -67,10 +74,13 @@ impl Refusal {
     /// The cause in words, and what the place counts, if it has one.
     fn words(&self) -> (&'static str, Option<&'static str>) {
         match self.number {
-            1 => ("not 1 to 8 fields", None),
+            1 => ("a table without names, or more than 8 fields", None),
             2 => ("a size is 0", Some("field")),
             3 => ("more than 1,024 packets", Some("up to field")),
-            4 => ("policy lists unequal, empty or over 512 nodes", None),
+            4 => (
+                "lists that don't match, or a policy that is empty or over 512 nodes",
+                None,
+            ),
             5 => ("a kind over 9", Some("node")),
             6 => ("a wrong field, value or unused entry", Some("node")),
             7 => ("a child not below its parent", Some("parent node")),
@@ -88,6 +98,11 @@ impl Refusal {
             16 => ("no legal text goes on so", Some("byte")),
             17 => ("more nodes than fit", Some("nodes needed:")),
             19 => ("a negation over a change, a dup or a star", Some("node")),
+            20 => (
+                "a name that is malformed, there already, or drop, id or dup",
+                Some("name"),
+            ),
+            21 => ("a name with two sizes", Some("name")),
             _ => ("an unknown cause", Some("place")),
         }
     }
@@ -149,37 +164,79 @@ fn ruled(answer: Numbers) -> Result<Ruling, Refusal> {
     }
 }
 
+/// The names of a policy's fields, each with its size; they are tested by each call that takes them.
+#[derive(Clone, Debug, Default, PartialEq, Eq)]
+pub struct Table {
+    cells: Vec<u8>,
+    sizes: Vec<u16>,
+}
+
+impl Table {
+    /// Of these names and sizes, in this order. Any name is stored, and one that is none is refused by 20.
+    pub fn new(fields: &[(&str, u16)]) -> Table {
+        let mut table = Table::default();
+        for (name, size) in fields {
+            table.cells.extend_from_slice(&cell(name.as_bytes()));
+            table.sizes.push(*size);
+        }
+        table
+    }
+
+    fn names(&self) -> lists::Names<'_> {
+        lists::Names {
+            cells: &self.cells,
+            sizes: &self.sizes,
+        }
+    }
+}
+
+/// A name's cell. The length of a name that no cell holds says so, and does not wrap round.
+fn cell(name: &[u8]) -> [u8; CELL] {
+    let mut cell = [0; CELL];
+    let held = name.len().min(MOST_NAME);
+    cell[0] = name.len().min(CELL) as u8;
+    cell[1..=held].copy_from_slice(&name[..held]);
+    cell
+}
+
+/// The tables of two policies. Fields are numbered as in the left one, then those that only the right one has.
+#[derive(Clone, Debug, Default, PartialEq, Eq)]
+pub struct Tables {
+    /// Of the left policy.
+    pub left: Table,
+    /// Of the right policy.
+    pub right: Table,
+}
+
+impl Tables {
+    /// The same names and sizes in both.
+    pub fn shared(fields: &[(&str, u16)]) -> Tables {
+        Tables {
+            left: Table::new(fields),
+            right: Table::new(fields),
+        }
+    }
+
+    fn lists(&self) -> lists::Tables<'_> {
+        lists::Tables {
+            left: self.left.names(),
+            right: self.right.names(),
+        }
+    }
+}
+
 /// A policy as node lists; they are tested by each call that takes them.
 #[derive(Clone, Debug, PartialEq, Eq)]
 pub struct Policy {
     /// Kinds: 0 drop, 1 id, 2 f = v, 3 f ≠ v, 4 f ← v, 5 dup, 6 sum, 7 sequence, 8 star, 9 negation.
     pub kind: Vec<u8>,
-    /// Field or first child.
+    /// Number of a field, or first child.
     pub first: Vec<u16>,
     /// Value or second child.
     pub second: Vec<u16>,
 }
 
 impl Policy {
-    /// Reads a text, as `f0=0;(dup+f1<-2)*;!(f0=0;f1=2)`. Refused by 14 to 17.
-    pub fn read(text: &[u8]) -> Result<Policy, Refusal> {
-        let mut policy = Policy {
-            kind: vec![0; MOST_NODES],
-            first: vec![0; MOST_NODES],
-            second: vec![0; MOST_NODES],
-        };
-        let Policy {
-            kind,
-            first,
-            second,
-        } = &mut policy;
-        let nodes = accepted(lists::read(text, kind, first, second))?[1] as usize;
-        kind.truncate(nodes);
-        first.truncate(nodes);
-        second.truncate(nodes);
-        Ok(policy)
-    }
-
     fn nodes(&self) -> Nodes<'_> {
         Nodes {
             kind: &self.kind,
@@ -242,48 +299,85 @@ pub enum Holders {
     Neither,
 }
 
-/// Calls over fields of given sizes, with a work list that serves them all.
+/// Calls over the fields of two tables, with a work list that serves them all. Every call is refused by 4 without a side, 20, 21, 1 or
+/// 2 where the tables are not legal, and all but [`Checker::read`] by 3.
 #[derive(Clone, Debug)]
 pub struct Checker {
-    sizes: Vec<u16>,
+    tables: Tables,
     work: Vec<u32>,
 }
 
 impl Checker {
-    /// Fields of these sizes, which each call tests.
-    pub fn new(sizes: &[u16]) -> Checker {
+    /// Over the fields of these tables, which each call tests.
+    pub fn new(tables: Tables) -> Checker {
         Checker {
-            sizes: sizes.to_vec(),
+            tables,
             work: vec![0; LEAST_WORK],
         }
     }
 
-    /// The values of a packet's fields. Refused by 1 to 3, 13.
+    /// Reads the text of a side, as `sw=0;(dup+port<-2)*;!(sw=0;port=2)`, over the names of that side's table. Refused by 14 to 17.
+    pub fn read(&self, side: Side, text: &[u8]) -> Result<Policy, Refusal> {
+        let mut policy = Policy {
+            kind: vec![0; MOST_NODES],
+            first: vec![0; MOST_NODES],
+            second: vec![0; MOST_NODES],
+        };
+        let Policy {
+            kind,
+            first,
+            second,
+        } = &mut policy;
+        let side = match side {
+            Side::Left => 1,
+            Side::Right => 2,
+        };
+        let answer = lists::read(self.tables.lists(), side, text, kind, first, second);
+        let nodes = accepted(answer)?[1] as usize;
+        kind.truncate(nodes);
+        first.truncate(nodes);
+        second.truncate(nodes);
+        Ok(policy)
+    }
+
+    /// How many fields both tables together have.
+    pub fn fields(&self) -> Result<usize, Refusal> {
+        // there is a field, so that an empty list is refused by 13, which says how many there are
+        match self.number(&[]) {
+            Err(Refusal {
+                number: 13, place, ..
+            }) => Ok(place as usize),
+            Err(refusal) => Err(refusal),
+            Ok(number) => not_answered([0, number.into(), 0, 0, 0, 0, 0, 0]),
+        }
+    }
+
+    /// The values of a packet's fields. Refused by 13.
     pub fn values(&self, number: u16) -> Result<Vec<u16>, Refusal> {
-        let mut values = vec![0; self.sizes.len()];
-        accepted(lists::values(&self.sizes, number, &mut values))?;
+        let mut values = vec![0; self.fields()?];
+        accepted(lists::values(self.tables.lists(), number, &mut values))?;
         Ok(values)
     }
 
-    /// The number of the packet with these values. Refused by 1 to 3, 13.
+    /// The number of the packet with these values. Refused by 13.
     pub fn number(&self, values: &[u16]) -> Result<u16, Refusal> {
-        Ok(accepted(lists::number(&self.sizes, values))?[1] as u16)
+        Ok(accepted(lists::number(self.tables.lists(), values))?[1] as u16)
     }
 
-    /// The number of dups of a policy. Refused by 1 to 9, 19.
+    /// The number of dups of a policy. Refused by 4 to 9, 19.
     pub fn dups(&self, policy: &Policy) -> Result<u8, Refusal> {
-        Ok(accepted(lists::policy(&self.sizes, policy.nodes()))?[1] as u8)
+        Ok(accepted(lists::policy(self.tables.lists(), policy.nodes()))?[1] as u8)
     }
 
-    /// The numbers of dups of two policies, left and right. Refused by 1 to 9, 19, each of 4 to 9 and 19 with its side.
+    /// The numbers of dups of two policies, left and right. Refused by 4 to 9, 19, each with its side.
     pub fn dups_of_both(&self, left: &Policy, right: &Policy) -> Result<(u8, u8), Refusal> {
-        let answer = lists::policies(&self.sizes, left.nodes(), right.nodes());
+        let answer = lists::policies(self.tables.lists(), left.nodes(), right.nodes());
         let answer = accepted(answer)?;
         Ok((answer[1] as u8, answer[2] as u8))
     }
 
     /// Have two policies the same traces from every packet? The search lists at most so many rows; if it needs more, it is
-    /// refused by 11, which says how far the two agree ([`Refusal::agreed`]), and if that is over [`MOST_ROWS`], by 10. Refused by 1 to
+    /// refused by 11, which says how far the two agree ([`Refusal::agreed`]), and if that is over [`MOST_ROWS`], by 10. Refused by 4 to
     /// 11, 19.
     pub fn search(
         &mut self,
@@ -292,27 +386,28 @@ impl Checker {
         most_rows: usize,
     ) -> Result<Verdict, Refusal> {
         let (left, right) = (left.nodes(), right.nodes());
-        self.searched(most_rows, |sizes, lent| {
-            lists::search(sizes, left, right, lent)
+        self.searched(most_rows, |tables, lent| {
+            lists::search(tables, left, right, lent)
         })
     }
 
-    /// The same for two texts. Refused by 1 to 3, 14 to 17 on the left text, then on the right, 4 to 11, 19.
+    /// The same for two texts, each over the names of its own table. Refused by 14 to 17 on the left text, then on the right, 4 to
+    /// 11, 19.
     pub fn search_texts(
         &mut self,
         left: &[u8],
         right: &[u8],
         most_rows: usize,
     ) -> Result<Verdict, Refusal> {
-        self.searched(most_rows, |sizes, lent| {
-            lists::search_texts(sizes, left, right, lent)
+        self.searched(most_rows, |tables, lent| {
+            lists::search_texts(tables, left, right, lent)
         })
     }
 
     fn searched(
         &mut self,
         most_rows: usize,
-        search: impl FnOnce(&[u16], Lent) -> Numbers,
+        search: impl FnOnce(lists::Tables, Lent) -> Numbers,
     ) -> Result<Verdict, Refusal> {
         // one row too many is refused as any larger number is, and costs no more memory
         let most_rows = most_rows.min(MOST_ROWS + 1);
@@ -331,7 +426,7 @@ impl Checker {
             trace: &mut trace,
             work: &mut self.work,
         };
-        let answer = search(&self.sizes, lent);
+        let answer = search(self.tables.lists(), lent);
         let different = |side, length, entering| {
             trace.truncate(length as usize);
             Verdict::Different {
@@ -353,7 +448,7 @@ impl Checker {
         }
     }
 
-    /// Does a table, whoever made it, show that two policies are equal? Refused by 1 to 10, 19.
+    /// Does a table, whoever made it, show that two policies are equal? Refused by 4 to 10, 19.
     pub fn evidence(
         &mut self,
         left: &Policy,
@@ -366,11 +461,17 @@ impl Checker {
             right: &rows.right,
         };
         let work = &mut self.work;
-        let answer = lists::evidence(&self.sizes, left.nodes(), right.nodes(), columns, work);
+        let answer = lists::evidence(
+            self.tables.lists(),
+            left.nodes(),
+            right.nodes(),
+            columns,
+            work,
+        );
         ruled(answer)
     }
 
-    /// The same of a table of records, whose parents are not read. Refused by 1 to 10, 19.
+    /// The same of a table of records, whose parents are not read. Refused by 4 to 10, 19.
     pub fn evidence_rows(
         &mut self,
         left: &Policy,
@@ -378,11 +479,12 @@ impl Checker {
         rows: &[Row],
     ) -> Result<Ruling, Refusal> {
         let work = &mut self.work;
-        let answer = lists::evidence_rows(&self.sizes, left.nodes(), right.nodes(), rows, work);
+        let answer =
+            lists::evidence_rows(self.tables.lists(), left.nodes(), right.nodes(), rows, work);
         ruled(answer)
     }
 
-    /// Which of two policies has a trace from the entering packet? Refused by 1 to 10, 13, 19.
+    /// Which of two policies has a trace from the entering packet? Refused by 4 to 10, 13, 19.
     pub fn trace(
         &mut self,
         left: &Policy,
@@ -393,7 +495,7 @@ impl Checker {
         let work = &mut self.work;
         let (left, right) = (left.nodes(), right.nodes());
         match accepted(lists::trace(
-            &self.sizes,
+            self.tables.lists(),
             left,
             right,
             entering,

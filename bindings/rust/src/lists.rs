@@ -8,6 +8,24 @@ use crate::raw::{self, Row};
 /// An answer's eight numbers, as `include/netkat.h` says.
 pub type Numbers = [u64; 8];
 
+/// The two lists of a table of names, of any lengths and contents.
+#[derive(Clone, Copy, Debug)]
+pub struct Names<'a> {
+    /// A cell of 16 bytes for each name: its length, then the name.
+    pub cells: &'a [u8],
+    /// Its size.
+    pub sizes: &'a [u16],
+}
+
+/// The tables of the left and of the right policy.
+#[derive(Clone, Copy, Debug)]
+pub struct Tables<'a> {
+    /// Of the left policy.
+    pub left: Names<'a>,
+    /// Of the right policy.
+    pub right: Names<'a>,
+}
+
 /// The three lists of a policy, of any lengths and contents.
 #[derive(Clone, Copy, Debug)]
 pub struct Nodes<'a> {
@@ -48,13 +66,19 @@ pub struct Columns<'a> {
 }
 
 /// A packet's number turned into values.
-pub fn values(sizes: &[u16], number: u16, values: &mut [u16]) -> Numbers {
+pub fn values(tables: Tables, number: u16, values: &mut [u16]) -> Numbers {
     let mut answer = [0; 8];
     // SAFETY: the slices and the answer are valid for the call, and those written overlap no other.
     unsafe {
         raw::netkat_values(
-            sizes.as_ptr(),
-            sizes.len(),
+            tables.left.cells.as_ptr(),
+            tables.left.cells.len(),
+            tables.left.sizes.as_ptr(),
+            tables.left.sizes.len(),
+            tables.right.cells.as_ptr(),
+            tables.right.cells.len(),
+            tables.right.sizes.as_ptr(),
+            tables.right.sizes.len(),
             number,
             values.as_mut_ptr(),
             values.len(),
@@ -65,13 +89,19 @@ pub fn values(sizes: &[u16], number: u16, values: &mut [u16]) -> Numbers {
 }
 
 /// Values turned into a packet's number.
-pub fn number(sizes: &[u16], values: &[u16]) -> Numbers {
+pub fn number(tables: Tables, values: &[u16]) -> Numbers {
     let mut answer = [0; 8];
     // SAFETY: as in `values`.
     unsafe {
         raw::netkat_number(
-            sizes.as_ptr(),
-            sizes.len(),
+            tables.left.cells.as_ptr(),
+            tables.left.cells.len(),
+            tables.left.sizes.as_ptr(),
+            tables.left.sizes.len(),
+            tables.right.cells.as_ptr(),
+            tables.right.cells.len(),
+            tables.right.sizes.as_ptr(),
+            tables.right.sizes.len(),
             values.as_ptr(),
             values.len(),
             answer.as_mut_ptr(),
@@ -81,13 +111,19 @@ pub fn number(sizes: &[u16], values: &[u16]) -> Numbers {
 }
 
 /// One policy tested.
-pub fn policy(sizes: &[u16], nodes: Nodes) -> Numbers {
+pub fn policy(tables: Tables, nodes: Nodes) -> Numbers {
     let mut answer = [0; 8];
     // SAFETY: as in `values`.
     unsafe {
         raw::netkat_policy(
-            sizes.as_ptr(),
-            sizes.len(),
+            tables.left.cells.as_ptr(),
+            tables.left.cells.len(),
+            tables.left.sizes.as_ptr(),
+            tables.left.sizes.len(),
+            tables.right.cells.as_ptr(),
+            tables.right.cells.len(),
+            tables.right.sizes.as_ptr(),
+            tables.right.sizes.len(),
             nodes.kind.as_ptr(),
             nodes.kind.len(),
             nodes.first.as_ptr(),
@@ -101,13 +137,19 @@ pub fn policy(sizes: &[u16], nodes: Nodes) -> Numbers {
 }
 
 /// Two policies tested.
-pub fn policies(sizes: &[u16], left: Nodes, right: Nodes) -> Numbers {
+pub fn policies(tables: Tables, left: Nodes, right: Nodes) -> Numbers {
     let mut answer = [0; 8];
     // SAFETY: as in `values`.
     unsafe {
         raw::netkat_policies(
-            sizes.as_ptr(),
-            sizes.len(),
+            tables.left.cells.as_ptr(),
+            tables.left.cells.len(),
+            tables.left.sizes.as_ptr(),
+            tables.left.sizes.len(),
+            tables.right.cells.as_ptr(),
+            tables.right.cells.len(),
+            tables.right.sizes.as_ptr(),
+            tables.right.sizes.len(),
             left.kind.as_ptr(),
             left.kind.len(),
             left.first.as_ptr(),
@@ -126,12 +168,28 @@ pub fn policies(sizes: &[u16], left: Nodes, right: Nodes) -> Numbers {
     answer
 }
 
-/// One text read.
-pub fn read(text: &[u8], kind: &mut [u8], first: &mut [u16], second: &mut [u16]) -> Numbers {
+/// The text of a side read; 2 is right, any other number left.
+pub fn read(
+    tables: Tables,
+    side: u8,
+    text: &[u8],
+    kind: &mut [u8],
+    first: &mut [u16],
+    second: &mut [u16],
+) -> Numbers {
     let mut answer = [0; 8];
     // SAFETY: as in `values`.
     unsafe {
         raw::netkat_read(
+            tables.left.cells.as_ptr(),
+            tables.left.cells.len(),
+            tables.left.sizes.as_ptr(),
+            tables.left.sizes.len(),
+            tables.right.cells.as_ptr(),
+            tables.right.cells.len(),
+            tables.right.sizes.as_ptr(),
+            tables.right.sizes.len(),
+            side,
             text.as_ptr(),
             text.len(),
             kind.as_mut_ptr(),
@@ -147,13 +205,19 @@ pub fn read(text: &[u8], kind: &mut [u8], first: &mut [u16], second: &mut [u16])
 }
 
 /// Two policies searched.
-pub fn search(sizes: &[u16], left: Nodes, right: Nodes, lent: Lent) -> Numbers {
+pub fn search(tables: Tables, left: Nodes, right: Nodes, lent: Lent) -> Numbers {
     let mut answer = [0; 8];
     // SAFETY: as in `values`.
     unsafe {
         raw::netkat_search(
-            sizes.as_ptr(),
-            sizes.len(),
+            tables.left.cells.as_ptr(),
+            tables.left.cells.len(),
+            tables.left.sizes.as_ptr(),
+            tables.left.sizes.len(),
+            tables.right.cells.as_ptr(),
+            tables.right.cells.len(),
+            tables.right.sizes.as_ptr(),
+            tables.right.sizes.len(),
             left.kind.as_ptr(),
             left.kind.len(),
             left.first.as_ptr(),
@@ -185,13 +249,19 @@ pub fn search(sizes: &[u16], left: Nodes, right: Nodes, lent: Lent) -> Numbers {
 }
 
 /// Two texts searched.
-pub fn search_texts(sizes: &[u16], left: &[u8], right: &[u8], lent: Lent) -> Numbers {
+pub fn search_texts(tables: Tables, left: &[u8], right: &[u8], lent: Lent) -> Numbers {
     let mut answer = [0; 8];
     // SAFETY: as in `values`.
     unsafe {
         raw::netkat_search_texts(
-            sizes.as_ptr(),
-            sizes.len(),
+            tables.left.cells.as_ptr(),
+            tables.left.cells.len(),
+            tables.left.sizes.as_ptr(),
+            tables.left.sizes.len(),
+            tables.right.cells.as_ptr(),
+            tables.right.cells.len(),
+            tables.right.sizes.as_ptr(),
+            tables.right.sizes.len(),
             left.as_ptr(),
             left.len(),
             right.as_ptr(),
@@ -216,7 +286,7 @@ pub fn search_texts(sizes: &[u16], left: &[u8], right: &[u8], lent: Lent) -> Num
 
 /// A table checked.
 pub fn evidence(
-    sizes: &[u16],
+    tables: Tables,
     left: Nodes,
     right: Nodes,
     rows: Columns,
@@ -226,8 +296,14 @@ pub fn evidence(
     // SAFETY: as in `values`.
     unsafe {
         raw::netkat_evidence(
-            sizes.as_ptr(),
-            sizes.len(),
+            tables.left.cells.as_ptr(),
+            tables.left.cells.len(),
+            tables.left.sizes.as_ptr(),
+            tables.left.sizes.len(),
+            tables.right.cells.as_ptr(),
+            tables.right.cells.len(),
+            tables.right.sizes.as_ptr(),
+            tables.right.sizes.len(),
             left.kind.as_ptr(),
             left.kind.len(),
             left.first.as_ptr(),
@@ -256,7 +332,7 @@ pub fn evidence(
 
 /// A table of records checked.
 pub fn evidence_rows(
-    sizes: &[u16],
+    tables: Tables,
     left: Nodes,
     right: Nodes,
     rows: &[Row],
@@ -266,8 +342,14 @@ pub fn evidence_rows(
     // SAFETY: as in `values`.
     unsafe {
         raw::netkat_evidence_rows(
-            sizes.as_ptr(),
-            sizes.len(),
+            tables.left.cells.as_ptr(),
+            tables.left.cells.len(),
+            tables.left.sizes.as_ptr(),
+            tables.left.sizes.len(),
+            tables.right.cells.as_ptr(),
+            tables.right.cells.len(),
+            tables.right.sizes.as_ptr(),
+            tables.right.sizes.len(),
             left.kind.as_ptr(),
             left.kind.len(),
             left.first.as_ptr(),
@@ -292,7 +374,7 @@ pub fn evidence_rows(
 
 /// A trace checked.
 pub fn trace(
-    sizes: &[u16],
+    tables: Tables,
     left: Nodes,
     right: Nodes,
     entering: u16,
@@ -303,8 +385,14 @@ pub fn trace(
     // SAFETY: as in `values`.
     unsafe {
         raw::netkat_trace(
-            sizes.as_ptr(),
-            sizes.len(),
+            tables.left.cells.as_ptr(),
+            tables.left.cells.len(),
+            tables.left.sizes.as_ptr(),
+            tables.left.sizes.len(),
+            tables.right.cells.as_ptr(),
+            tables.right.cells.len(),
+            tables.right.sizes.as_ptr(),
+            tables.right.sizes.len(),
             left.kind.as_ptr(),
             left.kind.len(),
             left.first.as_ptr(),

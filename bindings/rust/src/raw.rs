@@ -17,8 +17,14 @@ pub struct Row {
 
 extern "C" {
     pub fn netkat_values(
-        sizes: *const u16,
-        sizes_length: usize,
+        left_names: *const u8,
+        left_names_length: usize,
+        left_sizes: *const u16,
+        left_sizes_length: usize,
+        right_names: *const u8,
+        right_names_length: usize,
+        right_sizes: *const u16,
+        right_sizes_length: usize,
         number: u16,
         values: *mut u16,
         values_length: usize,
@@ -26,16 +32,28 @@ extern "C" {
     );
 
     pub fn netkat_number(
-        sizes: *const u16,
-        sizes_length: usize,
+        left_names: *const u8,
+        left_names_length: usize,
+        left_sizes: *const u16,
+        left_sizes_length: usize,
+        right_names: *const u8,
+        right_names_length: usize,
+        right_sizes: *const u16,
+        right_sizes_length: usize,
         values: *const u16,
         values_length: usize,
         answer: *mut u64,
     );
 
     pub fn netkat_policy(
-        sizes: *const u16,
-        sizes_length: usize,
+        left_names: *const u8,
+        left_names_length: usize,
+        left_sizes: *const u16,
+        left_sizes_length: usize,
+        right_names: *const u8,
+        right_names_length: usize,
+        right_sizes: *const u16,
+        right_sizes_length: usize,
         kind: *const u8,
         kind_length: usize,
         first: *const u16,
@@ -46,8 +64,14 @@ extern "C" {
     );
 
     pub fn netkat_policies(
-        sizes: *const u16,
-        sizes_length: usize,
+        left_names: *const u8,
+        left_names_length: usize,
+        left_sizes: *const u16,
+        left_sizes_length: usize,
+        right_names: *const u8,
+        right_names_length: usize,
+        right_sizes: *const u16,
+        right_sizes_length: usize,
         left_kind: *const u8,
         left_kind_length: usize,
         left_first: *const u16,
@@ -64,6 +88,15 @@ extern "C" {
     );
 
     pub fn netkat_read(
+        left_names: *const u8,
+        left_names_length: usize,
+        left_sizes: *const u16,
+        left_sizes_length: usize,
+        right_names: *const u8,
+        right_names_length: usize,
+        right_sizes: *const u16,
+        right_sizes_length: usize,
+        side: u8,
         text: *const u8,
         text_length: usize,
         kind: *mut u8,
@@ -76,8 +109,14 @@ extern "C" {
     );
 
     pub fn netkat_search(
-        sizes: *const u16,
-        sizes_length: usize,
+        left_names: *const u8,
+        left_names_length: usize,
+        left_sizes: *const u16,
+        left_sizes_length: usize,
+        right_names: *const u8,
+        right_names_length: usize,
+        right_sizes: *const u16,
+        right_sizes_length: usize,
         left_kind: *const u8,
         left_kind_length: usize,
         left_first: *const u16,
@@ -106,8 +145,14 @@ extern "C" {
     );
 
     pub fn netkat_search_texts(
-        sizes: *const u16,
-        sizes_length: usize,
+        left_names: *const u8,
+        left_names_length: usize,
+        left_sizes: *const u16,
+        left_sizes_length: usize,
+        right_names: *const u8,
+        right_names_length: usize,
+        right_sizes: *const u16,
+        right_sizes_length: usize,
         left_text: *const u8,
         left_text_length: usize,
         right_text: *const u8,
@@ -128,8 +173,14 @@ extern "C" {
     );
 
     pub fn netkat_evidence(
-        sizes: *const u16,
-        sizes_length: usize,
+        left_names: *const u8,
+        left_names_length: usize,
+        left_sizes: *const u16,
+        left_sizes_length: usize,
+        right_names: *const u8,
+        right_names_length: usize,
+        right_sizes: *const u16,
+        right_sizes_length: usize,
         left_kind: *const u8,
         left_kind_length: usize,
         left_first: *const u16,
@@ -154,8 +205,14 @@ extern "C" {
     );
 
     pub fn netkat_evidence_rows(
-        sizes: *const u16,
-        sizes_length: usize,
+        left_names: *const u8,
+        left_names_length: usize,
+        left_sizes: *const u16,
+        left_sizes_length: usize,
+        right_names: *const u8,
+        right_names_length: usize,
+        right_sizes: *const u16,
+        right_sizes_length: usize,
         left_kind: *const u8,
         left_kind_length: usize,
         left_first: *const u16,
@@ -176,8 +233,14 @@ extern "C" {
     );
 
     pub fn netkat_trace(
-        sizes: *const u16,
-        sizes_length: usize,
+        left_names: *const u8,
+        left_names_length: usize,
+        left_sizes: *const u16,
+        left_sizes_length: usize,
+        right_names: *const u8,
+        right_names_length: usize,
+        right_sizes: *const u16,
+        right_sizes_length: usize,
         left_kind: *const u8,
         left_kind_length: usize,
         left_first: *const u16,

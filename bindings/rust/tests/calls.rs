@@ -1,10 +1,11 @@
-//! Every call of the safe wrapper, the calls of `examples/c/calls.c`, on threads with the stack that the wrapper states. Fields of
-//! sizes 3 and 2, so six packets.
+//! Every call of the safe wrapper, the calls of `examples/c/calls.c`, on threads with the stack that the wrapper states. Three switches
+//! with two ports each, so six packets; the two tables name the fields in different orders, and the left one's counts.
 
 use std::thread;
 
 use netkat::{
-    Checker, Holders, Policy, Refusal, Row, Rows, Ruling, Side, Verdict, ROWS_FULL, STACK,
+    Checker, Holders, Policy, Refusal, Row, Rows, Ruling, Side, Table, Tables, Verdict, ROWS_FULL,
+    STACK,
 };
 
 /// Rows lent to a search.
@@ -17,12 +18,28 @@ fn within_bound(test: fn()) {
     assert!(done.is_ok(), "the test failed");
 }
 
-fn checker() -> Checker {
-    Checker::new(&[3, 2])
+/// Over the fields of two tables.
+fn over(left: &[(&str, u16)], right: &[(&str, u16)]) -> Checker {
+    Checker::new(Tables {
+        left: Table::new(left),
+        right: Table::new(right),
+    })
 }
 
+/// Over one field of this size.
+fn one_field(size: u16) -> Checker {
+    Checker::new(Tables::shared(&[("sw", size)]))
+}
+
+fn checker() -> Checker {
+    over(&[("sw", 3), ("port", 2)], &[("port", 2), ("sw", 3)])
+}
+
+/// A policy over `sw` and `port`.
 fn policy(text: &str) -> Policy {
-    Policy::read(text.as_bytes()).expect("a legal text")
+    checker()
+        .read(Side::Left, text.as_bytes())
+        .expect("a legal text")
 }
 
 fn refusal(number: u64, side: Option<Side>, place: u64) -> Refusal {
@@ -45,9 +62,9 @@ fn full(rows: u64, length: u64) -> Refusal {
 /// Left and right policies of the examples: the first two are equal, the third is not.
 fn policies() -> (Policy, Policy, Policy) {
     (
-        policy("f0=0;dup"),
-        policy("dup;f0=0"),
-        policy("f0=0;f1<-1;dup"),
+        policy("sw=0;dup"),
+        policy("dup;sw=0"),
+        policy("sw=0;port<-1;dup"),
     )
 }
 
@@ -59,8 +76,71 @@ fn packets_turned() {
         assert_eq!(checker().values(6), Err(refusal(13, None, 0)));
         assert_eq!(checker().number(&[1, 2]), Err(refusal(13, None, 1)));
         assert_eq!(checker().number(&[1]), Err(refusal(13, None, 2)));
-        assert_eq!(Checker::new(&[]).values(0), Err(refusal(1, None, 0)));
-        assert_eq!(Checker::new(&[3, 0]).values(0), Err(refusal(2, None, 1)));
+        assert_eq!(checker().fields(), Ok(2));
+        assert_eq!(one_field(1025).values(0), Err(refusal(3, None, 0)));
+    });
+}
+
+#[test]
+fn fields_named() {
+    within_bound(|| {
+        let (left, right) = ([("sw", 2), ("port", 3)], [("vlan", 5), ("port", 3)]);
+        let checker = over(&left, &right);
+        assert_eq!(checker.fields(), Ok(3));
+        assert_eq!(checker.values(28), Ok(vec![1, 2, 3]));
+        let read = |side, text: &str| checker.read(side, text.as_bytes());
+        let field = |side, text| read(side, text).map(|policy| policy.first[0]);
+        assert_eq!(field(Side::Left, "sw=1"), Ok(0));
+        assert_eq!(field(Side::Left, "port=1"), Ok(1));
+        assert_eq!(field(Side::Right, "port=1"), Ok(1));
+        assert_eq!(field(Side::Right, "vlan=1"), Ok(2));
+        // of the other table alone
+        assert_eq!(field(Side::Left, "vlan=1"), Err(refusal(14, None, 0)));
+        assert_eq!(field(Side::Right, "id;sw=1"), Err(refusal(14, None, 3)));
+        let mut apart = over(&[("sw", 2)], &[("port", 2)]);
+        let verdict = apart.search_texts(b"sw=0", b"port=0", ROWS);
+        let different = Verdict::Different {
+            side: Side::Left,
+            entering: 1,
+            trace: vec![1],
+        };
+        assert_eq!(verdict, Ok(different));
+    });
+}
+
+#[test]
+fn tables_refused() {
+    within_bound(|| {
+        let refused = |left: &[(&str, u16)], right: &[(&str, u16)]| {
+            let mut checker = over(left, right);
+            let refusal = checker.fields().expect_err("a refusal");
+            assert_eq!(checker.number(&[0]), Err(refusal));
+            assert_eq!(checker.read(Side::Right, b"?"), Err(refusal));
+            assert_eq!(checker.dups(&policy("!dup")), Err(refusal));
+            assert_eq!(checker.search_texts(b"?", b"?", 0), Err(refusal));
+            assert_eq!(
+                checker.trace(&policy("!dup"), &policy("id"), 9, &[]),
+                Err(refusal)
+            );
+            refusal
+        };
+        let sw = ("sw", 2);
+        let (on_left, on_right) = (Some(Side::Left), Some(Side::Right));
+        assert_eq!(refused(&[sw, sw], &[sw]), refusal(20, on_left, 1));
+        assert_eq!(refused(&[sw], &[("dup", 1)]), refusal(20, on_right, 0));
+        assert_eq!(refused(&[sw, ("", 1)], &[sw]), refusal(20, on_left, 1));
+        let two_sizes = refused(&[sw, ("port", 4)], &[("port", 5), sw]);
+        assert_eq!(two_sizes, refusal(21, on_left, 1));
+        assert_eq!(refused(&[sw], &[]), refusal(1, None, 0));
+        assert_eq!(refused(&[sw], &[("port", 0)]), refusal(2, None, 1));
+        // however long it is
+        for length in [16, 17, 255, 256, 257, 271, 30_000] {
+            let name = "s".repeat(length);
+            let long = refused(&[(&name, 1)], &[sw]);
+            assert_eq!(long, refusal(20, on_left, 0), "{length}");
+        }
+        let longest = "s".repeat(15);
+        assert_eq!(over(&[(&longest, 1)], &[sw]).fields(), Ok(2));
     });
 }
 
@@ -71,16 +151,19 @@ fn policies_read_and_tested() {
         assert_eq!(one.kind.len(), 3);
         assert_eq!(same.kind.len(), 3);
         assert_eq!(other.kind.len(), 5);
-        assert_eq!(Policy::read(b"f0=0;?"), Err(refusal(14, None, 5)));
+        assert_eq!(
+            checker().read(Side::Left, b"sw=0;?"),
+            Err(refusal(14, None, 5))
+        );
         assert_eq!(checker().dups(&one), Ok(1));
         let both = policy("dup;dup");
         assert_eq!(checker().dups_of_both(&one, &both), Ok((1, 2)));
-        let field = policy("f2=0");
+        let field = policy("port=2");
         let refused = checker().dups_of_both(&one, &field);
         assert_eq!(refused, Err(refusal(6, Some(Side::Right), 0)));
         let nodes = "id+".repeat(256) + "id";
         assert_eq!(
-            Policy::read(nodes.as_bytes()),
+            checker().read(Side::Left, nodes.as_bytes()),
             Err(refusal(17, None, 513)),
             "more nodes needed than any lists have"
         );
@@ -156,7 +239,7 @@ fn evidence_of_records() {
         }
         let ruling = checker.evidence_rows(&one, &same, &[]);
         assert_eq!(ruling, Ok(Ruling::NoStart(0)));
-        let refused = checker.evidence_rows(&one, &policy("f2=0"), &[]);
+        let refused = checker.evidence_rows(&one, &policy("port=2"), &[]);
         assert_eq!(refused, Err(refusal(6, Some(Side::Right), 0)));
     });
     assert_eq!(std::mem::size_of::<Row>(), 32);
@@ -166,7 +249,7 @@ fn evidence_of_records() {
 fn sixty_three_dups() {
     within_bound(|| {
         let dups = |count: usize, join: &str| policy(&vec!["dup"; count].join(join));
-        let mut checker = Checker::new(&[1]);
+        let mut checker = one_field(1);
         assert_eq!(checker.dups(&dups(63, "+")), Ok(63));
         assert_eq!(checker.dups(&dups(64, "+")), Err(refusal(9, None, 125)));
         // the mask 2^63 is one of 63 dups, and of no fewer
@@ -227,7 +310,7 @@ fn different_with_a_trace() {
         let holders = checker.trace(&one, &same, 0, &[]);
         assert_eq!(holders, Ok(Holders::Neither));
 
-        let verdict = checker.search_texts(b"f0=0;f1<-1;dup", b"f0=0;dup", ROWS);
+        let verdict = checker.search_texts(b"sw=0;port<-1;dup", b"sw=0;dup", ROWS);
         assert_eq!(verdict, Ok(different(Side::Right)));
     });
 }
@@ -237,7 +320,7 @@ fn refusals_name_a_side() {
     within_bound(|| {
         let (one, _, mut other) = policies();
         let mut checker = checker();
-        let verdict = checker.search_texts(b"id", b"f2=0", ROWS);
+        let verdict = checker.search_texts(b"id", b"port=2", ROWS);
         assert_eq!(verdict, Err(refusal(6, Some(Side::Right), 0)));
         other.kind[1] = 10;
         let verdict = checker.search(&one, &other, ROWS);
@@ -265,7 +348,7 @@ fn rows_run_out() {
             let verdict = checker.search_texts(b"dup*", b"id+dup;dup*", rows);
             assert_eq!(verdict, Err(full(rows as u64, length)));
         }
-        let mut one_packet = Checker::new(&[1]);
+        let mut one_packet = one_field(1);
         let (left, right) = (
             policy("dup;dup;dup"),
             policy("dup;dup;dup;drop+dup;dup;dup"),
@@ -283,30 +366,33 @@ fn rows_run_out() {
 fn negated_tests() {
     within_bound(|| {
         let mut checker = checker();
-        let verdict = checker.search_texts(b"!(f0=0;f1=0)", b"f0!=0+f1!=0", ROWS);
+        let verdict = checker.search_texts(b"!(sw=0;port=0)", b"sw!=0+port!=0", ROWS);
         let starting = Rows {
             packet: (0..6).collect(),
             left: vec![1; 6],
             right: vec![1; 6],
         };
         assert_eq!(verdict, Ok(Verdict::Equal(starting)));
-        let (before, behind) = (policy("!f0=0;dup"), policy("dup;!f0=0"));
+        let (before, behind) = (policy("!sw=0;dup"), policy("dup;!sw=0"));
         let rows = match checker.search(&before, &behind, ROWS) {
             Ok(Verdict::Equal(rows)) => rows,
             other => panic!("equal policies, and {other:?}"),
         };
         let ruling = checker.evidence(&before, &behind, &rows);
         assert_eq!(ruling, Ok(Ruling::Accepted));
-        let holders = checker.trace(&before, &policy("dup;f0=0"), 5, &[5, 5]);
+        let holders = checker.trace(&before, &policy("dup;sw=0"), 5, &[5, 5]);
         assert_eq!(holders, Ok(Holders::Only(Side::Left)));
 
-        let negated = policy("!(f0=0+dup)");
+        let negated = policy("!(sw=0+dup)");
         assert_eq!(checker.dups(&negated), Err(refusal(19, None, 3)));
         let verdict = checker.search_texts(b"id", b"!!dup", ROWS);
         assert_eq!(verdict, Err(refusal(19, Some(Side::Right), 1)));
-        assert_eq!(Policy::read(b"f0 ! = 0"), Err(refusal(16, None, 3)));
-        let deep = policy(&("!".repeat(511) + "f0=0"));
-        let verdict = checker.search(&deep, &policy("f0!=0"), ROWS);
+        assert_eq!(
+            checker.read(Side::Left, b"sw ! = 0"),
+            Err(refusal(16, None, 3))
+        );
+        let deep = policy(&("!".repeat(511) + "sw=0"));
+        let verdict = checker.search(&deep, &policy("sw!=0"), ROWS);
         assert!(matches!(verdict, Ok(Verdict::Equal(_))));
     });
 }
@@ -318,7 +404,18 @@ fn refusals_in_words() {
         said(6, Some(Side::Right), 3),
         "refused by 6 on the right: a wrong field, value or unused entry, node 3"
     );
-    assert_eq!(said(1, None, 0), "refused by 1: not 1 to 8 fields");
+    assert_eq!(
+        said(1, None, 0),
+        "refused by 1: a table without names, or more than 8 fields"
+    );
+    assert_eq!(
+        said(20, Some(Side::Right), 2),
+        "refused by 20 on the right: a name that is malformed, there already, or drop, id or dup, name 2"
+    );
+    assert_eq!(
+        said(21, Some(Side::Left), 1),
+        "refused by 21 on the left: a name with two sizes, name 1"
+    );
     assert_eq!(
         said(19, Some(Side::Left), 3),
         "refused by 19 on the left: a negation over a change, a dup or a star, node 3"
@@ -338,7 +435,9 @@ fn deep_policies_within_bound() {
     within_bound(|| {
         let deep = policy(&("(".repeat(64) + "dup" + &")*".repeat(64) + &"*".repeat(447)));
         assert_eq!(deep.kind.len(), 512);
-        let mut checker = Checker::new(&[2, 2, 2, 2, 2, 2, 4, 4]);
+        let mut fields = ["a", "b", "c", "d", "e", "f", "g", "h"].map(|name| (name, 2));
+        (fields[6].1, fields[7].1) = (4, 4);
+        let mut checker = Checker::new(Tables::shared(&fields));
         let rows = match checker.search(&deep, &policy("dup*"), 4096) {
             Ok(Verdict::Equal(rows)) => rows,
             other => panic!("equal policies, and {other:?}"),

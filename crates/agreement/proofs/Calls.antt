@@ -15,6 +15,7 @@ use Rattle.packet.specs.declared.Tested.the-variants.{Passed, Refused as Stoppe
 use Rattle.packet.specs.Sizes.{product}
 use Rattle.policy.specs.Order.{pairTests}
 use Rattle.policy.specs.Meaning.{numbered, Traces, SameShortTraces, SameShortTracesBelow}
+use Rattle.fields.specs.Tables.{Table, jointSizes}
 use Rattle.policy.specs.NodeLists.{NodeLists, policyOf}
 use Rattle.system.specs.RowOrder.{held}
 use Rattle.pair.specs.Sides.{Side, left, right, at, policies}
@@ -56,51 +57,51 @@ passed-telling Passed a s n α e = (refl, sym e)
 passed-telling (Stopped r) a left n α e = let z : _≡_ {A = ℕ} 0 1 = cc in absurd (zero≢one z)
 passed-telling (Stopped r) a right n α e = let z : _≡_ {A = ℕ} 0 1 = cc in absurd (zero≢one z)
 
-module _ (sizes : List ℕ) (L R : NodeLists) (x y : SearchLists) where
-  pair-passed : searchTests sizes L R x ≡ Passed → pairTests sizes L R ≡ Passed
+module _ (ts : List Table) (L R : NodeLists) (x y : SearchLists) where
+  pair-passed : searchTests ts L R x ≡ Passed → pairTests ts L R ≡ Passed
   unfolding searchTests
-  pair-passed e = lent-pair sizes L R _ e
+  pair-passed e = lent-pair ts L R _ e
 
-  left-as : searchTests sizes L R x ≡ Passed → {verdict : Verdict} → Searched sizes L R x verdict y → y ≡ filled (rowsHere sizes L R x) (answerHere sizes L R x) x
+  left-as : searchTests ts L R x ≡ Passed → {verdict : Verdict} → Searched ts L R x verdict y → y ≡ filled (rowsHere (jointSizes ts) L R x) (answerHere (jointSizes ts) L R x) x
   unfolding searchLeaves lentAfter
-  left-as p D = D .leaves ∙ ap (λ (t : Tested). lentAfter t (rowsHere sizes L R x) (answerHere sizes L R x) x) p
+  left-as p D = D .leaves ∙ ap (λ (t : Tested). lentAfter t (rowsHere (jointSizes ts) L R x) (answerHere (jointSizes ts) L R x) x) p
 
   -- the rows of a search that answered equal are accepted, with any work list that refusal 10 lets pass
-  pub equal-rows-accepted : (n words : ℕ) → Searched sizes L R x (Equal n) y → 16384 ≤ words
-      → evidenceCall sizes L R (take n (y .packets)) (take n (y .lefts)) (take n (y .rights)) words ≡ Accepted
+  pub equal-rows-accepted : (n words : ℕ) → Searched ts L R x (Equal n) y → 16384 ≤ words
+      → evidenceCall ts L R (take n (y .packets)) (take n (y .lefts)) (take n (y .rights)) words ≡ Accepted
   unfolding searchVerdict filled heldColumns columnsOf
   equal-rows-accepted n words D long =
-      let h = passed-equal (searchTests sizes L R x) (answerHere sizes L R x) n (D .answers) in
-      let a = equal-of (answerHere sizes L R x) n (h .1) in
-      let A = accepts (h .0) (product sizes) refl in
-      let many : length (held (pairSystem sizes (policies L R)) (length (x .packets))) ≡ n = equal-same sizes (policies L R) (legal-pair sizes L R (A .left-legal) (A .right-legal)) (length (x .packets)) (length (x .trace)) n a .0 in
+      let h = passed-equal (searchTests ts L R x) (answerHere (jointSizes ts) L R x) n (D .answers) in
+      let a = equal-of (answerHere (jointSizes ts) L R x) n (h .1) in
+      let A = accepts ts (h .0) (product (jointSizes ts)) refl refl in
+      let many : length (held (pairSystem (jointSizes ts) (policies L R)) (length (x .packets))) ≡ n = equal-same (jointSizes ts) (policies L R) (legal-pair (jointSizes ts) L R (A .left-legal) (A .right-legal)) (length (x .packets)) (length (x .trace)) n a .0 in
       let is = left-as (h .0) D in
-      let packets : take n (y .packets) ≡ rowsHere sizes L R x .packets = ap (λ (z : SearchLists). take n (z .packets)) is ∙ take-written (rowsHere sizes L R x .packets) (x .packets) n (length-map (held (pairSystem sizes (policies L R)) (length (x .packets))) (λ e. e .row .packet) ∙ many) in
-      let lefts : take n (y .lefts) ≡ rowsHere sizes L R x .lefts = ap (λ (z : SearchLists). take n (z .lefts)) is ∙ take-written (rowsHere sizes L R x .lefts) (x .lefts) n (length-map (held (pairSystem sizes (policies L R)) (length (x .packets))) (λ e. e .row .state .left) ∙ many) in
-      let rights : take n (y .rights) ≡ rowsHere sizes L R x .rights = ap (λ (z : SearchLists). take n (z .rights)) is ∙ take-written (rowsHere sizes L R x .rights) (x .rights) n (length-map (held (pairSystem sizes (policies L R)) (length (x .packets))) (λ e. e .row .state .right) ∙ many) in
-      ap (λ (P : List ℕ). evidenceCall sizes L R P (take n (y .lefts)) (take n (y .rights)) words) packets
-      ∙ ap₂ (λ (P Q : List ℕ). evidenceCall sizes L R (rowsHere sizes L R x .packets) P Q words) lefts rights
-      ∙ equal-accepted sizes L R (length (x .packets)) words (A .few) (pair-passed (h .0)) long (length (x .trace)) n a
+      let packets : take n (y .packets) ≡ rowsHere (jointSizes ts) L R x .packets = ap (λ (z : SearchLists). take n (z .packets)) is ∙ take-written (rowsHere (jointSizes ts) L R x .packets) (x .packets) n (length-map (held (pairSystem (jointSizes ts) (policies L R)) (length (x .packets))) (λ e. e .row .packet) ∙ many) in
+      let lefts : take n (y .lefts) ≡ rowsHere (jointSizes ts) L R x .lefts = ap (λ (z : SearchLists). take n (z .lefts)) is ∙ take-written (rowsHere (jointSizes ts) L R x .lefts) (x .lefts) n (length-map (held (pairSystem (jointSizes ts) (policies L R)) (length (x .packets))) (λ e. e .row .state .left) ∙ many) in
+      let rights : take n (y .rights) ≡ rowsHere (jointSizes ts) L R x .rights = ap (λ (z : SearchLists). take n (z .rights)) is ∙ take-written (rowsHere (jointSizes ts) L R x .rights) (x .rights) n (length-map (held (pairSystem (jointSizes ts) (policies L R)) (length (x .packets))) (λ e. e .row .state .right) ∙ many) in
+      ap (λ (P : List ℕ). evidenceCall ts L R P (take n (y .lefts)) (take n (y .rights)) words) packets
+      ∙ ap₂ (λ (P Q : List ℕ). evidenceCall ts L R (rowsHere (jointSizes ts) L R x .packets) P Q words) lefts rights
+      ∙ equal-accepted ts L R (length (x .packets)) words (A .few) (pair-passed (h .0)) long (length (x .trace)) n a
 
   -- the trace of a search that answered left is answered left by the trace checker, and right, right
-  pub telling-trace-checked : (s : Side) (n α words : ℕ) → Searched sizes L R x (tellingVerdict s n α) y → 16384 ≤ words
-      → traceCall sizes L R α (take n (y .trace)) words ≡ checkedAs (only s)
+  pub telling-trace-checked : (s : Side) (n α words : ℕ) → Searched ts L R x (tellingVerdict s n α) y → 16384 ≤ words
+      → traceCall ts L R α (take n (y .trace)) words ≡ checkedAs (only s)
   unfolding searchVerdict filled traceAfter
   telling-trace-checked s n α words D long =
-      let h = passed-telling (searchTests sizes L R x) (answerHere sizes L R x) s n α (D .answers) in
-      let t = telling-of (answerHere sizes L R x) s n α (h .1) in
+      let h = passed-telling (searchTests ts L R x) (answerHere (jointSizes ts) L R x) s n α (D .answers) in
+      let t = telling-of (answerHere (jointSizes ts) L R x) s n α (h .1) in
       let trace : take n (y .trace) ≡ t .trace =
       ap (λ (z : SearchLists). take n (z .trace)) (left-as (h .0) D) ∙ ap (λ a. take n (traceAfter a (x .trace))) (t .answer) ∙ take-written (t .trace) (x .trace) n (t .long) in
-      ap (λ (w : List ℕ). traceCall sizes L R α w words) trace
-      ∙ search-checked sizes L R words (pair-passed (h .0)) long (length (x .packets)) (length (x .trace)) s α (t .trace) (t .answer)
+      ap (λ (w : List ℕ). traceCall ts L R α w words) trace
+      ∙ search-checked ts L R words (pair-passed (h .0)) long (length (x .packets)) (length (x .trace)) s α (t .trace) (t .answer)
 
   -- after 11 with d, the trace checker calls no trace of d packets or fewer one policy's alone
-  pub full-trace-shared : (r : Refusal) (d α words : ℕ) (trace : List ℕ) (s : Side) → Searched sizes L R x (Full r d) y → length trace ≤ d
-      → traceCall sizes L R α trace words ≡ checkedAs (only s) → ⊥
+  pub full-trace-shared : (r : Refusal) (d α words : ℕ) (trace : List ℕ) (s : Side) → Searched ts L R x (Full r d) y → length trace ≤ d
+      → traceCall ts L R α trace words ≡ checkedAs (only s) → ⊥
   unfolding SameShortTracesBelow SameShortTraces SideTraces at has
-  full-trace-shared r d α words trace s D few e = go s (D .full-same r d refl α (answer-enters sizes L R α trace words (only s) e) trace few) (answer-iff sizes L R α trace words (only s) e)
+  full-trace-shared r d α words trace s D few e = go s (D .full-same r d refl α (answer-enters ts L R α trace words (only s) e) trace few) (answer-iff ts L R α trace words (only s) e)
     where
-      go : (s : Side) → Traces (numbered sizes) (policyOf L) α trace ↔ Traces (numbered sizes) (policyOf R) α trace
-          → ((z : Side) → T (has z (only s)) ↔ SideTraces sizes (policies L R) z α trace) → ⊥
+      go : (s : Side) → Traces (numbered (jointSizes ts)) (policyOf L) α trace ↔ Traces (numbered (jointSizes ts)) (policyOf R) α trace
+          → ((z : Side) → T (has z (only s)) ↔ SideTraces (jointSizes ts) (policies L R) z α trace) → ⊥
       go left same says = says right .1 (same .0 (says left .0 tt))
       go right same says = says left .1 (same .1 (says right .0 tt))

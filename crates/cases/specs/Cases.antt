@@ -1,13 +1,14 @@
 -- Document 01, "Pairs to hold against it": P1 to P11 from document 01's own texts, its edges, and further pairs, document 02's too, as one
 -- table of calls.
 -- A line is a call with every list lent to it, and the answer and the lists that are stated; `resultOf` is what the calls promise.
-use Prim.Native.Nat.{ℕ, zero, suc, _-_}
+use Prim.Native.Nat.{ℕ, zero, suc, _+_, _-_}
 use Prim.Native.Char.{code}
 use Prim.Native.String.{String, [] as noText, _∷_ as _thenText_}
 use mathlib.Core.List.{List, [], _∷_, _++_}
 use lib.ListN.{length, replicate}
 use Rattle.packet.specs.Refusals.{refusal}
 use Rattle.packet.specs.Packets.{numberOf}
+use Rattle.fields.specs.Tables.{Table, table, jointSizes}
 use Rattle.policy.specs.NodeLists.{NodeLists}
 use Rattle.policy.specs.AsLists.{asLists}
 use Rattle.policy.specs.NodesOfTree.{nodesOf}
@@ -21,8 +22,7 @@ use Rattle.legality.specs.declared.PairAnswer.{PairAnswer}
 use Rattle.legality.specs.declared.PairAnswer.the-variants.{Legal, Refused as PairRefused}
 use Rattle.legality.specs.declared.PolicyAnswer.{PolicyAnswer}
 use Rattle.legality.specs.declared.PolicyAnswer.the-variants.{Legal as LegalAlone, Refused as AloneRefused}
-use Rattle.grammar.specs.Tokens.{fieldNames}
-use Rattle.grammar.specs.Answer.{textTree, answerTo, leftBy, shortest}
+use Rattle.grammar.specs.Answer.{textTree, textNames, readAnswer, leftBy, shortest}
 use Rattle.grammar.specs.declared.Answer.{Answer}
 use Rattle.grammar.specs.declared.Answer.the-variants.{Nodes, Refused as Unread}
 use Rattle.pair.specs.Search.{Columns}
@@ -41,17 +41,17 @@ use Rattle.traces.specs.Checking.{traceCall}
 use Rattle.traces.specs.declared.TraceChecked.{TraceChecked}
 use Rattle.traces.specs.declared.TraceChecked.the-variants.{Left as OnlyLeft, Right as OnlyRight, Both, Neither, Refused as NotFollowed}
 
--- the public calls on lists, each with what it is handed and lent
+-- the public calls on lists, each with what it is handed and lent; a call has a left and a right table
 pub data Call : Type 0 where
-  searchTexts : (sizes left right : List ℕ) → SearchLists → Call
-  search : (sizes : List ℕ) (left right : NodeLists) → SearchLists → Call
-  checkRows : (sizes : List ℕ) (left right : NodeLists) (packets lefts rights work : List ℕ) → Call
-  checkTrace : (sizes : List ℕ) (left right : NodeLists) (entering : ℕ) (packets work : List ℕ) → Call
-  bothLegal : (sizes : List ℕ) (left right : NodeLists) → Call
-  oneLegal : (sizes : List ℕ) (policy : NodeLists) → Call
-  read : (text kind first second : List ℕ) → Call
-  valuesOf : (sizes : List ℕ) (number : ℕ) (values : List ℕ) → Call
-  numberFor : (sizes values : List ℕ) → Call
+  callTexts : (t u : Table) (left right : List ℕ) → SearchLists → Call
+  callSearch : (t u : Table) (left right : NodeLists) → SearchLists → Call
+  callRows : (t u : Table) (left right : NodeLists) (packets lefts rights work : List ℕ) → Call
+  callTrace : (t u : Table) (left right : NodeLists) (entering : ℕ) (packets work : List ℕ) → Call
+  callBoth : (t u : Table) (left right : NodeLists) → Call
+  callOne : (t u : Table) (policy : NodeLists) → Call
+  callRead : (t u : Table) (side : ℕ) (text kind first second : List ℕ) → Call
+  callValues : (t u : Table) (number : ℕ) (values : List ℕ) → Call
+  callNumber : (t u : Table) (values : List ℕ) → Call
 
 -- an answer, and every lent list that the call may write
 pub data Result : Type 0 where
@@ -65,28 +65,28 @@ pub data Result : Type 0 where
   numbered : Number → Result
 
 -- what the reader leaves in its three lists
-abbrev nodesLeft : List ℕ → Answer → NodeLists → NodeLists
-nodesLeft text r old =
+abbrev nodesLeft : List (List ℕ) → List ℕ → Answer → NodeLists → NodeLists
+nodesLeft names text r old =
     asLists
-    (leftBy r (nodesOf (textTree fieldNames text) .kind) (old .kind))
-    (leftBy r (nodesOf (textTree fieldNames text) .first) (old .first))
-    (leftBy r (nodesOf (textTree fieldNames text) .second) (old .second))
+    (leftBy r (nodesOf (textTree names text) .kind) (old .kind))
+    (leftBy r (nodesOf (textTree names text) .first) (old .first))
+    (leftBy r (nodesOf (textTree names text) .second) (old .second))
 
 -- the right sides of the calls' promises
 unfoldable pub resultOf : Call → Result
-resultOf (searchTexts sizes l r x) = searched (textsVerdict sizes l r x) (textsLeaves sizes l r x)
-resultOf (search sizes l r x) = searched (searchVerdict sizes l r x) (searchLeaves sizes l r x)
-resultOf (checkRows sizes l r packets lefts rights work) =
-    judged (evidenceCall sizes l r packets lefts rights (length work)) (workAfter (evidenceTests sizes l r packets lefts rights (length work)) work)
-resultOf (checkTrace sizes l r entering packets work) =
-    followed (traceCall sizes l r entering packets (length work)) (workAfter (following.listsTests sizes l r (length work)) work)
-resultOf (bothLegal sizes l r) = legality (pairLegality sizes l r)
-resultOf (oneLegal sizes policy) = legalityOfOne (policyLegality sizes policy)
-resultOf (read text kind first second) =
-    let r = answerTo fieldNames text (shortest kind first second) in
-    readAs r (nodesLeft text r (asLists kind first second))
-resultOf (valuesOf sizes number values) = turned (valuesAnswer (valuesTests sizes number (length values))) (valuesLeft sizes number values)
-resultOf (numberFor sizes values) = numbered (numberAnswer (numberTests sizes values) (numberOf sizes values))
+resultOf (callTexts t u l r x) = searched (textsVerdict t u l r x) (textsLeaves t u l r x)
+resultOf (callSearch t u l r x) = searched (searchVerdict (t ∷ u ∷ []) l r x) (searchLeaves (t ∷ u ∷ []) l r x)
+resultOf (callRows t u l r packets lefts rights work) =
+    judged (evidenceCall (t ∷ u ∷ []) l r packets lefts rights (length work)) (workAfter (evidenceTests (t ∷ u ∷ []) l r packets lefts rights (length work)) work)
+resultOf (callTrace t u l r entering packets work) =
+    followed (traceCall (t ∷ u ∷ []) l r entering packets (length work)) (workAfter (following.listsTests (t ∷ u ∷ []) l r (length work)) work)
+resultOf (callBoth t u l r) = legality (pairLegality (t ∷ u ∷ []) l r)
+resultOf (callOne t u policy) = legalityOfOne (policyLegality (t ∷ u ∷ []) policy)
+resultOf (callRead t u side text kind first second) =
+    let r = readAnswer t u side text (shortest kind first second) in
+    readAs r (nodesLeft (textNames t u side) text r (asLists kind first second))
+resultOf (callValues t u number values) = turned (valuesAnswer (valuesTests (t ∷ u ∷ []) number (length values))) (valuesLeft (t ∷ u ∷ []) number values)
+resultOf (callNumber t u values) = numbered (numberAnswer (numberTests (t ∷ u ∷ []) values) (numberOf (jointSizes (t ∷ u ∷ [])) values))
 
 pub record Case : Type 0 where
   pub call : Call
@@ -102,9 +102,65 @@ unfoldable pub bytes : String → List ℕ
 bytes noText = []
 bytes (_thenText_ c s) = code c ∷ bytes s
 
+-- ---- tables
+
+-- the cell of a name of at most 15 bytes
+unfoldable pub cellFor : List ℕ → List ℕ
+cellFor w = length w ∷ w ++ replicate (15 - length w) 0
+
+-- a name and its size before a table
+unfoldable pub withName : List ℕ → ℕ → Table → Table
+withName w size t = table (cellFor w ++ t .cells) (size ∷ t .sizes)
+
+infixr 30 _of_then_
+abbrev _of_then_ : String → ℕ → Table → Table
+_of_then_ w size t = withName (bytes w) size t
+
+abbrev noName : Table
+noName = table [] []
+
+-- document 01's fields: f0, f1 and so on, of these sizes
+unfoldable pub numberedFrom : ℕ → List ℕ → Table
+numberedFrom i [] = noName
+numberedFrom i (s ∷ ss) = withName (102 ∷ (48 + i) ∷ []) s (numberedFrom (suc i) ss)
+
+abbrev f : List ℕ → Table
+f sizes = numberedFrom 0 sizes
+
+-- "document 01's cases stand, with f0 and f1 in both tables at the sizes given"
+abbrev searchTexts : List ℕ → List ℕ → List ℕ → SearchLists → Call
+searchTexts sizes = callTexts (f sizes) (f sizes)
+
+abbrev search : List ℕ → NodeLists → NodeLists → SearchLists → Call
+search sizes = callSearch (f sizes) (f sizes)
+
+abbrev checkRows : List ℕ → NodeLists → NodeLists → List ℕ → List ℕ → List ℕ → List ℕ → Call
+checkRows sizes = callRows (f sizes) (f sizes)
+
+abbrev checkTrace : List ℕ → NodeLists → NodeLists → ℕ → List ℕ → List ℕ → Call
+checkTrace sizes = callTrace (f sizes) (f sizes)
+
+abbrev bothLegal : List ℕ → NodeLists → NodeLists → Call
+bothLegal sizes = callBoth (f sizes) (f sizes)
+
+abbrev oneLegal : List ℕ → NodeLists → Call
+oneLegal sizes = callOne (f sizes) (f sizes)
+
+abbrev valuesOf : List ℕ → ℕ → List ℕ → Call
+valuesOf sizes = callValues (f sizes) (f sizes)
+
+abbrev numberFor : List ℕ → List ℕ → Call
+numberFor sizes = callNumber (f sizes) (f sizes)
+
+abbrev read : List ℕ → List ℕ → List ℕ → List ℕ → Call
+read = callRead (f (2 ∷ 3 ∷ [])) (f (2 ∷ 3 ∷ [])) 1
+
 -- a text policy is the nodes that the section Text gives it
+abbrev textPolicy : List ℕ → NodeLists
+textPolicy text = textNodes ((102 ∷ 48 ∷ []) ∷ (102 ∷ 49 ∷ []) ∷ []) text
+
 abbrev nodes : String → NodeLists
-nodes text = textNodes (bytes text)
+nodes text = textPolicy (bytes text)
 
 -- n + 1 dups in a sum
 unfoldable pub dups : ℕ → List ℕ
@@ -215,7 +271,26 @@ starts2 = columns (0 ∷ 1 ∷ []) (1 ∷ 1 ∷ []) (1 ∷ 1 ∷ []) (0 ∷ 1 �
 abbrev starts3 : Columns
 starts3 = columns (0 ∷ 1 ∷ 2 ∷ []) (1 ∷ 1 ∷ 1 ∷ []) (1 ∷ 1 ∷ 1 ∷ []) (0 ∷ 1 ∷ 2 ∷ [])
 
--- ---- the table, in two parts: each is held against the definitions by a computation of its own
+-- ---- the tables of A.4's lines
+
+-- a refusal of a left and a right table
+abbrev refusesTables : Table → Table → ℕ → ℕ → ℕ → Case
+refusesTables t u number side place = gives (callOne t u pass) (legalityOfOne (AloneRefused (refusal number side place)))
+
+abbrev eightAnd : Table → Table
+eightAnd t = "a" of 1 then "b" of 1 then "c" of 1 then "d" of 1 then "e" of 1 then "g" of 1 then "h" of 1 then "i" of 1 then t
+
+abbrev eight : Table
+eight = eightAnd noName
+
+-- sw and port on the left; vlan, port and sw on the right
+abbrev switches : Table
+switches = "sw" of 2 then "port" of 2 then noName
+
+abbrev lans : Table
+lans = "vlan" of 2 then "port" of 2 then "sw" of 2 then noName
+
+-- ---- the table, in three parts: each is held against the definitions by a computation of its own
 
 unfoldable pub ofDocument01 : List Case
 ofDocument01 =
@@ -248,8 +323,8 @@ ofDocument01 =
     ∷ gives (bothLegal (5 ∷ 205 ∷ []) pass pass) (legality (PairRefused (refusal 3 0 1)))
     ∷ gives (search (5 ∷ 205 ∷ []) pass pass (lending 5 3)) (searched (Refused (refusal 3 0 1)) (lending 5 3))
     -- 63 dups pass, 64 don't: the 64th dup is node 125
-    ∷ gives (bothLegal (1 ∷ []) (textNodes (dups 62)) (textNodes (dups 62))) (legality (Legal 63 63))
-    ∷ gives (bothLegal (1 ∷ []) (textNodes (dups 62)) (textNodes (dups 63))) (legality (PairRefused (refusal 9 2 125)))
+    ∷ gives (bothLegal (1 ∷ []) (textPolicy (dups 62)) (textPolicy (dups 62))) (legality (Legal 63 63))
+    ∷ gives (bothLegal (1 ∷ []) (textPolicy (dups 62)) (textPolicy (dups 63))) (legality (PairRefused (refusal 9 2 125)))
     -- 64 parentheses pass, 65 don't
     ∷ gives (read (nested 64) (nines 2) (nines 2) (nines 2)) (readAs (Nodes 1) (asLists (1 ∷ 9 ∷ []) (0 ∷ 9 ∷ []) (0 ∷ 9 ∷ [])))
     ∷ unread (nested 65) 2 15 64
@@ -331,7 +406,7 @@ ofDocument02 =
     ∷ refuses pass (nodes "!!dup") 19 2 1
     ∷ refuses (nodes "!(f0=0+dup)") (nodes "!dup") 19 1 3
     ∷ refuses (nodes "!!(f0=0;f1<-2)") pass 19 1 3
-    ∷ gives (bothLegal (1 ∷ []) (textNodes (dups 63)) (nodes "!dup")) (legality (PairRefused (refusal 19 2 1)))
+    ∷ gives (bothLegal (1 ∷ []) (textPolicy (dups 63)) (nodes "!dup")) (legality (PairRefused (refusal 19 2 1)))
     ∷ gives (oneLegal (2 ∷ []) (nodes "!dup")) (legalityOfOne (AloneRefused (refusal 19 0 1)))
     ∷ gives (oneLegal (2 ∷ []) (nodes "!(!f0=0+drop;f0!=1;id)")) (legalityOfOne (LegalAlone 0))
     ∷ gives (searchTexts (2 ∷ []) (bytes "id") (bytes "!dup") (lending 5 3)) (searched (Refused (refusal 19 2 1)) (lending 5 3))
@@ -347,8 +422,8 @@ ofDocument02 =
     -- A.2: P2's table and P11 by records, parents unread; bit 63 keeps (a) with 63 dups and breaks it with 62
     ∷ judgesRecords (2 ∷ []) P2-left P2-right (record4 0 1 1 65535 ∷ record4 1 1 1 65535 ∷ record4 0 2 2 65535 ∷ record4 1 0 2 65535 ∷ []) Accepted
     ∷ judgesRecords (2 ∷ []) P2-left P2-right (record4 0 1 1 0 ∷ record4 1 1 1 1 ∷ record4 0 2 2 0 ∷ []) (RuleD 1 1)
-    ∷ judges (1 ∷ []) (textNodes (dups 62)) pass (0 ∷ []) (9223372036854775808 ∷ []) (0 ∷ []) (RuleB 0)
-    ∷ judges (1 ∷ []) pass (textNodes (dups 61)) (0 ∷ []) (1 ∷ []) (9223372036854775808 ∷ []) (RuleA 0)
+    ∷ judges (1 ∷ []) (textPolicy (dups 62)) pass (0 ∷ []) (9223372036854775808 ∷ []) (0 ∷ []) (RuleB 0)
+    ∷ judges (1 ∷ []) pass (textPolicy (dups 61)) (0 ∷ []) (1 ∷ []) (9223372036854775808 ∷ []) (RuleA 0)
     -- A.3: P5 with no row and with one; P2 with three, where the last row listed is deeper than the row being handled; a row of depth 2;
     -- one row for two packets
     ∷ P5 0 (Full (refusal 11 0 0) 0) (columns [] [] [] [])
@@ -357,5 +432,47 @@ ofDocument02 =
     ++ compares (1 ∷ []) "dup;dup;dup" "dup;dup;dup;drop+dup;dup;dup" 3 3 (Full (refusal 11 0 3) 2) (columns (0 ∷ 0 ∷ 0 ∷ []) (1 ∷ 2 ∷ 4 ∷ []) (1 ∷ 18 ∷ 36 ∷ []) (0 ∷ 0 ∷ 1 ∷ [])) []
     ++ compares (2 ∷ []) "id" "id" 1 3 (Full (refusal 11 0 1) 0) (columns (0 ∷ []) (1 ∷ []) (1 ∷ []) (0 ∷ [])) []
 
+-- A.4
+unfoldable pub ofTables : List Case
+ofTables =
+    -- a field of one side only: the other side's policy passes it on
+    gives (callTexts ("sw" of 2 then noName) ("port" of 2 then noName) (bytes "sw=0") (bytes "port=0") (lending 4 1))
+    (searched (Left 1 1) (holding 4 1 (columns (0 ∷ 1 ∷ 2 ∷ 3 ∷ []) (1 ∷ 1 ∷ 1 ∷ 1 ∷ []) (1 ∷ 1 ∷ 1 ∷ 1 ∷ []) (0 ∷ 1 ∷ 2 ∷ 3 ∷ [])) (1 ∷ [])))
+    -- joint numbers: the left table's names, then those that only the right one has; a word of the other side's table alone is bad
+    ∷ gives (callRead switches lans 2 (bytes "vlan=0") (nines 1) (nines 1) (nines 1)) (readAs (Nodes 1) (asLists (2 ∷ []) (2 ∷ []) (0 ∷ [])))
+    ∷ gives (callRead switches lans 2 (bytes "sw=1") (nines 1) (nines 1) (nines 1)) (readAs (Nodes 1) (asLists (2 ∷ []) (0 ∷ []) (1 ∷ [])))
+    ∷ gives (callRead switches lans 1 (bytes "id;vlan=0") (nines 3) (nines 3) (nines 3)) (readAs (Unread (refusal 14 0 3)) (asLists (nines 3) (nines 3) (nines 3)))
+    ∷ gives (callRead switches lans 7 (bytes "vlan=0") (nines 1) (nines 1) (nines 1)) (readAs (Unread (refusal 14 0 0)) (asLists (nines 1) (nines 1) (nines 1)))
+    ∷ unread (bytes "f2=0") 9 14 0
+    -- a node list may use any joint field, on either side
+    ∷ gives (callBoth switches lans (asLists (2 ∷ []) (2 ∷ []) (1 ∷ [])) pass) (legality (Legal 0 0))
+    ∷ gives (callBoth switches lans (asLists (2 ∷ []) (3 ∷ []) (0 ∷ [])) pass) (legality (PairRefused (refusal 6 1 0)))
+    -- 4 with side 0 first; 20 by table, also past eight; 21 after 20 and before 1 and 2
+    ∷ refusesTables (table (nines 17) (0 ∷ [])) ("dup" of 0 then noName) 4 0 0
+    ∷ refusesTables ("sw" of 2 then "sw" of 3 then noName) ("dup" of 1 then noName) 20 1 1
+    ∷ refusesTables noName ("dup" of 1 then noName) 20 2 0
+    ∷ refusesTables ("a" of 1 then "j" of 1 then eight) ("b" of 1 then noName) 20 1 2
+    ∷ refusesTables (eightAnd ("dup" of 1 then noName)) ("b" of 1 then noName) 20 1 8
+    ∷ refusesTables (table (16 ∷ replicate 15 97) (1 ∷ [])) ("b" of 1 then noName) 20 1 0
+    ∷ refusesTables ("sw" of 2 then "port" of 4 then noName) ("port" of 5 then "sw" of 2 then noName) 21 1 1
+    ∷ refusesTables ("sw" of 2 then noName) ("sw" of 0 then noName) 21 1 0
+    -- 1: an empty table, eight fields and another; eight in both pass; 2 at the joint field
+    ∷ refusesTables noName ("sw" of 2 then noName) 1 0 0
+    ∷ refusesTables ("sw" of 2 then noName) noName 1 0 0
+    ∷ refusesTables eight ("j" of 1 then noName) 1 0 0
+    ∷ gives (callOne eight eight pass) (legalityOfOne (LegalAlone 0))
+    ∷ refusesTables ("a" of 1 then noName) ("b" of 0 then noName) 2 0 1
+    -- nothing is written; the tables come before the text
+    ∷ gives (callRead ("id" of 1 then noName) ("a" of 1 then noName) 2 (bytes "?") (nines 1) (nines 1) (nines 1)) (readAs (Unread (refusal 20 1 0)) (asLists (nines 1) (nines 1) (nines 1)))
+    ∷ gives (callSearch ("A" of 1 then noName) ("a" of 1 then noName) pass pass (lending 1 1)) (searched (Refused (refusal 20 1 0)) (lending 1 1))
+    -- 3 at the joint field, before the texts
+    ∷ gives (callTexts ("sw" of 5 then noName) ("port" of 205 then noName) (bytes "?") (bytes "id") (lending 1 1)) (searched (Refused (refusal 3 0 1)) (lending 1 1))
+    -- values over the joint fields; a cell's bytes past the length are not read
+    ∷ gives (callNumber switches lans (1 ∷ 0 ∷ 1 ∷ [])) (numbered (Packet 5))
+    ∷ gives (callValues switches lans 5 (nines 3)) (turned Written (1 ∷ 0 ∷ 1 ∷ []))
+    ∷ gives (callValues switches lans 5 (nines 2)) (turned (ValuesRefused (refusal 13 0 3)) (nines 2))
+    ∷ gives (callNumber (table (2 ∷ 115 ∷ 119 ∷ nines 13) (2 ∷ [])) ("sw" of 2 then noName) (1 ∷ [])) (numbered (Packet 1))
+    ∷ []
+
 unfoldable pub cases : List Case
-cases = ofDocument01 ++ ofDocument02
+cases = ofDocument01 ++ ofDocument02 ++ ofTables

@@ -1,6 +1,6 @@
 -- What a search on two texts leaves is what the program prints. Assumes nothing.
 use Prim.Native.Nat.{ℕ, _≤_}
-use mathlib.Core.List.{List, _++_}
+use mathlib.Core.List.{List, [], _∷_, _++_}
 use mathlib.Core.Path.{_≡_, refl, sym, ap, ap₂, _∙_, subst}
 use native.Mathlib.Omega.{arith}
 use lib.ListN.{length, getD, take, drop, length-append, length-drop, length-map, length-take, length-replicate}
@@ -8,9 +8,11 @@ use Rattle.packet.specs.declared.Refusal.{Refusal}
 use Rattle.packet.specs.declared.Tested.{Tested}
 use Rattle.packet.specs.declared.Tested.the-variants.{Passed, Refused as Stopped}
 use Rattle.packet.specs.Refusals.{refusal}
+use Rattle.fields.specs.Tables.{Table, jointSizes}
 use Rattle.policy.specs.Order.{sided}
 use Rattle.policy.specs.InnerEach.{Each}
 use Rattle.policy.specs.Legality.{Legal}
+use Rattle.policy.specs.NodeLists.{NodeLists}
 use Rattle.policy.proofs.OrderLaws.{passing, policies-legal}
 use Rattle.system.specs.RowOrder.{held}
 use Rattle.pair.specs.Sides.{Side, left, right, Pair, NumberedPolicy, policies}
@@ -24,7 +26,8 @@ use Rattle.packet.proofs.Written.{length-written, take-written}
 use Rattle.verdict.specs.declared.Verdict.{Verdict}
 use Rattle.verdict.specs.declared.Verdict.the-variants.{Equal}
 use Rattle.verdict.specs.Verdicts.{tellingVerdict, verdictOf, traceAfter}
-use Rattle.search.specs.Call.{SearchLists, filled, verdictAfter, lentAfter}
+use Rattle.search.specs.Call.{SearchLists, filled, verdictAfter, lentAfter, answerHere, rowsHere}
+use Rattle.grammar.specs.Answer.{textNames}
 use Rattle.search_texts.specs.Call.{textNodes, textPolicies, textsTests, textsAnswer, textsRows, textsVerdict, textsLeaves, TextsSearched}
 use Rattle.printing.specs.ThreeFields.{verdictLine, rowLines, traceLines}
 use Rattle.printing.specs.InnerWrote.{Wrote}
@@ -36,38 +39,33 @@ use Rattle.printed_verdict.specs.Output.{wordEqual, wordLeft, wordRight, wordRe
 take-few : {A : Type 0} (n : ℕ) (l : List A) → length (take n l) ≤ n
 take-few n l = omega (arith, length-take n l)
 
-module _ (sizes left-text right-text : List ℕ) (x : SearchLists) where
-  legal : textsTests sizes left-text right-text x ≡ Passed → Legal sizes (textNodes left-text) × Legal sizes (textNodes right-text)
-  unfolding textsTests Each sided
-  legal e = let g = policies-legal _ _ _ _ _ (passing _ _ _ _ _ e) in (g .0, g .1 .0)
-
+module _ (sizes : List ℕ) (L R : NodeLists) (x : SearchLists) where
   -- an equal answer counts the rows held
-  rows-held : textsTests sizes left-text right-text x ≡ Passed → (n : ℕ) → textsAnswer sizes left-text right-text x ≡ equal n
-      → length (held (pairSystem sizes (policies (textNodes left-text) (textNodes right-text))) (length (x .packets))) ≡ n
-  rows-held e n a =
-      let l = legal e in
-      equal-same sizes (policies (textNodes left-text) (textNodes right-text)) (legal-pair sizes (textNodes left-text) (textNodes right-text) (l .0) (l .1)) (length (x .packets)) (length (x .trace)) n a .0
+  rows-held : Legal sizes L × Legal sizes R → (n : ℕ) → answerHere sizes L R x ≡ equal n
+      → length (held (pairSystem sizes (policies L R)) (length (x .packets))) ≡ n
+  rows-held l n a =
+      equal-same sizes (policies L R) (legal-pair sizes L R (l .0) (l .1)) (length (x .packets)) (length (x .trace)) n a .0
 
   -- a telling trace fits the list lent
-  trace-fits : (s : Side) (α : ℕ) (t : List ℕ) → textsAnswer sizes left-text right-text x ≡ different s α t → length t ≤ length (x .trace)
+  trace-fits : (s : Side) (α : ℕ) (t : List ℕ) → answerHere sizes L R x ≡ different s α t → length t ≤ length (x .trace)
   trace-fits s α t a = go (subst (verdicts.Searched sizes ps (length (x .packets)) (length (x .trace))) a (searched sizes ps (length (x .packets)) (length (x .trace))))
     where
       ps : Pair NumberedPolicy
-      ps = policies (textNodes left-text) (textNodes right-text)
+      ps = policies L R
 
       go : verdicts.Searched sizes ps (length (x .packets)) (length (x .trace)) (different s α t) → length t ≤ length (x .trace)
       go (is-telling i b h q) = h
 
-  module _ (passed : textsTests sizes left-text right-text x ≡ Passed) where
+  module _ (legal : Legal sizes L × Legal sizes R) where
     -- what is printed of the lists that the search leaves is what the answer says
-    lines-passed : (a : SearchAnswer) → textsAnswer sizes left-text right-text x ≡ a
-        → verdictLines (verdictOf a) (filled (textsRows sizes left-text right-text x) a x .packets) (filled (textsRows sizes left-text right-text x) a x .lefts) (filled (textsRows sizes left-text right-text x) a x .rights) (filled (textsRows sizes left-text right-text x) a x .trace)
-        ≡ answerLines (textsRows sizes left-text right-text x) a
+    lines-passed : (a : SearchAnswer) → answerHere sizes L R x ≡ a
+        → verdictLines (verdictOf a) (filled (rowsHere sizes L R x) a x .packets) (filled (rowsHere sizes L R x) a x .lefts) (filled (rowsHere sizes L R x) a x .rights) (filled (rowsHere sizes L R x) a x .trace)
+        ≡ answerLines (rowsHere sizes L R x) a
     unfolding verdictLines verdictOf filled answerLines traceAfter tellingLines wordOfSide heldColumns columnsOf
     lines-passed (equal n) e =
-        let rows = textsRows sizes left-text right-text x in
-        let many = rows-held passed n e in
-        let es = held (pairSystem sizes (policies (textNodes left-text) (textNodes right-text))) (length (x .packets)) in
+        let rows = rowsHere sizes L R x in
+        let many = rows-held legal n e in
+        let es = held (pairSystem sizes (policies L R)) (length (x .packets)) in
         let packets : take n (written (rows .packets) (x .packets)) ≡ rows .packets = ap (λ k. take k (written (rows .packets) (x .packets))) (sym (length-map es (λ e. e .row .packet) ∙ many)) ∙ take-written (rows .packets) (x .packets) in
         let lefts : take n (written (rows .lefts) (x .lefts)) ≡ rows .lefts = ap (λ k. take k (written (rows .lefts) (x .lefts))) (sym (length-map es (λ e. e .row .state .left) ∙ many)) ∙ take-written (rows .lefts) (x .lefts) in
         let rights : take n (written (rows .rights) (x .rights)) ≡ rows .rights = ap (λ k. take k (written (rows .rights) (x .rights))) (sym (length-map es (λ e. e .row .state .right) ∙ many)) ∙ take-written (rows .rights) (x .rights) in
@@ -79,13 +77,13 @@ module _ (sizes left-text right-text : List ℕ) (x : SearchLists) where
     lines-passed (traceShort n) e = refl
 
     module _ (rows-lent : length (x .packets) ≡ 4096) (lefts-lent : length (x .lefts) ≡ 4096) (rights-lent : length (x .rights) ≡ 4096) (trace-lent : length (x .trace) ≡ 4096) where
-      fits-passed : (a : SearchAnswer) → textsAnswer sizes left-text right-text x ≡ a
-          → Fits (verdictOf a) (filled (textsRows sizes left-text right-text x) a x .packets) (filled (textsRows sizes left-text right-text x) a x .lefts) (filled (textsRows sizes left-text right-text x) a x .rights) (filled (textsRows sizes left-text right-text x) a x .trace)
+      fits-passed : (a : SearchAnswer) → answerHere sizes L R x ≡ a
+          → Fits (verdictOf a) (filled (rowsHere sizes L R x) a x .packets) (filled (rowsHere sizes L R x) a x .lefts) (filled (rowsHere sizes L R x) a x .rights) (filled (rowsHere sizes L R x) a x .trace)
       unfolding Fits verdictOf filled traceAfter heldColumns columnsOf held
       fits-passed (equal n) e =
-          let rows = textsRows sizes left-text right-text x in
-          let many = rows-held passed n e in
-          let es = held (pairSystem sizes (policies (textNodes left-text) (textNodes right-text))) (length (x .packets)) in
+          let rows = rowsHere sizes L R x in
+          let many = rows-held legal n e in
+          let es = held (pairSystem sizes (policies L R)) (length (x .packets)) in
           let few : length es ≤ 4096 = subst (λ k. length es ≤ k) rows-lent (take-few (length (x .packets)) _) in
           let p = length-map es (λ e. e .row .packet) in
           let l = length-map es (λ e. e .row .state .left) in
@@ -100,35 +98,49 @@ module _ (sizes left-text right-text : List ℕ) (x : SearchLists) where
       fits-passed (rowsFull n d) e = tt
       fits-passed (traceShort n) e = tt
 
-  module _ {v : Verdict} {y : SearchLists} (D : TextsSearched sizes left-text right-text x v y) where
+module _ (leftTable rightTable : Table) (left-text right-text : List ℕ) (x : SearchLists) where
+  abbrev sizes : List ℕ
+  sizes = jointSizes (leftTable ∷ rightTable ∷ [])
+
+  abbrev L : NodeLists
+  L = textNodes (textNames leftTable rightTable 1) left-text
+
+  abbrev R : NodeLists
+  R = textNodes (textNames leftTable rightTable 2) right-text
+
+  legal : textsTests leftTable rightTable left-text right-text x ≡ Passed → Legal sizes L × Legal sizes R
+  unfolding textsTests Each sided
+  legal e = let g = policies-legal _ _ _ _ _ (passing _ _ _ _ _ e) in (g .0, g .1 .0)
+
+  module _ {v : Verdict} {y : SearchLists} (D : TextsSearched leftTable rightTable left-text right-text x v y) where
     -- the lines printed of what the search leaves are the program's output
-    pub lines-are : verdictLines v (y .packets) (y .lefts) (y .rights) (y .trace) ≡ outputAfter (textsTests sizes left-text right-text x) (textsRows sizes left-text right-text x) (textsAnswer sizes left-text right-text x)
+    pub lines-are : verdictLines v (y .packets) (y .lefts) (y .rights) (y .trace) ≡ outputAfter (textsTests leftTable rightTable left-text right-text x) (textsRows leftTable rightTable left-text right-text x) (textsAnswer leftTable rightTable left-text right-text x)
     unfolding textsVerdict textsLeaves verdictAfter lentAfter outputAfter verdictLines
-    lines-are = go (textsTests sizes left-text right-text x) refl
+    lines-are = go (textsTests leftTable rightTable left-text right-text x) refl
       where
         rows : Columns
-        rows = textsRows sizes left-text right-text x
+        rows = textsRows leftTable rightTable left-text right-text x
 
         a : SearchAnswer
-        a = textsAnswer sizes left-text right-text x
+        a = textsAnswer leftTable rightTable left-text right-text x
 
         shown : Verdict → SearchLists → List ℕ
         shown w z = verdictLines w (z .packets) (z .lefts) (z .rights) (z .trace)
 
-        go : (t : Tested) → textsTests sizes left-text right-text x ≡ t → shown v y ≡ outputAfter t rows a
+        go : (t : Tested) → textsTests leftTable rightTable left-text right-text x ≡ t → shown v y ≡ outputAfter t rows a
         go Passed e =
-            ap₂ shown (D .answers ∙ ap (λ (t : Tested). verdictAfter t a) e) (D .leaves ∙ ap (λ (t : Tested). lentAfter t rows a x) e) ∙ lines-passed e a refl
+            ap₂ shown (D .answers ∙ ap (λ (t : Tested). verdictAfter t a) e) (D .leaves ∙ ap (λ (t : Tested). lentAfter t rows a x) e) ∙ lines-passed sizes L R x (legal e) a refl
         go (Stopped r) e = ap₂ shown (D .answers ∙ ap (λ (t : Tested). verdictAfter t a) e) (D .leaves ∙ ap (λ (t : Tested). lentAfter t rows a x) e)
 
     pub lines-fit : length (x .packets) ≡ 4096 → length (x .lefts) ≡ 4096 → length (x .rights) ≡ 4096 → length (x .trace) ≡ 4096 → Fits v (y .packets) (y .lefts) (y .rights) (y .trace)
     unfolding textsVerdict textsLeaves verdictAfter lentAfter Fits
-    lines-fit p l r t = go (textsTests sizes left-text right-text x) refl
+    lines-fit p l r t = go (textsTests leftTable rightTable left-text right-text x) refl
       where
         rows : Columns
-        rows = textsRows sizes left-text right-text x
+        rows = textsRows leftTable rightTable left-text right-text x
 
         a : SearchAnswer
-        a = textsAnswer sizes left-text right-text x
+        a = textsAnswer leftTable rightTable left-text right-text x
 
         FitsIn : Verdict → SearchLists → Type 0
         FitsIn w z = Fits w (z .packets) (z .lefts) (z .rights) (z .trace)
@@ -136,8 +148,8 @@ module _ (sizes left-text right-text : List ℕ) (x : SearchLists) where
         moved : {w : Verdict} {z : SearchLists} → v ≡ w → y ≡ z → FitsIn w z → FitsIn v y
         moved {w} {z} e f h = subst (λ u. FitsIn u y) (sym e) (subst (FitsIn w) (sym f) h)
 
-        go : (u : Tested) → textsTests sizes left-text right-text x ≡ u → FitsIn v y
-        go Passed e = moved (D .answers ∙ ap (λ (u : Tested). verdictAfter u a) e) (D .leaves ∙ ap (λ (u : Tested). lentAfter u rows a x) e) (fits-passed e p l r t a refl)
+        go : (u : Tested) → textsTests leftTable rightTable left-text right-text x ≡ u → FitsIn v y
+        go Passed e = moved (D .answers ∙ ap (λ (u : Tested). verdictAfter u a) e) (D .leaves ∙ ap (λ (u : Tested). lentAfter u rows a x) e) (fits-passed sizes L R x (legal e) p l r t a refl)
         go (Stopped q) e = moved (D .answers ∙ ap (λ (u : Tested). verdictAfter u a) e) (D .leaves ∙ ap (λ (u : Tested). lentAfter u rows a x) e) tt
 
 -- ---- what the first word says
@@ -189,38 +201,38 @@ program-lengths : (length (programLent .packets) ≡ 4096) × (length (programLe
 unfolding programLent
 program-lengths = (length-replicate {A = ℕ} 4096 0, length-replicate {A = ℕ} 4096 0, length-replicate {A = ℕ} 4096 0, length-replicate {A = ℕ} 4096 0)
 
-module _ {sizes left-text right-text : List ℕ} {v : Verdict} {y : SearchLists} (D : TextsSearched sizes left-text right-text programLent v y) where
+module _ {leftTable rightTable : Table} {left-text right-text : List ℕ} {v : Verdict} {y : SearchLists} (D : TextsSearched leftTable rightTable left-text right-text programLent v y) where
   pub shows : Fits v (y .packets) (y .lefts) (y .rights) (y .trace)
-  shows = let l = program-lengths in lines-fit sizes left-text right-text programLent D (l .0) (l .1) (l .2) (l .3)
+  shows = let l = program-lengths in lines-fit leftTable rightTable left-text right-text programLent D (l .0) (l .1) (l .2) (l .3)
 
   -- the trace list's first packets are the trace
-  trace-left : (s : Side) (h : Tells (textsTests sizes left-text right-text programLent) (textsAnswer sizes left-text right-text programLent) s) → take (length (h .trace)) (y .trace) ≡ h .trace
+  trace-left : (s : Side) (h : Tells (textsTests leftTable rightTable left-text right-text programLent) (textsAnswer leftTable rightTable left-text right-text programLent) s) → take (length (h .trace)) (y .trace) ≡ h .trace
   unfolding textsLeaves lentAfter filled traceAfter
   trace-left s h =
-      ap (λ (z : SearchLists). take (length (h .trace)) (z .trace)) (D .leaves ∙ ap (λ (t : Tested). lentAfter t (textsRows sizes left-text right-text programLent) (textsAnswer sizes left-text right-text programLent) programLent) (h .passed))
+      ap (λ (z : SearchLists). take (length (h .trace)) (z .trace)) (D .leaves ∙ ap (λ (t : Tested). lentAfter t (textsRows leftTable rightTable left-text right-text programLent) (textsAnswer leftTable rightTable left-text right-text programLent) programLent) (h .passed))
       ∙ ap (λ a. take (length (h .trace)) (traceAfter a (programLent .trace))) (h .answer)
       ∙ take-written (h .trace) (programLent .trace)
 
-  telling-is : (s : Side) (h : Tells (textsTests sizes left-text right-text programLent) (textsAnswer sizes left-text right-text programLent) s) → v ≡ tellingVerdict s (length (h .trace)) (h .entering)
+  telling-is : (s : Side) (h : Tells (textsTests leftTable rightTable left-text right-text programLent) (textsAnswer leftTable rightTable left-text right-text programLent) s) → v ≡ tellingVerdict s (length (h .trace)) (h .entering)
   unfolding textsVerdict verdictAfter verdictOf
   telling-is s h = D .answers ∙ ap₂ verdictAfter (h .passed) (h .answer)
 
-  pub printed : {old new : List ℕ} {e : ℕ} → Wrote old new 0 e (verdictLines v (y .packets) (y .lefts) (y .rights) (y .trace)) → Printed sizes left-text right-text old e new
+  pub printed : {old new : List ℕ} {e : ℕ} → Wrote old new 0 e (verdictLines v (y .packets) (y .lefts) (y .rights) (y .trace)) → Printed leftTable rightTable left-text right-text old e new
   unfolding outputOf outputAfter answerLines textsVerdict
   printed {old} {new} {e} W =
       record {
-        wrote = subst (Wrote old new 0 e) (lines-are sizes left-text right-text programLent D) W;
+        wrote = subst (Wrote old new 0 e) (lines-are leftTable rightTable left-text right-text programLent D) W;
         equal-same = λ q. let h = starts-equal _ _ _ q in D .equal-same (h .0) (D .answers ∙ h .1);
         different-tells = λ s q. tells s (starts-side s _ _ _ q);
       }
     where
-      tells : (s : Side) → Tells (textsTests sizes left-text right-text programLent) (textsAnswer sizes left-text right-text programLent) s → TellingPrinted sizes left-text right-text s
+      tells : (s : Side) → Tells (textsTests leftTable rightTable left-text right-text programLent) (textsAnswer leftTable rightTable left-text right-text programLent) s → TellingPrinted leftTable rightTable left-text right-text s
       tells s h =
           record {
             entering = h .entering;
             trace = h .trace;
-            printed = ap₂ (λ t a. outputAfter t (textsRows sizes left-text right-text programLent) a) (h .passed) (h .answer);
-            tells = subst (Distinguishes sizes (textPolicies left-text right-text) s (h .entering)) (trace-left s h) (D .different-tells s (length (h .trace)) (h .entering) (telling-is s h) .tells);
+            printed = ap₂ (λ t a. outputAfter t (textsRows leftTable rightTable left-text right-text programLent) a) (h .passed) (h .answer);
+            tells = subst (Distinguishes (jointSizes (leftTable ∷ rightTable ∷ [])) (textPolicies leftTable rightTable left-text right-text) s (h .entering)) (trace-left s h) (D .different-tells s (length (h .trace)) (h .entering) (telling-is s h) .tells);
           }
 
 -- ---- the whole program
@@ -244,18 +256,18 @@ module _ {input : List ℕ} where
         different-tells = λ s q. absurd (refusal-not-side s _ (ap (take (length (wordOfSide s))) (sym is) ∙ q));
       }
 
-  pub answers-searched : {sizes left-text right-text : List ℕ} → asked input ≡ compare sizes left-text right-text → {old new : List ℕ} {e : ℕ} → Printed sizes left-text right-text old e new → Answered input old e new
+  pub answers-searched : {leftTable rightTable : Table} {left-text right-text : List ℕ} → asked input ≡ compare leftTable rightTable left-text right-text → {old new : List ℕ} {e : ℕ} → Printed leftTable rightTable left-text right-text old e new → Answered input old e new
   unfolding programOutput
-  answers-searched {sizes} {left-text} {right-text} a {old} {new} {e} P =
-      let is : programOutput input ≡ outputOf (compare sizes left-text right-text) = ap outputOf a in
+  answers-searched {leftTable} {rightTable} {left-text} {right-text} a {old} {new} {e} P =
+      let is : programOutput input ≡ outputOf (compare leftTable rightTable left-text right-text) = ap outputOf a in
       let w = wrote-front (P .wrote) in
       record {
         count = w .0 ∙ ap length (sym is);
         output = w .1 ∙ ap (λ xs. written xs old) (sym is);
-        equal-same = λ q. record { sizes = sizes; left = left-text; right = right-text; asks = a; same = P .equal-same (ap (take (length wordEqual)) (sym is) ∙ q) };
+        equal-same = λ q. record { leftTable = leftTable; rightTable = rightTable; left = left-text; right = right-text; asks = a; same = P .equal-same (ap (take (length wordEqual)) (sym is) ∙ q) };
         different-tells = λ s q.
             let t = P .different-tells s (ap (take (length (wordOfSide s))) (sym is) ∙ q) in
-            record { sizes = sizes; left = left-text; right = right-text; asks = a; entering = t .entering; trace = t .trace; printed = is ∙ t .printed; tells = t .tells };
+            record { leftTable = leftTable; rightTable = rightTable; left = left-text; right = right-text; asks = a; entering = t .entering; trace = t .trace; printed = is ∙ t .printed; tells = t .tells };
       }
 
 -- an answer fits where it was written

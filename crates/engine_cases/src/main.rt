@@ -1,11 +1,16 @@
 // Runs the steps of its input through the engine: the sizes, a policy's kinds, first and second entries, each list after
 // its length, then a state, as its four quarters, and a packet. It writes the packets of the output, and each packet with the state next there.
-use legality::PolicyAnswer;
 use marks::Next;
+use packet::Tested;
 use packet_set::Lowest;
 use packet_set::Mask;
 use packet_set::PacketWords;
 use spans::Span;
+ghost use mathlib.Core.Path.{_≡_};
+ghost use Rattle.packet.specs.declared.Tested.the-variants.{Passed};
+ghost use Rattle.packet.specs.Sizes.{productStage, LegalSizes};
+ghost use Rattle.policy.specs.AsLists.{policyAtEntry};
+ghost use Rattle.policy.specs.Legality.{Legal};
 
 fn output(set: PacketWords) {
     let mut from: u16 = 0;
@@ -37,8 +42,20 @@ fn states(next: &Next) {
     }
 }
 
+// The causes of sizes and of one policy over them.
+fn tested(sizes: &[u16], kind: &[u8], first: &[u16], second: &[u16]) -> Tested
+    ensures { λ r. ⌜ (r ≡ Passed → LegalSizes (now (sizes .entry)) × Legal (now (sizes .entry)) (policyAtEntry kind first second) × (productStage (now (sizes .entry)) ≡ Passed)) ⌝ }
+{
+    let fields = packet::fields_stage(sizes);
+    let counted = packet::packet_count(sizes);
+    let policy = legality::policy_stage(sizes, 0, kind, first, second);
+    let product = counted.tested;
+    let policies = policy.tested;
+    packet::first_of(fields, packet::first_of(product, policies))
+}
+
 fn step(sizes: &[u16], kind: &[u8], first: &[u16], second: &[u16], state: Mask, packet: u16) {
-    let PolicyAnswer::Legal(_) = legality::policy_legality(sizes, kind, first, second) else {
+    let Tested::Passed = tested(sizes, kind, first, second) else {
         io::write_all(1, b"refused\n");
         return;
     };

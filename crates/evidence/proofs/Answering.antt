@@ -16,6 +16,7 @@ use Rattle.packet.specs.declared.Tested.{Tested}
 use Rattle.packet.specs.declared.Tested.the-variants.{Passed, Refused}
 use Rattle.packet.proofs.Tests.{or-false}
 use Rattle.packet.proofs.Stages.{refusedAt-passed, atPlace-none}
+use Rattle.fields.specs.Tables.{Table, jointSizes}
 use Rattle.policy.specs.NodeLists.{NodeLists, policyOf}
 use Rattle.policy.specs.Order.{pairTests}
 use Rattle.policy.specs.Meaning.{SameTracesBelow}
@@ -89,101 +90,101 @@ lists-passed a b c work e =
     let z = or-false _ _ (y .1) in
     (eqb-true b a (not-false _ (y .0)), eqb-true c a (not-false _ (z .0)), ltb-false 65535 a (z .1), ltb-false work 16384 (x .1))
 
-module _ (sizes : List ℕ) (L R : NodeLists) where
-  pair-evaluable : pairTests sizes L R ≡ Passed → EvaluablePair sizes (policies L R)
-  pair-evaluable e = let h = tests-passed sizes L R Passed (pair-lent sizes L R Passed e refl) in legal-pair sizes L R (h .left-legal) (h .right-legal)
+module _ (ts : List Table) (L R : NodeLists) where
+  pair-evaluable : pairTests ts L R ≡ Passed → EvaluablePair (jointSizes ts) (policies L R)
+  pair-evaluable e = let h = tests-passed ts L R Passed (pair-lent ts L R Passed e refl) in legal-pair (jointSizes ts) L R (h .left-legal) (h .right-legal)
 
   module _ (packets lefts rights : List ℕ) where
-    -- two policies and their sizes that no cause refuses, and lists that fit
-    tests-pass : (words : ℕ) → pairTests sizes L R ≡ Passed → listsStage (length packets ∷ length lefts ∷ length rights ∷ []) words ≡ Passed → evidenceTests sizes L R packets lefts rights words ≡ Passed
+    -- two policies and their (jointSizes ts) that no cause refuses, and lists that fit
+    tests-pass : (words : ℕ) → pairTests ts L R ≡ Passed → listsStage (length packets ∷ length lefts ∷ length rights ∷ []) words ≡ Passed → evidenceTests ts L R packets lefts rights words ≡ Passed
     unfolding evidenceTests
-    tests-pass words e l = pair-lent sizes L R _ e l
+    tests-pass words e l = pair-lent ts L R _ e l
 
-    evaluable : (words : ℕ) → evidenceTests sizes L R packets lefts rights words ≡ Passed → EvaluablePair sizes (policies L R)
+    evaluable : (words : ℕ) → evidenceTests ts L R packets lefts rights words ≡ Passed → EvaluablePair (jointSizes ts) (policies L R)
     unfolding evidenceTests
-    evaluable words e = pair-evaluable (lent-pair sizes L R _ e)
+    evaluable words e = pair-evaluable (lent-pair ts L R _ e)
 
     -- accepted exactly when no cause refuses and the four row rules hold
-    pub call-accepted : (words : ℕ) → (evidenceCall sizes L R packets lefts rights words ≡ Accepted)
-        ↔ ((evidenceTests sizes L R packets lefts rights words ≡ Passed) × RowRules sizes (policies L R) packets lefts rights)
+    pub call-accepted : (words : ℕ) → (evidenceCall ts L R packets lefts rights words ≡ Accepted)
+        ↔ ((evidenceTests ts L R packets lefts rights words ≡ Passed) × RowRules (jointSizes ts) (policies L R) packets lefts rights)
     unfolding evidenceCall evidenceOf asEvidence
     call-accepted words = (
       λ e.
           let x = accepted-passed _ _ e in
-          (x .0, evidence-iff sizes (policies L R) (evaluable words (x .0)) packets lefts rights .0 (x .1)),
+          (x .0, evidence-iff (jointSizes ts) (policies L R) (evaluable words (x .0)) packets lefts rights .0 (x .1)),
       λ k.
-          ap (λ (t : Tested). evidenceOf t (evidenceAnswer sizes (policies L R) packets lefts rights)) (k .0)
-          ∙ ap asEvidence (evidence-iff sizes (policies L R) (evaluable words (k .0)) packets lefts rights .1 (k .1)),
+          ap (λ (t : Tested). evidenceOf t (evidenceAnswer (jointSizes ts) (policies L R) packets lefts rights)) (k .0)
+          ∙ ap asEvidence (evidence-iff (jointSizes ts) (policies L R) (evaluable words (k .0)) packets lefts rights .1 (k .1)),
     )
 
     -- accepted: the same traces from every packet
-    pub call-sound : (words : ℕ) → evidenceCall sizes L R packets lefts rights words ≡ Accepted → SameTracesBelow sizes (policyOf L) (policyOf R)
+    pub call-sound : (words : ℕ) → evidenceCall ts L R packets lefts rights words ≡ Accepted → SameTracesBelow (jointSizes ts) (policyOf L) (policyOf R)
     unfolding evidenceCall
-    call-sound words e = let x = accepted-passed _ _ e in accepted-same sizes (policies L R) (evaluable words (x .0)) packets lefts rights (x .1)
+    call-sound words e = let x = accepted-passed _ _ e in accepted-same (jointSizes ts) (policies L R) (evaluable words (x .0)) packets lefts rights (x .1)
 
     -- where no cause refuses, the answer names the first broken rule and its spot
-    pub call-judged : (words : ℕ) → evidenceTests sizes L R packets lefts rights words ≡ Passed → (x : RulesAnswer) → evidenceCall sizes L R packets lefts rights words ≡ asEvidence x
-        → Judged (pairSystem sizes (policies L R)) (tableOf sizes (policies L R) packets lefts rights) x
+    pub call-judged : (words : ℕ) → evidenceTests ts L R packets lefts rights words ≡ Passed → (x : RulesAnswer) → evidenceCall ts L R packets lefts rights words ≡ asEvidence x
+        → Judged (pairSystem (jointSizes ts) (policies L R)) (tableOf (jointSizes ts) (policies L R) packets lefts rights) x
     unfolding evidenceCall evidenceOf
     call-judged words p x e =
-        let same : evidenceAnswer sizes (policies L R) packets lefts rights ≡ x = reported-same _ x (sym (ap (λ (t : Tested). evidenceOf t (evidenceAnswer sizes (policies L R) packets lefts rights)) p) ∙ e) in
-        subst (Judged (pairSystem sizes (policies L R)) (tableOf sizes (policies L R) packets lefts rights)) same
-        (evidence-judged sizes (policies L R) (evaluable words p) packets lefts rights)
+        let same : evidenceAnswer (jointSizes ts) (policies L R) packets lefts rights ≡ x = reported-same _ x (sym (ap (λ (t : Tested). evidenceOf t (evidenceAnswer (jointSizes ts) (policies L R) packets lefts rights)) p) ∙ e) in
+        subst (Judged (pairSystem (jointSizes ts) (policies L R)) (tableOf (jointSizes ts) (policies L R) packets lefts rights)) same
+        (evidence-judged (jointSizes ts) (policies L R) (evaluable words p) packets lefts rights)
 
   -- ---- the rows that a search of an equal pair lists
 
-  module _ (room words : ℕ) (few : room ≤ 65535) (pass : pairTests sizes L R ≡ Passed) (long : 16384 ≤ words) where
+  module _ (room words : ℕ) (few : room ≤ 65535) (pass : pairTests ts L R ≡ Passed) (long : 16384 ≤ words) where
     abbrev H : Columns
-    H = heldColumns sizes (policies L R) room
+    H = heldColumns (jointSizes ts) (policies L R) room
 
-    held-length : length (held (pairSystem sizes (policies L R)) room) ≤ 65535
+    held-length : length (held (pairSystem (jointSizes ts) (policies L R)) room) ≤ 65535
     unfolding held
     held-length = le-trans (take-few room _) few
 
-    held-tests : evidenceTests sizes L R (H .packets) (H .lefts) (H .rights) words ≡ Passed
+    held-tests : evidenceTests ts L R (H .packets) (H .lefts) (H .rights) words ≡ Passed
     unfolding heldColumns columnsOf
     held-tests =
         tests-pass (H .packets) (H .lefts) (H .rights) words pass
         (ap (λ (ns : List ℕ). listsStage ns words) lengths ∙ lists-pass _ words held-length long)
       where
-        es : List (Entry (pairSystem sizes (policies L R)))
-        es = held (pairSystem sizes (policies L R)) room
+        es : List (Entry (pairSystem (jointSizes ts) (policies L R)))
+        es = held (pairSystem (jointSizes ts) (policies L R)) room
 
         lengths : (length (H .packets) ∷ length (H .lefts) ∷ length (H .rights) ∷ []) ≡ (length es ∷ length es ∷ length es ∷ [])
         lengths = rw (length-map es (λ e. e .row .packet), length-map es (λ e. e .row .state .left), length-map es (λ e. e .row .state .right)) refl
 
-    held-accepted : evidenceAnswer sizes (policies L R) (H .packets) (H .lefts) (H .rights) ≡ accepted → evidenceCall sizes L R (H .packets) (H .lefts) (H .rights) words ≡ Accepted
+    held-accepted : evidenceAnswer (jointSizes ts) (policies L R) (H .packets) (H .lefts) (H .rights) ≡ accepted → evidenceCall ts L R (H .packets) (H .lefts) (H .rights) words ≡ Accepted
     unfolding evidenceCall evidenceOf asEvidence
     held-accepted e = ap₂ evidenceOf held-tests e
 
     -- the rows of a search that answered equal are accepted
-    pub equal-accepted : (trace count : ℕ) → searchAnswer sizes (policies L R) room trace ≡ equal count → evidenceCall sizes L R (H .packets) (H .lefts) (H .rights) words ≡ Accepted
-    equal-accepted trace count e = held-accepted (search-accepted sizes (policies L R) (pair-evaluable pass) room trace count e)
+    pub equal-accepted : (trace count : ℕ) → searchAnswer (jointSizes ts) (policies L R) room trace ≡ equal count → evidenceCall ts L R (H .packets) (H .lefts) (H .rights) words ≡ Accepted
+    equal-accepted trace count e = held-accepted (search-accepted (jointSizes ts) (policies L R) (pair-evaluable pass) room trace count e)
 
   -- the row order of an equal pair is accepted
-  pub call-complete : (packets lefts rights : List ℕ) (words : ℕ) → pairTests sizes L R ≡ Passed → SameTracesBelow sizes (policyOf L) (policyOf R) → HoldRowOrder sizes L R packets lefts rights → 16384 ≤ words
-      → evidenceCall sizes L R packets lefts rights words ≡ Accepted
+  pub call-complete : (packets lefts rights : List ℕ) (words : ℕ) → pairTests ts L R ≡ Passed → SameTracesBelow (jointSizes ts) (policyOf L) (policyOf R) → HoldRowOrder (jointSizes ts) L R packets lefts rights → 16384 ≤ words
+      → evidenceCall ts L R packets lefts rights words ≡ Accepted
   call-complete packets lefts rights words pass same h long =
-      ap (λ (p : List ℕ). evidenceCall sizes L R p lefts rights words) (h .packets-held)
-      ∙ ap₂ (λ (l r : List ℕ). evidenceCall sizes L R (heldColumns sizes (policies L R) (h .room) .packets) l r words) (h .lefts-held) (h .rights-held)
-      ∙ held-accepted (h .room) words (h .few) pass long (row-order-accepted sizes (policies L R) (pair-evaluable pass) (h .room) same (h .enough))
+      ap (λ (p : List ℕ). evidenceCall ts L R p lefts rights words) (h .packets-held)
+      ∙ ap₂ (λ (l r : List ℕ). evidenceCall ts L R (heldColumns (jointSizes ts) (policies L R) (h .room) .packets) l r words) (h .lefts-held) (h .rights-held)
+      ∙ held-accepted (h .room) words (h .few) pass long (row-order-accepted (jointSizes ts) (policies L R) (pair-evaluable pass) (h .room) same (h .enough))
 
   -- the rows listed when all of them are handled are the row order
-  pub whole-order : (k : ℕ) → turn (pairSystem sizes (policies L R)) (run (pairSystem sizes (policies L R)) k) ≡ finished → length (run (pairSystem sizes (policies L R)) k .rows) ≤ 65535
-      → (let H = columnsOf sizes (policies L R) (run (pairSystem sizes (policies L R)) k .rows) in HoldRowOrder sizes L R (H .packets) (H .lefts) (H .rights))
+  pub whole-order : (k : ℕ) → turn (pairSystem (jointSizes ts) (policies L R)) (run (pairSystem (jointSizes ts) (policies L R)) k) ≡ finished → length (run (pairSystem (jointSizes ts) (policies L R)) k .rows) ≤ 65535
+      → (let H = columnsOf (jointSizes ts) (policies L R) (run (pairSystem (jointSizes ts) (policies L R)) k .rows) in HoldRowOrder (jointSizes ts) L R (H .packets) (H .lefts) (H .rights))
   unfolding heldColumns
   whole-order k end few =
       record {
         room = length (run S k .rows);
         few = few;
         enough = λ m. not-full (sym (full-iff S (length (run S k .rows)) .1 m) ∙ answer-finished S (length (run S k .rows)) k end (le-refl _));
-        packets-held = ap (λ (es : List (Entry S)). columnsOf sizes (policies L R) es .packets) same;
-        lefts-held = ap (λ (es : List (Entry S)). columnsOf sizes (policies L R) es .lefts) same;
-        rights-held = ap (λ (es : List (Entry S)). columnsOf sizes (policies L R) es .rights) same;
+        packets-held = ap (λ (es : List (Entry S)). columnsOf (jointSizes ts) (policies L R) es .packets) same;
+        lefts-held = ap (λ (es : List (Entry S)). columnsOf (jointSizes ts) (policies L R) es .lefts) same;
+        rights-held = ap (λ (es : List (Entry S)). columnsOf (jointSizes ts) (policies L R) es .rights) same;
       }
     where
       S : System
-      S = pairSystem sizes (policies L R)
+      S = pairSystem (jointSizes ts) (policies L R)
 
       not-full : {c d : ℕ} → full d ≡ allHandled c → ⊥
       not-full e = true≢false (cc)
@@ -195,8 +196,8 @@ module _ (sizes : List ℕ) (L R : NodeLists) where
 
   module _ (packets lefts rights work : List ℕ) where
     -- the answer and the work list from what the causes say
-    checked-rows : (t : Tested) → evidenceTests sizes L R packets lefts rights (length work) ≡ t → (answer : Evidence) → answer ≡ evidenceOf t (evidenceAnswer sizes (policies L R) packets lefts rights)
-        → (work′ : List ℕ) → work′ ≡ workAfter t work → CheckedRows sizes L R packets lefts rights work answer work′
+    checked-rows : (t : Tested) → evidenceTests ts L R packets lefts rights (length work) ≡ t → (answer : Evidence) → answer ≡ evidenceOf t (evidenceAnswer (jointSizes ts) (policies L R) packets lefts rights)
+        → (work′ : List ℕ) → work′ ≡ workAfter t work → CheckedRows ts L R packets lefts rights work answer work′
     unfolding evidenceCall
     checked-rows t e answer f work′ g =
         record {
@@ -208,24 +209,24 @@ module _ (sizes : List ℕ) (L R : NodeLists) where
           complete = λ p s o l. is ∙ call-complete packets lefts rights (length work) p s o l;
         }
       where
-        is : answer ≡ evidenceCall sizes L R packets lefts rights (length work)
-        is = f ∙ ap (λ (u : Tested). evidenceOf u (evidenceAnswer sizes (policies L R) packets lefts rights)) (sym e)
+        is : answer ≡ evidenceCall ts L R packets lefts rights (length work)
+        is = f ∙ ap (λ (u : Tested). evidenceOf u (evidenceAnswer (jointSizes ts) (policies L R) packets lefts rights)) (sym e)
 
     -- the tests as they were made
-    module _ {said : Tested} (lists : said ≡ listsStage (length packets ∷ length lefts ∷ length rights ∷ []) (length work)) {q : PairTested} (front : FrontOf sizes L R said q) where
-      tests-are : q .tested ≡ evidenceTests sizes L R packets lefts rights (length work)
+    module _ {said : Tested} (lists : said ≡ listsStage (length packets ∷ length lefts ∷ length rights ∷ []) (length work)) {q : PairTested} (front : FrontOf ts L R said q) where
+      tests-are : q .tested ≡ evidenceTests ts L R packets lefts rights (length work)
       unfolding evidenceTests
-      tests-are = front-tests sizes L R _ lists front
+      tests-are = front-tests ts L R _ lists front
 
-      pub refused : (r : Refusal) → q .tested ≡ Refused r → CheckedRows sizes L R packets lefts rights work (NotChecked r) work
+      pub refused : (r : Refusal) → q .tested ≡ Refused r → CheckedRows ts L R packets lefts rights work (NotChecked r) work
       unfolding evidenceOf workAfter
       refused r e = checked-rows (Refused r) (sym tests-are ∙ e) (NotChecked r) refl work refl
 
       module _ (passed : q .tested ≡ Passed) where
-        pub lent : LentTable sizes L R packets lefts rights (q .packets) work
+        pub lent : LentTable (jointSizes ts) L R packets lefts rights (q .packets) work
         unfolding evidenceTests
         lent =
-            let h = tests-passed sizes L R _ (sym tests-are ∙ passed) in
+            let h = tests-passed ts L R _ (sym tests-are ∙ passed) in
             let n = lists-passed _ _ _ _ (h .passed) in
             record {
               allowed = record { legal = h .legal-sizes; left-legal = h .left-legal; right-legal = h .right-legal; packet-count = front .packets passed };
@@ -237,15 +238,18 @@ module _ (sizes : List ℕ) (L R : NodeLists) where
         -- what the search for a row that breaks rule (a) asks, with the dups of the policies
         module _ {dups : List ℕ} (e : dups ≡ q .«left_dups» ∷ q .«right_dups» ∷ []) where
           dups-known : DupsFit dups × (dups ≡ dupsOf L R)
-          dups-known = dups-few sizes L R packets lefts rights lent (front .left-dups passed) (front .right-dups passed) e
+          dups-known = dups-few (jointSizes ts) L R packets lefts rights lent (front .left-dups passed) (front .right-dups passed) e
 
           pub stray-asks : EvenColumns packets lefts rights × ((length packets ≤ 65535) × DupsFit dups)
           stray-asks = (lent .table, (lent .numbered, dups-known .0))
 
+          -- the sizes are the joint sizes as they were loaded
           pub table-asks : {spot : Spot} → spotOf spot ≡ lowest (strays packets lefts rights (q .packets) dups) (length packets)
-              → LentTable sizes L R packets lefts rights (q .packets) work × StrayIs L R packets lefts rights (q .packets) spot
-          table-asks f = (lent, record { first = f ∙ ap (λ (ds : List ℕ). lowest (strays packets lefts rights (q .packets) ds) (length packets)) (dups-known .1) })
+              → LentTable (take (q .count) (q .sizes)) L R packets lefts rights (q .packets) work × StrayIs L R packets lefts rights (q .packets) spot
+          table-asks f = (subst (λ (s : List ℕ). LentTable s L R packets lefts rights (q .packets) work) (sym (front .joint passed)) lent, record { first = f ∙ ap (λ (ds : List ℕ). lowest (strays packets lefts rights (q .packets) ds) (length packets)) (dups-known .1) })
 
-        pub table-answered : (answer : Evidence) (work′ : List ℕ) → TableChecked sizes L R packets lefts rights work answer work′ → CheckedRows sizes L R packets lefts rights work answer work′
+        pub table-answered : (answer : Evidence) (work′ : List ℕ) → TableChecked (take (q .count) (q .sizes)) L R packets lefts rights work answer work′ → CheckedRows ts L R packets lefts rights work answer work′
         unfolding evidenceOf workAfter
-        table-answered answer work′ t = checked-rows Passed (sym tests-are ∙ passed) answer (t .answers) work′ (t .cleared)
+        table-answered answer work′ c =
+            let t = subst (λ (s : List ℕ). TableChecked s L R packets lefts rights work answer work′) (front .joint passed) c in
+            checked-rows Passed (sym tests-are ∙ passed) answer (t .answers) work′ (t .cleared)

@@ -5,6 +5,7 @@ use mathlib.Core.Path.{_≡_}
 use lib.ListN.{length, getD, replicate, take}
 use Rattle.packet.specs.Sizes.{product, LegalSizes}
 use Rattle.policy.specs.Legality.{Legal}
+use Rattle.fields.specs.Tables.{Table, jointSizes}
 use Rattle.policy.specs.NodeLists.{NodeLists, nodeCount, dupsBelow}
 use Rattle.policy.specs.Order.{pairTests}
 use Rattle.packet.specs.declared.Tested.the-variants.{Passed}
@@ -102,23 +103,23 @@ module _ (sizes : List ℕ) (nodes tests : List (List ℕ)) (packets lefts right
 
 -- ---- records
 
-module _ (sizes : List ℕ) (L R : NodeLists) where
+module _ (ts : List Table) (L R : NodeLists) where
   -- the numbers that so many records are held against; where no cause refuses the policies, all of up to 65,535 records
   pub record BoundsOf (rows : ℕ) (r : Bounds) : Type 0 where
     pub few : r .rows ≤ 65535
     pub within : r .rows ≤ rows
     pub fit : (r .«left_dups» < maskBits) × (r .«right_dups» < maskBits)
-    pub passed : pairTests sizes L R ≡ Passed → rows ≤ 65535
-        → (r .rows ≡ rows) × (r .count ≡ product sizes) × (r .«left_dups» ∷ r .«right_dups» ∷ [] ≡ dupsOf L R)
+    pub passed : pairTests ts L R ≡ Passed → rows ≤ 65535
+        → (r .rows ≡ rows) × (r .count ≡ product (jointSizes ts)) × (r .«left_dups» ∷ r .«right_dups» ∷ [] ≡ dupsOf L R)
 
   module _ (packets lefts rights : List ℕ) (rows : ℕ) where
     -- the first entries are the columns of so many records, of which `stray` is the first that breaks rule (a), or their number
     pub record ReadTable (stray : ℕ) : Type 0 where
       pub long : rows ≤ 65535 → (rows ≤ length packets) × (rows ≤ length lefts) × (rows ≤ length rights)
-      pub first : pairTests sizes L R ≡ Passed → rows ≤ 65535
-          → stray ≡ orEnd rows (lowest (strays (take rows packets) (take rows lefts) (take rows rights) (product sizes) (dupsOf L R)) rows)
+      pub first : pairTests ts L R ≡ Passed → rows ≤ 65535
+          → stray ≡ orEnd rows (lowest (strays (take rows packets) (take rows lefts) (take rows rights) (product (jointSizes ts)) (dupsOf L R)) rows)
 
     -- the columns, whatever was read of them, are checked
     pub record ReadChecked (work : List ℕ) (answer : Evidence) (work′ : List ℕ) : Type 0 where
-      pub columns : (P Q S : List ℕ) → length P ≡ rows → length Q ≡ rows → length S ≡ rows → (pairTests sizes L R ≡ Passed → rows ≤ 65535 → (take rows packets ≡ P) × (take rows lefts ≡ Q) × (take rows rights ≡ S))
-          → CheckedRows sizes L R P Q S work answer work′
+      pub columns : (P Q S : List ℕ) → length P ≡ rows → length Q ≡ rows → length S ≡ rows → (pairTests ts L R ≡ Passed → rows ≤ 65535 → (take rows packets ≡ P) × (take rows lefts ≡ Q) × (take rows rights ≡ S))
+          → CheckedRows ts L R P Q S work answer work′

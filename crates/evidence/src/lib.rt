@@ -3,6 +3,7 @@ ghost use mathlib.Core.List.{[], _∷_};
 ghost use mathlib.Core.Path.{_≡_};
 ghost use Prim.Native.Nat.{_<_};
 ghost use lib.ListN.{length};
+ghost use Rattle.fields.specs.Tables.{tables, tablesAtEntry};
 ghost use Rattle.policy.specs.AsLists.{asLists, policyAtEntry};
 ghost use Rattle.compare.specs.Comparison.{BothBlank};
 ghost use Rattle.evidence.specs.Calls.{CheckedRows};
@@ -267,7 +268,10 @@ fn wide(left_dups: u8, right_dups: u8) -> [u32; POLICIES]
 
 // Do the rows, whoever made them, keep the row rules for the two policies? The work list is all 0 on return, or as found on a refusal.
 pub fn check(
-    sizes: &[u16],
+    left_names: &[u8],
+    left_sizes: &[u16],
+    right_names: &[u8],
+    right_sizes: &[u16],
     left_kind: &[u8],
     left_first: &[u16],
     left_second: &[u16],
@@ -279,11 +283,14 @@ pub fn check(
     rights: &[Mask],
     work: &mut [u32],
 ) -> Evidence
-    ensures { λ r. ⌜ CheckedRows (now (sizes .entry)) (policyAtEntry «left_kind» «left_first» «left_second») (policyAtEntry «right_kind» «right_first» «right_second») (now (packets .entry)) (now (lefts .entry)) (now (rights .entry)) (now (work .entry)) r (now (work .exit)) ⌝ }
+    ensures { λ r. ⌜ CheckedRows (tablesAtEntry «left_names» «left_sizes» «right_names» «right_sizes») (policyAtEntry «left_kind» «left_first» «left_second») (policyAtEntry «right_kind» «right_first» «right_second») (now (packets .entry)) (now (lefts .entry)) (now (rights .entry)) (now (work .entry)) r (now (work .exit)) ⌝ }
 {
     let lists = lent_lists::evidence_lists(packets.len(), lefts.len(), rights.len(), work.len());
     let found = legality::front(
-        sizes,
+        left_names,
+        left_sizes,
+        right_names,
+        right_sizes,
         left_kind,
         left_first,
         left_second,
@@ -294,13 +301,15 @@ pub fn check(
     );
     let tested = found.tested;
     let count = found.packets;
+    let fields = found.count;
+    let sizes = found.sizes;
     match tested {
         Tested::Refused(r) => Evidence::Refused(r),
         Tested::Passed => {
             let dups = wide(found.left_dups, found.right_dups);
             let stray = row_rules::first_stray(packets, lefts, rights, count, dups);
             table_checked(
-                sizes,
+                &sizes[..fields],
                 left_kind,
                 left_first,
                 left_second,
@@ -329,7 +338,10 @@ pub struct Bounds {
 // Inner: the bounds of so many records; none is read where a cause before 10 refuses, or there are too many. The work list is tested by
 // `check_read`: here it counts as long enough.
 pub fn bounds_of(
-    sizes: &[u16],
+    left_names: &[u8],
+    left_sizes: &[u16],
+    right_names: &[u8],
+    right_sizes: &[u16],
     left_kind: &[u8],
     left_first: &[u16],
     left_second: &[u16],
@@ -338,11 +350,14 @@ pub fn bounds_of(
     right_second: &[u16],
     rows: usize,
 ) -> Bounds
-    ensures { λ r. ⌜ BoundsOf (now (sizes .entry)) (policyAtEntry «left_kind» «left_first» «left_second») (policyAtEntry «right_kind» «right_first» «right_second») rows r ⌝ }
+    ensures { λ r. ⌜ BoundsOf (tablesAtEntry «left_names» «left_sizes» «right_names» «right_sizes») (policyAtEntry «left_kind» «left_first» «left_second») (policyAtEntry «right_kind» «right_first» «right_second») rows r ⌝ }
 {
     let lists = lent_lists::evidence_lists(rows, rows, rows, 16384);
     let found = legality::front(
-        sizes,
+        left_names,
+        left_sizes,
+        right_names,
+        right_sizes,
         left_kind,
         left_first,
         left_second,
@@ -373,7 +388,10 @@ pub fn bounds_of(
 
 // Inner: as `check`, of so many records, whose columns were read, with the first record that breaks rule (a).
 pub fn check_read(
-    sizes: &[u16],
+    left_names: &[u8],
+    left_sizes: &[u16],
+    right_names: &[u8],
+    right_sizes: &[u16],
     left_kind: &[u8],
     left_first: &[u16],
     left_second: &[u16],
@@ -387,12 +405,15 @@ pub fn check_read(
     stray: usize,
     work: &mut [u32],
 ) -> Evidence
-    requires { ⌜ ReadTable (now sizes) (asLists (now «left_kind») (now «left_first») (now «left_second»)) (asLists (now «right_kind») (now «right_first») (now «right_second»)) (now packets) (now lefts) (now rights) rows stray ⌝ }
-    ensures { λ r. ⌜ ReadChecked (now (sizes .entry)) (policyAtEntry «left_kind» «left_first» «left_second») (policyAtEntry «right_kind» «right_first» «right_second») (now (packets .entry)) (now (lefts .entry)) (now (rights .entry)) rows (now (work .entry)) r (now (work .exit)) ⌝ }
+    requires { ⌜ ReadTable (tables (now «left_names») (now «left_sizes») (now «right_names») (now «right_sizes»)) (asLists (now «left_kind») (now «left_first») (now «left_second»)) (asLists (now «right_kind») (now «right_first») (now «right_second»)) (now packets) (now lefts) (now rights) rows stray ⌝ }
+    ensures { λ r. ⌜ ReadChecked (tablesAtEntry «left_names» «left_sizes» «right_names» «right_sizes») (policyAtEntry «left_kind» «left_first» «left_second») (policyAtEntry «right_kind» «right_first» «right_second») (now (packets .entry)) (now (lefts .entry)) (now (rights .entry)) rows (now (work .entry)) r (now (work .exit)) ⌝ }
 {
     let lists = lent_lists::evidence_lists(rows, rows, rows, work.len());
     let found = legality::front(
-        sizes,
+        left_names,
+        left_sizes,
+        right_names,
+        right_sizes,
         left_kind,
         left_first,
         left_second,
@@ -403,10 +424,12 @@ pub fn check_read(
     );
     let tested = found.tested;
     let count = found.packets;
+    let fields = found.count;
+    let sizes = found.sizes;
     match tested {
         Tested::Refused(r) => Evidence::Refused(r),
         Tested::Passed => table_checked(
-            sizes,
+            &sizes[..fields],
             left_kind,
             left_first,
             left_second,

@@ -7,6 +7,7 @@ use lib.ListN.{length, take}
 use Rattle.packet.specs.Lowest.{lowest}
 use Rattle.packet.specs.Sizes.{product}
 use Rattle.packet.specs.declared.Tested.the-variants.{Passed}
+use Rattle.fields.specs.Tables.{Table, jointSizes}
 use Rattle.policy.specs.NodeLists.{NodeLists}
 use Rattle.policy.specs.Order.{pairTests}
 use Rattle.row_rules.specs.Presence.{orEnd, strays}
@@ -34,10 +35,10 @@ module _ (room : List ℕ) (long : length room ≡ 65535) where
   as-long : (xs column : List ℕ) (n k : ℕ) → xs ≡ over column k room → n ≤ 65535 → n ≤ length xs
   as-long xs column n k e l = omega (arith, ap length e, over-length column k room, long, l)
 
-  module _ {sizes : List ℕ} {L R : NodeLists} (rows : List RowRecord) {r : Bounds} (bounds : BoundsOf sizes L R (length rows) r)
+  module _ {ts : List Table} {L R : NodeLists} (rows : List RowRecord) {r : Bounds} (bounds : BoundsOf ts L R (length rows) r)
       {stray : ℕ} {packets lefts rights : List ℕ} (read : ReadTo r rows room stray packets lefts rights) where
     -- where the policies pass and the rows are not too many, all of them are read
-    all-read : pairTests sizes L R ≡ Passed → length rows ≤ 65535
+    all-read : pairTests ts L R ≡ Passed → length rows ≤ 65535
         → (take (length rows) packets ≡ packetsOf rows) × (take (length rows) lefts ≡ leftsOf rows) × (take (length rows) rights ≡ rightsOf rows)
     all-read passed l =
         let all : r .rows ≡ length rows = bounds .passed passed l .0 in (
@@ -46,17 +47,17 @@ module _ (room : List ℕ) (long : length room ≡ 65535) where
           read-whole rights (rightsOf rows) (length rows) (r .rows) (read .3) (column-length _ rows) all l,
         )
 
-    first-stray : pairTests sizes L R ≡ Passed → length rows ≤ 65535
-        → stray ≡ orEnd (length rows) (lowest (strays (take (length rows) packets) (take (length rows) lefts) (take (length rows) rights) (product sizes) (dupsOf L R)) (length rows))
+    first-stray : pairTests ts L R ≡ Passed → length rows ≤ 65535
+        → stray ≡ orEnd (length rows) (lowest (strays (take (length rows) packets) (take (length rows) lefts) (take (length rows) rights) (product (jointSizes ts)) (dupsOf L R)) (length rows))
     first-stray passed l =
         let e = bounds .passed passed l in
         let c = all-read passed l in
         let dups : List ℕ = dupsOf L R in
-        read .0 ∙ (λ i. strayIn (e .0 i) (e .1 i) (e .2 i) rows (e .0 i)) ∙ stray-lowest (length rows) (product sizes) dups rows (length rows) (omega arith)
-        ∙ (λ i. orEnd (length rows) (lowest (strays (sym (c .0) i) (sym (c .1) i) (sym (c .2) i) (product sizes) dups) (length rows)))
+        read .0 ∙ (λ i. strayIn (e .0 i) (e .1 i) (e .2 i) rows (e .0 i)) ∙ stray-lowest (length rows) (product (jointSizes ts)) dups rows (length rows) (omega arith)
+        ∙ (λ i. orEnd (length rows) (lowest (strays (sym (c .0) i) (sym (c .1) i) (sym (c .2) i) (product (jointSizes ts)) dups) (length rows)))
 
     -- what the check of the lists asks
-    pub read-table : ReadTable sizes L R packets lefts rights (length rows) stray
+    pub read-table : ReadTable ts L R packets lefts rights (length rows) stray
     read-table =
         record {
           long = λ l. (
@@ -68,6 +69,6 @@ module _ (room : List ℕ) (long : length room ≡ 65535) where
         }
 
     -- what it promises of the lists holds of the columns
-    pub columns-out : {work answer work′ : List ℕ} → ColumnsOut sizes L R packets lefts rights (length rows) work answer work′
-        → EvidenceOut sizes L R (packetsOf rows) (leftsOf rows) (rightsOf rows) work answer work′
+    pub columns-out : {work answer work′ : List ℕ} → ColumnsOut ts L R packets lefts rights (length rows) work answer work′
+        → EvidenceOut ts L R (packetsOf rows) (leftsOf rows) (rightsOf rows) work answer work′
     columns-out out = out .columns (packetsOf rows) (leftsOf rows) (rightsOf rows) (column-length _ rows) (column-length _ rows) (column-length _ rows) all-read

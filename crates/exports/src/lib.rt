@@ -2,6 +2,7 @@
 ghost use mathlib.Core.Path.{_≡_};
 ghost use lib.ListN.{length};
 ghost use Rattle.packet.specs.Packets.{numberOf};
+ghost use Rattle.fields.specs.Tables.{table, tables, tablesAtEntry, jointSizes};
 ghost use Rattle.policy.specs.AsLists.{asLists, policyAtEntry};
 ghost use Rattle.legality.specs.Answers.{policyLegality, pairLegality};
 ghost use Rattle.turning.specs.Turning.{valuesTests, valuesAnswer, valuesLeft, numberTests, numberAnswer};
@@ -17,43 +18,80 @@ use records::RowRecord;
 // A packet's number turned into its values.
 #[no_mangle]
 pub extern "C" fn netkat_values(
-    sizes: &[u16],
+    left_names: &[u8],
+    left_sizes: &[u16],
+    right_names: &[u8],
+    right_sizes: &[u16],
     number: u16,
     values: &mut [u16],
     answer: &mut [u64; 8],
 )
-    ensures numbers { λ _. ⌜ now (answer .exit) ≡ valuesNumbers (valuesAnswer (valuesTests (now (sizes .entry)) number (length (now (values .entry))))) ⌝ }
-    ensures list { λ _. ⌜ now (values .exit) ≡ valuesLeft (now (sizes .entry)) number (now (values .entry)) ⌝ }
+    ensures numbers { λ _. ⌜ now (answer .exit) ≡ valuesNumbers (valuesAnswer (valuesTests (tablesAtEntry «left_names» «left_sizes» «right_names» «right_sizes») number (length (now (values .entry))))) ⌝ }
+    ensures list { λ _. ⌜ now (values .exit) ≡ valuesLeft (tablesAtEntry «left_names» «left_sizes» «right_names» «right_sizes») number (now (values .entry)) ⌝ }
 {
-    *answer = answer_numbers::of_values(turning::values_of(sizes, number, values));
+    *answer = answer_numbers::of_values(turning::values_of(
+        left_names,
+        left_sizes,
+        right_names,
+        right_sizes,
+        number,
+        values,
+    ));
 }
 
 // Values turned into a packet's number.
 #[no_mangle]
-pub extern "C" fn netkat_number(sizes: &[u16], values: &[u16], answer: &mut [u64; 8])
-    ensures { λ _. ⌜ now (answer .exit) ≡ numberNumbers (numberAnswer (numberTests (now (sizes .entry)) (now (values .entry))) (numberOf (now (sizes .entry)) (now (values .entry)))) ⌝ }
+pub extern "C" fn netkat_number(
+    left_names: &[u8],
+    left_sizes: &[u16],
+    right_names: &[u8],
+    right_sizes: &[u16],
+    values: &[u16],
+    answer: &mut [u64; 8],
+)
+    ensures { λ _. ⌜ now (answer .exit) ≡ numberNumbers (numberAnswer (numberTests (tablesAtEntry «left_names» «left_sizes» «right_names» «right_sizes») (now (values .entry))) (numberOf (jointSizes (tablesAtEntry «left_names» «left_sizes» «right_names» «right_sizes»)) (now (values .entry)))) ⌝ }
 {
-    *answer = answer_numbers::of_number(turning::number_of(sizes, values));
+    *answer = answer_numbers::of_number(turning::number_of(
+        left_names,
+        left_sizes,
+        right_names,
+        right_sizes,
+        values,
+    ));
 }
 
 // One policy tested.
 #[no_mangle]
 pub extern "C" fn netkat_policy(
-    sizes: &[u16],
+    left_names: &[u8],
+    left_sizes: &[u16],
+    right_names: &[u8],
+    right_sizes: &[u16],
     kind: &[u8],
     first: &[u16],
     second: &[u16],
     answer: &mut [u64; 8],
 )
-    ensures { λ _. ⌜ now (answer .exit) ≡ policyNumbers (policyLegality (now (sizes .entry)) (policyAtEntry kind first second)) ⌝ }
+    ensures { λ _. ⌜ now (answer .exit) ≡ policyNumbers (policyLegality (tablesAtEntry «left_names» «left_sizes» «right_names» «right_sizes») (policyAtEntry kind first second)) ⌝ }
 {
-    *answer = answer_numbers::of_policy(legality::policy_legality(sizes, kind, first, second));
+    *answer = answer_numbers::of_policy(legality::policy_legality(
+        left_names,
+        left_sizes,
+        right_names,
+        right_sizes,
+        kind,
+        first,
+        second,
+    ));
 }
 
 // Two policies tested.
 #[no_mangle]
 pub extern "C" fn netkat_policies(
-    sizes: &[u16],
+    left_names: &[u8],
+    left_sizes: &[u16],
+    right_names: &[u8],
+    right_sizes: &[u16],
     left_kind: &[u8],
     left_first: &[u16],
     left_second: &[u16],
@@ -62,10 +100,13 @@ pub extern "C" fn netkat_policies(
     right_second: &[u16],
     answer: &mut [u64; 8],
 )
-    ensures { λ _. ⌜ now (answer .exit) ≡ pairNumbers (pairLegality (now (sizes .entry)) (policyAtEntry «left_kind» «left_first» «left_second») (policyAtEntry «right_kind» «right_first» «right_second»)) ⌝ }
+    ensures { λ _. ⌜ now (answer .exit) ≡ pairNumbers (pairLegality (tablesAtEntry «left_names» «left_sizes» «right_names» «right_sizes») (policyAtEntry «left_kind» «left_first» «left_second») (policyAtEntry «right_kind» «right_first» «right_second»)) ⌝ }
 {
     *answer = answer_numbers::of_pair(legality::pair_legality(
-        sizes,
+        left_names,
+        left_sizes,
+        right_names,
+        right_sizes,
         left_kind,
         left_first,
         left_second,
@@ -78,21 +119,39 @@ pub extern "C" fn netkat_policies(
 // One text read.
 #[no_mangle]
 pub extern "C" fn netkat_read(
+    left_names: &[u8],
+    left_sizes: &[u16],
+    right_names: &[u8],
+    right_sizes: &[u16],
+    side: u8,
     text: &[u8],
     kind: &mut [u8],
     first: &mut [u16],
     second: &mut [u16],
     answer: &mut [u64; 8],
 )
-    ensures { λ _. ⌜ ReadOut (now (text .entry)) (now (kind .entry)) (now (first .entry)) (now (second .entry)) (now (answer .exit)) (now (kind .exit)) (now (first .exit)) (now (second .exit)) ⌝ }
+    ensures { λ _. ⌜ ReadOut (table (now («left_names» .entry)) (now («left_sizes» .entry))) (table (now («right_names» .entry)) (now («right_sizes» .entry))) side (now (text .entry)) (now (kind .entry)) (now (first .entry)) (now (second .entry)) (now (answer .exit)) (now (kind .exit)) (now (first .exit)) (now (second .exit)) ⌝ }
 {
-    *answer = answer_numbers::of_text(text::read(text, kind, first, second));
+    *answer = answer_numbers::of_text(text::read(
+        left_names,
+        left_sizes,
+        right_names,
+        right_sizes,
+        side,
+        text,
+        kind,
+        first,
+        second,
+    ));
 }
 
 // Two policies searched.
 #[no_mangle]
 pub extern "C" fn netkat_search(
-    sizes: &[u16],
+    left_names: &[u8],
+    left_sizes: &[u16],
+    right_names: &[u8],
+    right_sizes: &[u16],
     left_kind: &[u8],
     left_first: &[u16],
     left_second: &[u16],
@@ -107,10 +166,13 @@ pub extern "C" fn netkat_search(
     work: &mut [u32],
     answer: &mut [u64; 8],
 )
-    ensures { λ _. ⌜ SearchedOut (now (sizes .entry)) (policyAtEntry «left_kind» «left_first» «left_second») (policyAtEntry «right_kind» «right_first» «right_second») (lentAtEntry packet left right parent trace work) (now (answer .exit)) (lentAtExit packet left right parent trace work) ⌝ }
+    ensures { λ _. ⌜ SearchedOut (tablesAtEntry «left_names» «left_sizes» «right_names» «right_sizes») (policyAtEntry «left_kind» «left_first» «left_second») (policyAtEntry «right_kind» «right_first» «right_second») (lentAtEntry packet left right parent trace work) (now (answer .exit)) (lentAtExit packet left right parent trace work) ⌝ }
 {
     *answer = answer_numbers::of_verdict(search::search(
-        sizes,
+        left_names,
+        left_sizes,
+        right_names,
+        right_sizes,
         left_kind,
         left_first,
         left_second,
@@ -129,7 +191,10 @@ pub extern "C" fn netkat_search(
 // Two texts searched.
 #[no_mangle]
 pub extern "C" fn netkat_search_texts(
-    sizes: &[u16],
+    left_names: &[u8],
+    left_sizes: &[u16],
+    right_names: &[u8],
+    right_sizes: &[u16],
     left_text: &[u8],
     right_text: &[u8],
     packet: &mut [u16],
@@ -140,10 +205,13 @@ pub extern "C" fn netkat_search_texts(
     work: &mut [u32],
     answer: &mut [u64; 8],
 )
-    ensures { λ _. ⌜ TextsOut (now (sizes .entry)) (now («left_text» .entry)) (now («right_text» .entry)) (lentAtEntry packet left right parent trace work) (now (answer .exit)) (lentAtExit packet left right parent trace work) ⌝ }
+    ensures { λ _. ⌜ TextsOut (table (now («left_names» .entry)) (now («left_sizes» .entry))) (table (now («right_names» .entry)) (now («right_sizes» .entry))) (now («left_text» .entry)) (now («right_text» .entry)) (lentAtEntry packet left right parent trace work) (now (answer .exit)) (lentAtExit packet left right parent trace work) ⌝ }
 {
     *answer = answer_numbers::of_verdict(search_texts::search(
-        sizes,
+        left_names,
+        left_sizes,
+        right_names,
+        right_sizes,
         left_text,
         right_text,
         packet,
@@ -158,7 +226,10 @@ pub extern "C" fn netkat_search_texts(
 // A row table checked.
 #[no_mangle]
 pub extern "C" fn netkat_evidence(
-    sizes: &[u16],
+    left_names: &[u8],
+    left_sizes: &[u16],
+    right_names: &[u8],
+    right_sizes: &[u16],
     left_kind: &[u8],
     left_first: &[u16],
     left_second: &[u16],
@@ -171,10 +242,13 @@ pub extern "C" fn netkat_evidence(
     work: &mut [u32],
     answer: &mut [u64; 8],
 )
-    ensures { λ _. ⌜ EvidenceOut (now (sizes .entry)) (policyAtEntry «left_kind» «left_first» «left_second») (policyAtEntry «right_kind» «right_first» «right_second») (now (packet .entry)) (now (left .entry)) (now (right .entry)) (now (work .entry)) (now (answer .exit)) (now (work .exit)) ⌝ }
+    ensures { λ _. ⌜ EvidenceOut (tablesAtEntry «left_names» «left_sizes» «right_names» «right_sizes») (policyAtEntry «left_kind» «left_first» «left_second») (policyAtEntry «right_kind» «right_first» «right_second») (now (packet .entry)) (now (left .entry)) (now (right .entry)) (now (work .entry)) (now (answer .exit)) (now (work .exit)) ⌝ }
 {
     *answer = answer_numbers::of_evidence(evidence::check(
-        sizes,
+        left_names,
+        left_sizes,
+        right_names,
+        right_sizes,
         left_kind,
         left_first,
         left_second,
@@ -190,7 +264,10 @@ pub extern "C" fn netkat_evidence(
 
 // A table of so many records checked, whose columns were read, with the first record that breaks rule (a).
 fn evidence_read(
-    sizes: &[u16],
+    left_names: &[u8],
+    left_sizes: &[u16],
+    right_names: &[u8],
+    right_sizes: &[u16],
     left_kind: &[u8],
     left_first: &[u16],
     left_second: &[u16],
@@ -205,11 +282,14 @@ fn evidence_read(
     work: &mut [u32],
     answer: &mut [u64; 8],
 )
-    requires { ⌜ ReadTable (now sizes) (asLists (now «left_kind») (now «left_first») (now «left_second»)) (asLists (now «right_kind») (now «right_first») (now «right_second»)) (now packets) (now lefts) (now rights) rows stray ⌝ }
-    ensures { λ _. ⌜ ColumnsOut (now (sizes .entry)) (policyAtEntry «left_kind» «left_first» «left_second») (policyAtEntry «right_kind» «right_first» «right_second») (now (packets .entry)) (now (lefts .entry)) (now (rights .entry)) rows (now (work .entry)) (now (answer .exit)) (now (work .exit)) ⌝ }
+    requires { ⌜ ReadTable (tables (now «left_names») (now «left_sizes») (now «right_names») (now «right_sizes»)) (asLists (now «left_kind») (now «left_first») (now «left_second»)) (asLists (now «right_kind») (now «right_first») (now «right_second»)) (now packets) (now lefts) (now rights) rows stray ⌝ }
+    ensures { λ _. ⌜ ColumnsOut (tablesAtEntry «left_names» «left_sizes» «right_names» «right_sizes») (policyAtEntry «left_kind» «left_first» «left_second») (policyAtEntry «right_kind» «right_first» «right_second») (now (packets .entry)) (now (lefts .entry)) (now (rights .entry)) rows (now (work .entry)) (now (answer .exit)) (now (work .exit)) ⌝ }
 {
     *answer = answer_numbers::of_evidence(evidence::check_read(
-        sizes,
+        left_names,
+        left_sizes,
+        right_names,
+        right_sizes,
         left_kind,
         left_first,
         left_second,
@@ -229,7 +309,10 @@ fn evidence_read(
 // the index looks rows up.
 #[no_mangle]
 pub extern "C" fn netkat_evidence_rows(
-    sizes: &[u16],
+    left_names: &[u8],
+    left_sizes: &[u16],
+    right_names: &[u8],
+    right_sizes: &[u16],
     left_kind: &[u8],
     left_first: &[u16],
     left_second: &[u16],
@@ -240,13 +323,16 @@ pub extern "C" fn netkat_evidence_rows(
     work: &mut [u32],
     answer: &mut [u64; 8],
 )
-    ensures { λ _. ⌜ EvidenceOut (now (sizes .entry)) (policyAtEntry «left_kind» «left_first» «left_second») (policyAtEntry «right_kind» «right_first» «right_second») (packetsOf (now (rows .entry))) (leftsOf (now (rows .entry))) (rightsOf (now (rows .entry))) (now (work .entry)) (now (answer .exit)) (now (work .exit)) ⌝ }
+    ensures { λ _. ⌜ EvidenceOut (tablesAtEntry «left_names» «left_sizes» «right_names» «right_sizes») (policyAtEntry «left_kind» «left_first» «left_second») (policyAtEntry «right_kind» «right_first» «right_second») (packetsOf (now (rows .entry))) (leftsOf (now (rows .entry))) (rightsOf (now (rows .entry))) (now (work .entry)) (now (answer .exit)) (now (work .exit)) ⌝ }
 {
     let mut packets = [0u16; 65535];
     let mut lefts = [0; 65535];
     let mut rights = [0; 65535];
     let bounds = evidence::bounds_of(
-        sizes,
+        left_names,
+        left_sizes,
+        right_names,
+        right_sizes,
         left_kind,
         left_first,
         left_second,
@@ -266,7 +352,10 @@ pub extern "C" fn netkat_evidence_rows(
         &mut rights,
     );
     evidence_read(
-        sizes,
+        left_names,
+        left_sizes,
+        right_names,
+        right_sizes,
         left_kind,
         left_first,
         left_second,
@@ -286,7 +375,10 @@ pub extern "C" fn netkat_evidence_rows(
 // A trace checked.
 #[no_mangle]
 pub extern "C" fn netkat_trace(
-    sizes: &[u16],
+    left_names: &[u8],
+    left_sizes: &[u16],
+    right_names: &[u8],
+    right_sizes: &[u16],
     left_kind: &[u8],
     left_first: &[u16],
     left_second: &[u16],
@@ -298,10 +390,13 @@ pub extern "C" fn netkat_trace(
     work: &mut [u32],
     answer: &mut [u64; 8],
 )
-    ensures { λ _. ⌜ TraceOut (now (sizes .entry)) (policyAtEntry «left_kind» «left_first» «left_second») (policyAtEntry «right_kind» «right_first» «right_second») entering (now (trace .entry)) (now (work .entry)) (now (answer .exit)) (now (work .exit)) ⌝ }
+    ensures { λ _. ⌜ TraceOut (tablesAtEntry «left_names» «left_sizes» «right_names» «right_sizes») (policyAtEntry «left_kind» «left_first» «left_second») (policyAtEntry «right_kind» «right_first» «right_second») entering (now (trace .entry)) (now (work .entry)) (now (answer .exit)) (now (work .exit)) ⌝ }
 {
     *answer = answer_numbers::of_trace(traces::check(
-        sizes,
+        left_names,
+        left_sizes,
+        right_names,
+        right_sizes,
         left_kind,
         left_first,
         left_second,

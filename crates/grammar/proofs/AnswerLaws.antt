@@ -12,14 +12,16 @@ use borrow.Author.Tests.{lt-ltb, le-ltb, ltb-false, ne-eqb}
 use Rattle.packet.specs.Refusals.{refusal, refusedAt, firstOf}
 use Rattle.packet.specs.declared.Refusal.{Refusal}
 use Rattle.packet.specs.declared.Tested.the-variants.{Passed, Refused as Failed}
+use Rattle.packet.proofs.Stages.{firstOf-last}
+use Rattle.fields.specs.Tables.{Table, tablesStage}
 use Rattle.policy.specs.Tree.{Policy}
 use Rattle.policy.specs.NodesOfTree.{treeSize}
 use Rattle.grammar.specs.declared.Answer.{Answer}
 use Rattle.grammar.specs.declared.Answer.the-variants.{Nodes, Refused}
-use Rattle.grammar.specs.Tokens.{Token, Placed, constant, field, number, comparison, plus, semicolon, asterisk, opening, closing, exclamation, bad, isBad, tokens, fieldNames}
+use Rattle.grammar.specs.Tokens.{Token, Placed, constant, field, number, comparison, plus, semicolon, asterisk, opening, closing, exclamation, bad, isBad, tokens}
 use Rattle.grammar.specs.InnerKinds.{kindOf, frontKind, frontPlace, afterFront, openAfterKind}
 use Rattle.grammar.specs.Reading.{tree}
-use Rattle.grammar.specs.Answer.{badPlace, openAfter, deepPlace, stopPlace, treeRead, tooMany, answerAfter, outcome, textTree, tested, answerTo, leftBy, shortest, TextRead}
+use Rattle.grammar.specs.Answer.{badPlace, openAfter, deepPlace, stopPlace, treeRead, tooMany, answerAfter, outcome, textTree, tested, answerTo, leftBy, shortest, ReadWith, textNames, readTests, readAnswer, TextRead}
 
 -- no token has the kind of the end
 never-end : (t : Token) → kindOf t ≡ 1 → ⊥
@@ -189,12 +191,12 @@ pub count-answers : (names : List (List ℕ)) (text : List ℕ) (room n : ℕ) (
 unfolding answerTo tested answerAfter firstOf refusedAt textTree stopPlace treeRead tooMany
 count-answers names text room n p a b c d l = rw (a, b, c, d, le-ltb (min 512 room) n l)
 
-module _ (text : List ℕ) (room n : ℕ) (e : Nodes n ≡ answerTo fieldNames text room) where
-  pub parts : (stopPlace (outcome fieldNames text) ≡ none) × (tooMany room (treeSize (textTree fieldNames text)) ≡ none) × (treeSize (textTree fieldNames text) ≡ n)
-  parts = let q = count-parts fieldNames text room n e in (q .1, q .2, q .3)
+module _ (names : List (List ℕ)) (text : List ℕ) (room n : ℕ) (e : Nodes n ≡ answerTo names text room) where
+  pub parts : (stopPlace (outcome names text) ≡ none) × (tooMany room (treeSize (textTree names text)) ≡ none) × (treeSize (textTree names text) ≡ n)
+  parts = let q = count-parts names text room n e in (q .1, q .2, q .3)
 
   pub nodes-few : n ≤ min 512 room
-  nodes-few = let q : treeSize (textTree fieldNames text) ≤ min 512 room = few-enough room (treeSize (textTree fieldNames text)) (parts .1) in subst (λ (k : ℕ). k ≤ min 512 room) (parts .2) q
+  nodes-few = let q : treeSize (textTree names text) ≤ min 512 room = few-enough room (treeSize (textTree names text)) (parts .1) in subst (λ (k : ℕ). k ≤ min 512 room) (parts .2) q
 
 pub stage-passes : (k : ℕ) (o : Option ℕ) → o ≡ none → Passed ≡ refusedAt k 0 o
 unfolding refusedAt
@@ -204,13 +206,27 @@ pub stage-refuses : (k place place′ : ℕ) (o : Option ℕ) (r : Refusal) → 
 unfolding refusedAt
 stage-refuses k place place′ o r e q f = rw (e, f, q)
 
--- ---- the public call, whose room is the shortest lent list
+-- ---- the reader over some names, whose room is the shortest lent list
 
-module _ (text K F S : List ℕ) (room m : ℕ) (r : Answer) (inner : m ≡ min (length F) (length S)) (outer : room ≡ min (length K) m) (says : r ≡ answerTo fieldNames text room) where
-  pub answer-is : r ≡ answerTo fieldNames text (shortest K F S)
+module _ (names : List (List ℕ)) (text K F S : List ℕ) (room m : ℕ) (r : Answer) (inner : m ≡ min (length F) (length S)) (outer : room ≡ min (length K) m) (says : r ≡ answerTo names text room) where
+  pub answer-is : r ≡ answerTo names text (shortest K F S)
   unfolding shortest
-  answer-is = says ∙ ap (answerTo fieldNames text) (outer ∙ ap (λ (k : ℕ). min (length K) k) inner)
+  answer-is = says ∙ ap (answerTo names text) (outer ∙ ap (λ (k : ℕ). min (length K) k) inner)
 
-  pub read-refused : (x : Refusal) → r ≡ Refused x → TextRead text K F S r K F S
+  pub with-refused : (x : Refusal) → r ≡ Refused x → ReadWith names text K F S r K F S
   unfolding leftBy
-  read-refused x e = record { answer = answer-is; kinds = rw e; firsts = rw e; seconds = rw e }
+  with-refused x e = record { answer = answer-is; kinds = rw e; firsts = rw e; seconds = rw e }
+
+-- ---- the public call: the causes of the tables, then the reader over the names of the text's side
+
+module _ {left right : Table} {side : ℕ} {text K F S : List ℕ} where
+  pub tables-refuse : {x : Refusal} → Failed x ≡ tablesStage (left ∷ right ∷ []) → TextRead left right side text K F S (Refused x) K F S
+  unfolding readAnswer readTests answerAfter firstOf leftBy
+  tables-refuse e = record { answer = rw (← e); kinds = refl; firsts = refl; seconds = refl }
+
+  pub tables-pass : {r : Answer} {K′ F′ S′ : List ℕ} (names : List (List ℕ)) → Passed ≡ tablesStage (left ∷ right ∷ []) → names ≡ textNames left right side
+      → ReadWith names text K F S r K′ F′ S′ → TextRead left right side text K F S r K′ F′ S′
+  unfolding readAnswer readTests answerTo firstOf
+  tables-pass {r} {K′} {F′} {S′} names e n h =
+      let d : ReadWith (textNames left right side) text K F S r K′ F′ S′ = subst (λ (ns : List (List ℕ)). ReadWith ns text K F S r K′ F′ S′) n h in
+      record { answer = d .answer ∙ rw (← e, firstOf-last (tested (textNames left right side) text (shortest K F S))); kinds = d .kinds; firsts = d .firsts; seconds = d .seconds }

@@ -8,23 +8,49 @@ use Rattle.packet.specs.Refusals.{refusal, refusedAt, firstOf}
 use Rattle.policy.specs.Tree.{drop, id, dup, sum, seq, star, neg}
 use Rattle.policy.specs.Tree
 use Rattle.policy.specs.NodesOfTree.{treeSize}
-use Rattle.policy.specs.declared.FieldAction.the-variants.{Equals, Differs}
+use Rattle.policy.specs.declared.FieldAction.the-variants.{Equals, Differs, Set}
 use Rattle.grammar.specs.declared.Answer.{Answer}
 use Rattle.grammar.specs.declared.Answer.the-variants.{Nodes, Refused}
-use Rattle.grammar.specs.Bytes.{isBlank, isLetter, isDigit, inWord}
-use Rattle.grammar.specs.Tokens.{sameWord, allDigits, decimal, leadingZero, isNumber, numberToken, fieldToken, fieldNamed, wordToken, singleMark, isDouble, doubleMark, beginsDouble, markToken, wordOf, frontToken, isBad, restOfToken, placedFrom, tokensFrom, tokens, fieldNames}
+use Rattle.fields.specs.Bytes.{isBlank, isCapital, isSmall, isLetter, isDigit, inWord}
+use Rattle.fields.specs.Names.{sameWord, fieldNamed}
+use Rattle.grammar.specs.Tokens.{allDigits, decimal, leadingZero, isNumber, numberToken, fieldToken, wordToken, singleMark, isDouble, doubleMark, beginsDouble, markToken, wordOf, frontToken, isBad, restOfToken, placedFrom, tokensFrom, tokens}
 use Rattle.grammar.specs.Grammar.{constantPolicy, fieldAction}
 use Rattle.grammar.specs.Reading.{Outcome, tree, nothing, joinSequence, joinSum, upTo, whole, negated, start, negating, itemRead, close, step, finish, readOn}
 use Rattle.grammar.specs.Answer.{badPlace, openAfter, deepPlace, stopPlace, treeRead, tooMany, answerAfter, outcome, textTree, tested, answerTo}
 
--- a text's reading and answer, which compute where these two are opened
-unfoldable pub readingOf : List ℕ → Outcome
-unfolding outcome tokens tokensFrom placedFrom restOfToken isBad frontToken wordOf markToken beginsDouble isDouble doubleMark singleMark wordToken fieldNamed fieldToken numberToken isNumber leadingZero decimal allDigits sameWord isBlank isLetter isDigit inWord fieldNames lowest orAt constantPolicy fieldAction nothing joinSequence joinSum upTo whole negated start negating itemRead close step finish readOn
-readingOf text = outcome fieldNames text
+-- f0 to f7
+unfoldable fieldNames : List (List ℕ)
+fieldNames =
+    (102 ∷ 48 ∷ [])
+    ∷ (102 ∷ 49 ∷ [])
+    ∷ (102 ∷ 50 ∷ [])
+    ∷ (102 ∷ 51 ∷ [])
+    ∷ (102 ∷ 52 ∷ [])
+    ∷ (102 ∷ 53 ∷ [])
+    ∷ (102 ∷ 54 ∷ [])
+    ∷ (102 ∷ 55 ∷ [])
+    ∷ []
 
-unfoldable pub answerOf : List ℕ → ℕ → Answer
-unfolding readingOf badPlace openAfter deepPlace stopPlace treeRead tooMany answerAfter textTree tested answerTo refusedAt firstOf treeSize
-answerOf text room = answerTo fieldNames text room
+-- sw and vlan are fields 0 and 2; field 1 has a name that this text's table lacks
+unfoldable switchNames : List (List ℕ)
+switchNames = (115 ∷ 119 ∷ []) ∷ [] ∷ (118 ∷ 108 ∷ 97 ∷ 110 ∷ []) ∷ []
+
+-- a text's reading and answer, which compute where these are opened
+unfoldable readingWith : List (List ℕ) → List ℕ → Outcome
+unfolding outcome tokens tokensFrom placedFrom restOfToken isBad frontToken wordOf markToken beginsDouble isDouble doubleMark singleMark wordToken fieldNamed fieldToken numberToken isNumber leadingZero decimal allDigits sameWord isBlank isCapital isSmall isLetter isDigit inWord lowest orAt constantPolicy fieldAction nothing joinSequence joinSum upTo whole negated start negating itemRead close step finish readOn
+readingWith names text = outcome names text
+
+unfoldable answerWith : List (List ℕ) → List ℕ → ℕ → Answer
+unfolding readingWith badPlace openAfter deepPlace stopPlace treeRead tooMany answerAfter textTree tested answerTo refusedAt firstOf treeSize
+answerWith names text room = answerTo names text room
+
+unfoldable readingOf : List ℕ → Outcome
+unfolding readingWith fieldNames
+readingOf text = readingWith fieldNames text
+
+unfoldable answerOf : List ℕ → ℕ → Answer
+unfolding answerWith fieldNames
+answerOf text room = answerWith fieldNames text room
 
 -- f0=0;dup
 p2 : readingOf (102 ∷ 48 ∷ 61 ∷ 48 ∷ 59 ∷ 100 ∷ 117 ∷ 112 ∷ []) ≡ tree (seq (Tree.field (Equals 0 0)) (dup 0))
@@ -121,3 +147,14 @@ blanks = refl
 full : answerOf (40 ∷ 105 ∷ 100 ∷ 41 ∷ 42 ∷ 59 ∷ 100 ∷ 117 ∷ 112 ∷ []) 3 ≡ Refused (refusal 17 0 4)
 unfolding answerOf refusal
 full = refl
+
+-- sw=1;vlan<-2: each name at its number
+switch-names : readingWith switchNames (115 ∷ 119 ∷ 61 ∷ 49 ∷ 59 ∷ 118 ∷ 108 ∷ 97 ∷ 110 ∷ 60 ∷ 45 ∷ 50 ∷ [])
+    ≡ tree (seq (Tree.field (Equals 0 1)) (Tree.field (Set 2 2)))
+unfolding readingWith switchNames
+switch-names = refl
+
+-- sw=1;port=2: a field of the other table alone is no field here
+hidden-name : answerWith switchNames (115 ∷ 119 ∷ 61 ∷ 49 ∷ 59 ∷ 112 ∷ 111 ∷ 114 ∷ 116 ∷ 61 ∷ 50 ∷ []) 9 ≡ Refused (refusal 14 0 5)
+unfolding answerWith switchNames refusal
+hidden-name = refl

@@ -1,4 +1,5 @@
--- What the reader answers and leaves in the lent lists: causes 14 to 17 of document 01, each over the whole text before the next.
+-- What the reader answers and leaves in the lent lists: the causes of the tables (document 02, A.4), then 14 to 17 of document 01, each over the
+-- whole text before the next.
 use Prim.Native.Nat.{ℕ, suc, pred, min}
 use mathlib.Core.Bool.{true, false, cond}
 use mathlib.Core.List.{List, [], _∷_}
@@ -10,12 +11,13 @@ use Rattle.packet.specs.Refusals.{refusedAt, firstOf}
 use Rattle.packet.specs.Written.{written}
 use Rattle.packet.specs.declared.Tested.{Tested}
 use Rattle.packet.specs.declared.Tested.the-variants.{Passed, Refused as Failed}
+use Rattle.fields.specs.Tables.{Table, namesFor, tableOn, tablesStage}
 use Rattle.policy.specs.Tree.{Policy}
 use Rattle.policy.specs.Tree
 use Rattle.policy.specs.NodesOfTree.{treeSize, nodesOf}
 use Rattle.grammar.specs.declared.Answer.{Answer}
 use Rattle.grammar.specs.declared.Answer.the-variants.{Nodes, Refused}
-use Rattle.grammar.specs.Tokens.{fieldNames, Token, Placed, constant, field, number, comparison, plus, semicolon, asterisk, opening, closing, exclamation, bad, isBad, tokens}
+use Rattle.grammar.specs.Tokens.{Token, Placed, constant, field, number, comparison, plus, semicolon, asterisk, opening, closing, exclamation, bad, isBad, tokens}
 use Rattle.grammar.specs.Reading.{Outcome, tree, stop, start, readOn}
 
 -- cause 14: the first token that is bad
@@ -93,9 +95,28 @@ leftBy (Refused r) entries old = old
 unfoldable pub shortest : List ℕ → List ℕ → List ℕ → ℕ
 shortest kind first second = min (length kind) (min (length first) (length second))
 
--- what reading a text does, whatever its bytes and the lists' lengths
-pub record TextRead (text kind first second : List ℕ) (r : Answer) (kind′ first′ second′ : List ℕ) : Type 0 where
-  pub answer : r ≡ answerTo fieldNames text (shortest kind first second)
-  pub kinds : kind′ ≡ leftBy r (nodesOf (textTree fieldNames text) .kind) kind
-  pub firsts : first′ ≡ leftBy r (nodesOf (textTree fieldNames text) .first) first
-  pub seconds : second′ ≡ leftBy r (nodesOf (textTree fieldNames text) .second) second
+-- what reading a text over some names does, whatever its bytes and the lists' lengths
+pub record ReadWith (names : List (List ℕ)) (text kind first second : List ℕ) (r : Answer) (kind′ first′ second′ : List ℕ) : Type 0 where
+  pub answer : r ≡ answerTo names text (shortest kind first second)
+  pub kinds : kind′ ≡ leftBy r (nodesOf (textTree names text) .kind) kind
+  pub firsts : first′ ≡ leftBy r (nodesOf (textTree names text) .first) first
+  pub seconds : second′ ≡ leftBy r (nodesOf (textTree names text) .second) second
+
+module _ (left right : Table) (side : ℕ) where
+  -- the names that a text of the side may use, at their joint numbers
+  unfoldable pub textNames : List (List ℕ)
+  textNames = namesFor (left ∷ right ∷ []) (tableOn side left right)
+
+  -- the order of causes: the tables, then the text
+  unfoldable pub readTests : List ℕ → ℕ → Tested
+  readTests text room = firstOf (tablesStage (left ∷ right ∷ []) ∷ tested textNames text room ∷ [])
+
+  unfoldable pub readAnswer : List ℕ → ℕ → Answer
+  readAnswer text room = answerAfter (readTests text room) (treeSize (textTree textNames text))
+
+-- what reading a text of one side does, whatever the tables, its bytes and the lists' lengths
+pub record TextRead (left right : Table) (side : ℕ) (text kind first second : List ℕ) (r : Answer) (kind′ first′ second′ : List ℕ) : Type 0 where
+  pub answer : r ≡ readAnswer left right side text (shortest kind first second)
+  pub kinds : kind′ ≡ leftBy r (nodesOf (textTree (textNames left right side) text) .kind) kind
+  pub firsts : first′ ≡ leftBy r (nodesOf (textTree (textNames left right side) text) .first) first
+  pub seconds : second′ ≡ leftBy r (nodesOf (textTree (textNames left right side) text) .second) second

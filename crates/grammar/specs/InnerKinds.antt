@@ -3,7 +3,7 @@ use Prim.Native.Nat.{ℕ, zero, suc, pred}
 use mathlib.Core.Bool.{cond}
 use mathlib.Core.List.{List, [], _∷_}
 use lib.Dec.{eqb}
-use Rattle.grammar.specs.Bytes.{isBlank, isLetter, isDigit}
+use Rattle.fields.specs.Bytes.{isBlank, isLetter, isDigit}
 use Rattle.grammar.specs.Tokens.{Token, Placed, Constant, Comparison, dropped, passed, recorded, equals, differs, assigned, constant, field, number, comparison, plus, semicolon, asterisk, opening, closing, exclamation, bad, singleMark, beginsDouble}
 
 -- 1 is the end of the text

@@ -1,12 +1,12 @@
--- Tokens of a text (document 01, "Text", and document 02, A.1). The table of field names is a parameter.
+-- Tokens of a text (document 01, "Text", and document 02, A.1 and A.4). The names of the fields are a parameter.
 use Prim.Native.Nat.{ℕ, zero, suc, _+_, _-_, _*_}
 use mathlib.Core.Bool.{Bool, true, false, cond, not, _&&_, _||_}
 use mathlib.Core.List.{List, [], _∷_}
 use mathlib.Core.Option.{Option, none, some}
 use lib.Dec.{leb, ltb, eqb}
 use lib.ListN.{length, getD, drop}
-use Rattle.packet.specs.Lowest.{lowest}
-use Rattle.grammar.specs.Bytes.{isBlank, isDigit, inWord}
+use Rattle.fields.specs.Bytes.{isBlank, isDigit, inWord}
+use Rattle.fields.specs.Names.{sameWord, fieldNamed, wordDrop, wordId, wordDup}
 
 -- drop, id and dup
 pub data Constant : Type 0 where
@@ -23,13 +23,6 @@ pub data Token : Type 0 where
   number : ℕ → Token
   comparison : Comparison → Token
   plus semicolon asterisk opening closing exclamation bad : Token
-
--- two words are the same, byte for byte
-unfoldable pub sameWord : List ℕ → List ℕ → Bool
-sameWord [] [] = true
-sameWord [] (b ∷ bs) = false
-sameWord (a ∷ as′) [] = false
-sameWord (a ∷ as′) (b ∷ bs) = eqb a b && sameWord as′ bs
 
 unfoldable pub allDigits : List ℕ → Bool
 allDigits [] = true
@@ -55,16 +48,11 @@ unfoldable pub fieldToken : Option ℕ → List ℕ → Token
 fieldToken (some f) w = field f
 fieldToken none w = numberToken w
 
--- the number of the field that bears the name
-unfoldable pub fieldNamed : List (List ℕ) → List ℕ → Option ℕ
-fieldNamed names w = lowest (λ f. sameWord w (getD names f [])) (length names)
-
 -- a word: drop, id, dup, a field's name or a number
 unfoldable pub wordToken : List (List ℕ) → List ℕ → Token
 wordToken names w =
-    cond (sameWord w (100 ∷ 114 ∷ 111 ∷ 112 ∷ [])) (constant dropped)
-    (cond (sameWord w (105 ∷ 100 ∷ [])) (constant passed)
-    (cond (sameWord w (100 ∷ 117 ∷ 112 ∷ [])) (constant recorded) (fieldToken (fieldNamed names w) w)))
+    cond (sameWord w wordDrop) (constant dropped)
+    (cond (sameWord w wordId) (constant passed) (cond (sameWord w wordDup) (constant recorded) (fieldToken (fieldNamed names w) w)))
 
 -- marks of one byte: = + ; * ( )
 unfoldable pub singleMark : ℕ → Token
@@ -137,16 +125,3 @@ module _ (names : List (List ℕ)) where
   -- the tokens of a text
   unfoldable pub tokens : List ℕ → List Placed
   tokens text = tokensFrom text 0
-
--- f0 to f7
-unfoldable pub fieldNames : List (List ℕ)
-fieldNames =
-    (102 ∷ 48 ∷ [])
-    ∷ (102 ∷ 49 ∷ [])
-    ∷ (102 ∷ 50 ∷ [])
-    ∷ (102 ∷ 51 ∷ [])
-    ∷ (102 ∷ 52 ∷ [])
-    ∷ (102 ∷ 53 ∷ [])
-    ∷ (102 ∷ 54 ∷ [])
-    ∷ (102 ∷ 55 ∷ [])
-    ∷ []

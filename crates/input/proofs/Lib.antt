@@ -1,3 +1,8 @@
 pub mod LineLaws
 pub mod SizeLaws
+pub mod PartLaws
+pub mod EntryLaws
+pub mod CellLaws
+pub mod TableLaws
 pub mod AskedLaws
+pub mod Examples

@@ -2,17 +2,17 @@
 use Prim.Native.Nat.{ℕ, suc, _+_, _-_, _≤_, _<_}
 use native.Mathlib.Omega.{arith}
 use mathlib.Core.Bool.{Bool, true, false, true≢false, _&&_}
-use mathlib.Core.List.{List, [], _∷_}
+use mathlib.Core.List.{List, [], _∷_, _++_, append-nil}
 use mathlib.Core.Path.{_≡_, refl, sym, _∙_, ap, ap₂, subst}
 use lib.Dec.{eqb, ltb}
 use lib.ListN.{length, getD, take, drop, drop-of-length-le}
-use lib.Seq.{drop-cons}
+use lib.Seq.{drop-cons, append-snoc}
 use borrow.Author.Tests.{eq-eqb, ne-eqb, ltb-true, ltb-false}
 use Rattle.packet.proofs.Tests.{and-true}
 use Rattle.input.specs.Lines.{beginsLF, isCR, onto, linesOf}
 use Rattle.input.specs.Input.{malformed, askedByLines}
-use Rattle.input.specs.Inner.{part, firstLine, afterLine, LineFrom, notThree, ThreeLines}
-use Rattle.input.specs.declared.lines.Three.{Three}
+use Rattle.input.specs.Inner.{part, firstLine, afterLine, LineFrom, notFour, FourLines}
+use Rattle.input.specs.declared.lines.Four.{Four}
 
 pub and-false : (a : Bool) → a && false ≡ false
 and-false true = refl
@@ -124,7 +124,7 @@ passed-more input from at p h n e =
     let l : from ≤ at = p .low in
     record { low = omega arith; within = omega arith; line = λ end next q. p .line end next (line-more input at h end next n e q) }
 
--- ---- three lines
+-- ---- four lines
 
 -- the byte after a CR that belongs to a line end is LF
 cr-then : (b c : ℕ) (cs : List ℕ) → isCR b (c ∷ cs) ≡ true → eqb c 10 ≡ true
@@ -150,6 +150,10 @@ lines-first b (c ∷ cs) = go (eqb b 10) refl (isCR b (c ∷ cs)) refl (lines-fi
     go false p true q e = rw (p, q, cr-then b c cs q, linesOf, firstLine, afterLine)
     go false p false q e = rw (p, q, linesOf, firstLine, afterLine) (ap (onto b) e)
 
+-- these lines stand before a byte, and the others from it on
+pub record Before (input : List ℕ) (ls : List (List ℕ)) (next : ℕ) : Type 0 where
+  pub lines : linesOf input ≡ ls ++ linesOf (drop next input)
+
 module _ (input : List ℕ) where
   lines-at : {from end next : ℕ} → from < length input → LineFrom input from end next → linesOf (drop from input) ≡ part input from end ∷ linesOf (drop next input)
   lines-at {from} {end} {next} h l =
@@ -162,9 +166,21 @@ module _ (input : List ℕ) where
   unfolding linesOf
   lines-none h = ap linesOf (drop-of-length-le input h)
 
-  nothing : {r : Three} → r ≡ notThree → askedByLines (linesOf input) ≡ malformed → ThreeLines input r
+  pub before-none : Before input [] 0
+  before-none = record { lines = refl }
+
+  pub before-more : {ls : List (List ℕ)} {from end next : ℕ} → Before input ls from → from < length input → LineFrom input from end next → Before input (ls ++ (part input from end ∷ [])) next
+  before-more {ls} {from} {end} {next} q h l =
+      record {
+        lines = q .lines ∙ ap (λ (rest : List (List ℕ)). ls ++ rest) (lines-at h l) ∙ sym (append-snoc ls (part input from end) (linesOf (drop next input)));
+      }
+
+  lines-are : {ls : List (List ℕ)} {next : ℕ} → Before input ls next → length input ≤ next → linesOf input ≡ ls
+  lines-are {ls} q h = q .lines ∙ ap (λ (rest : List (List ℕ)). ls ++ rest) (lines-none h) ∙ append-nil ls
+
+  nothing : {r : Four} → r ≡ notFour → askedByLines (linesOf input) ≡ malformed → FourLines input r
   nothing {r} is e =
-      subst (ThreeLines input) (sym is)
+      subst (FourLines input) (sym is)
       (record {
         read = λ x. absurd (true≢false (sym x));
         first-within = omega arith;
@@ -172,44 +188,56 @@ module _ (input : List ℕ) where
         second-within = omega arith;
         third-low = omega arith;
         third-within = omega arith;
+        fourth-low = omega arith;
+        fourth-within = omega arith;
         not = λ _. e;
       })
 
-  pub three-none : {r : Three} → length input ≡ 0 → r ≡ notThree → ThreeLines input r
+  fewer : (ls : List (List ℕ)) → length ls < 4 → askedByLines ls ≡ malformed
   unfolding askedByLines
-  three-none e is = nothing is (ap askedByLines (lines-none {from = 0} (omega arith)))
+  fewer [] h = refl
+  fewer (a ∷ []) h = refl
+  fewer (a ∷ b ∷ []) h = refl
+  fewer (a ∷ b ∷ c ∷ []) h = refl
+  fewer (a ∷ b ∷ c ∷ d ∷ ls) h = absurd (omega arith)
 
-  module _ (some : 0 < length input) {e₁ n₁ : ℕ} (a : LineFrom input 0 e₁ n₁) where
-    pub three-one : {r : Three} → length input ≤ n₁ → r ≡ notThree → ThreeLines input r
-    unfolding askedByLines
-    three-one h is = nothing is (ap askedByLines (lines-at some a ∙ ap (λ (ls : List (List ℕ)). part input 0 e₁ ∷ ls) (lines-none h)))
+  -- the input ends after fewer than four lines
+  pub four-fewer : {ls : List (List ℕ)} {next : ℕ} {r : Four} → Before input ls next → length input ≤ next → length ls < 4 → r ≡ notFour → FourLines input r
+  four-fewer {ls} q h few is = nothing is (ap askedByLines (lines-are q h) ∙ fewer ls few)
 
-    module _ (second : n₁ < length input) {e₂ n₂ : ℕ} (b : LineFrom input n₁ e₂ n₂) where
-      two : (ls : List (List ℕ)) → linesOf (drop n₂ input) ≡ ls → linesOf input ≡ part input 0 e₁ ∷ part input n₁ e₂ ∷ ls
-      two ls q = lines-at some a ∙ ap (λ (ls : List (List ℕ)). part input 0 e₁ ∷ ls) (lines-at second b ∙ ap (λ (ls : List (List ℕ)). part input n₁ e₂ ∷ ls) q)
+  module _
+      {e₁ n₁ e₂ n₂ e₃ n₃ e₄ n₄ : ℕ}
+      (h₁ : 0 < length input)
+      (a : LineFrom input 0 e₁ n₁)
+      (h₂ : n₁ < length input)
+      (b : LineFrom input n₁ e₂ n₂)
+      (h₃ : n₂ < length input)
+      (c : LineFrom input n₂ e₃ n₃)
+      (h₄ : n₃ < length input)
+      (d : LineFrom input n₃ e₄ n₄)
+    where
+      four : Before input (part input 0 e₁ ∷ part input n₁ e₂ ∷ part input n₂ e₃ ∷ part input n₃ e₄ ∷ []) n₄
+      four = before-more (before-more (before-more (before-more before-none h₁ a) h₂ b) h₃ c) h₄ d
 
-      pub three-two : {r : Three} → length input ≤ n₂ → r ≡ notThree → ThreeLines input r
+      -- it goes on after the fourth
+      pub four-more : {r : Four} → n₄ < length input → r ≡ notFour → FourLines input r
       unfolding askedByLines
-      three-two h is = nothing is (ap askedByLines (two _ (lines-none h)))
+      four-more h is =
+          nothing is
+          (ap askedByLines
+          (four .lines
+          ∙ ap (λ (ls : List (List ℕ)). (part input 0 e₁ ∷ part input n₁ e₂ ∷ part input n₂ e₃ ∷ part input n₃ e₄ ∷ []) ++ ls) (ap linesOf (drop-cons input n₄ 0 h) ∙ lines-first (getD input n₄ 0) (drop (suc n₄) input))))
 
-      module _ (third : n₂ < length input) {e₃ n₃ : ℕ} (c : LineFrom input n₂ e₃ n₃) where
-        pub three-more : {r : Three} → n₃ < length input → r ≡ notThree → ThreeLines input r
-        unfolding askedByLines
-        three-more h is =
-            nothing is
-            (ap askedByLines
-            (two _
-            (lines-at third c
-            ∙ ap (λ (ls : List (List ℕ)). part input n₂ e₃ ∷ ls) (ap linesOf (drop-cons input n₃ 0 h) ∙ lines-first (getD input n₃ 0) (drop (suc n₃) input)))))
-
-        pub three-are : length input ≤ n₃ → ThreeLines input (record { ok = true; «first_end» = e₁; second = n₁; «second_end» = e₂; third = n₂; «third_end» = e₃ })
-        three-are h =
-            record {
-              read = λ _. two _ (lines-at third c ∙ ap (λ (ls : List (List ℕ)). part input n₂ e₃ ∷ ls) (lines-none h));
-              first-within = a .within;
-              second-low = b .low;
-              second-within = b .within;
-              third-low = c .low;
-              third-within = c .within;
-              not = λ x. absurd (true≢false x);
-            }
+      pub four-are : length input ≤ n₄ → FourLines input (record { ok = true; «first_end» = e₁; second = n₁; «second_end» = e₂; third = n₂; «third_end» = e₃; fourth = n₃; «fourth_end» = e₄ })
+      four-are h =
+          record {
+            read = λ _. lines-are four h;
+            first-within = a .within;
+            second-low = b .low;
+            second-within = b .within;
+            third-low = c .low;
+            third-within = c .within;
+            fourth-low = d .low;
+            fourth-within = d .within;
+            not = λ x. absurd (true≢false x);
+          }

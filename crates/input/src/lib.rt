@@ -1,3 +1,3 @@
-// The input of the program: its lines and its sizes (document 01, "The program").
+// The input of the program: its lines and its tables (document 01, "The program"; document 02, A.4).
 pub mod lines;
-pub mod sizes;
+pub mod tables;

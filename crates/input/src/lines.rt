@@ -3,7 +3,7 @@ ghost use mathlib.Core.Path.{_≡_};
 ghost use Prim.Native.Nat.{suc, _<_};
 ghost use lib.ListN.{length, getD, drop};
 ghost use Rattle.input.specs.Lines.{isCR};
-ghost use Rattle.input.specs.Inner.{LineFrom, notThree, ThreeLines};
+ghost use Rattle.input.specs.Inner.{LineFrom, notFour, FourLines};
 
 // A line: the place after its last byte, and the start of the next line.
 pub struct Line {
@@ -11,14 +11,16 @@ pub struct Line {
     pub next: usize,
 }
 
-// Three lines: their starts, of which the first is 0, and their ends. Where ok is false there are not three.
-pub struct Three {
+// Four lines: their starts, of which the first is 0, and their ends. Where ok is false there are not four.
+pub struct Four {
     pub ok: bool,
     pub first_end: usize,
     pub second: usize,
     pub second_end: usize,
     pub third: usize,
     pub third_end: usize,
+    pub fourth: usize,
+    pub fourth_end: usize,
 }
 
 // Whether the byte is a CR before an LF.
@@ -59,46 +61,54 @@ fn line_from(input: &[u8], from: usize) -> Line
     Line { end: at, next: at }
 }
 
-// No three lines.
-fn not_three() -> Three
-    ensures { λ r. ⌜ r ≡ notThree ⌝ }
+// No four lines.
+fn not_four() -> Four
+    ensures { λ r. ⌜ r ≡ notFour ⌝ }
 {
-    Three {
+    Four {
         ok: false,
         first_end: 0,
         second: 0,
         second_end: 0,
         third: 0,
         third_end: 0,
+        fourth: 0,
+        fourth_end: 0,
     }
 }
 
-// Inner: the three lines of the input.
-pub fn three_lines(input: &[u8]) -> Three
-    ensures { λ r. ⌜ ThreeLines (now (input .entry)) r ⌝ }
+// Inner: the four lines of the input.
+pub fn four_lines(input: &[u8]) -> Four
+    ensures { λ r. ⌜ FourLines (now (input .entry)) r ⌝ }
 {
     let n = input.len();
     if n == 0 {
-        return not_three();
+        return not_four();
     }
     let a = line_from(input, 0);
     if n <= a.next {
-        return not_three();
+        return not_four();
     }
     let b = line_from(input, a.next);
     if n <= b.next {
-        return not_three();
+        return not_four();
     }
     let c = line_from(input, b.next);
-    if c.next < n {
-        return not_three();
+    if n <= c.next {
+        return not_four();
     }
-    Three {
+    let d = line_from(input, c.next);
+    if d.next < n {
+        return not_four();
+    }
+    Four {
         ok: true,
         first_end: a.end,
         second: a.next,
         second_end: b.end,
         third: b.next,
         third_end: c.end,
+        fourth: c.next,
+        fourth_end: d.end,
     }
 }

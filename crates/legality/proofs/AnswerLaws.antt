@@ -1,21 +1,24 @@
--- How the answers on one and on two policies come from the causes, and what a legal answer says.
+-- How the answers on one and on two policies come from the causes.
 use Prim.Native.Nat.{ℕ, pred, _<_, _≤_}
 use mathlib.Core.Bool.{Bool}
 use mathlib.Core.List.{List, [], _∷_, _++_, map}
 use mathlib.Core.Option.{Option, none, some}
 use mathlib.Core.Path.{_≡_, refl, sym, ap, ap₂, _∙_}
 use native.Mathlib.Omega.{arith}
-use lib.ListN.{length}
+use lib.ListN.{length, take}
 use borrow.Author.Tests.{ne-eqb, lt-ltb, le-ltb}
 use Rattle.packet.specs.Lowest.{lowest, optionOf}
 use Rattle.packet.specs.Refusals.{refusal, refusedAt, atZero, firstOf}
-use Rattle.packet.specs.Sizes.{fieldsStage, productStage, CountOf, LegalSizes}
-use Rattle.packet.specs.declared.Counted.{Counted}
+use Rattle.packet.specs.Sizes.{fieldsStage, productStage, LegalSizes}
 use Rattle.packet.specs.declared.Refusal.{Refusal}
 use Rattle.packet.specs.declared.Tested.{Tested}
 use Rattle.packet.specs.declared.Tested.the-variants.{Passed, Refused}
+use Rattle.packet.proofs.Legal.{passed-legal}
 use Rattle.packet.proofs.Lowest.{lowest-none}
 use Rattle.packet.proofs.Stages.{firstOf-last, firstOf-refused, firstOf-next, firstOf-nested, firstOf-passed, refusedAt-passed, atPlace-none, refused≢passed}
+use Rattle.fields.specs.declared.Fields.{Fields}
+use Rattle.fields.specs.Tables.{Table, jointSizes}
+use Rattle.fields.specs.Inner.{FieldsOf}
 use Rattle.legality.specs.declared.PolicyAnswer.the-variants.{Legal as LegalPolicy, Refused as PolicyRefused}
 use Rattle.legality.specs.declared.PairAnswer.the-variants.{Legal as LegalPair, Refused as PairRefused}
 use Rattle.legality.specs.declared.PolicyTested.{PolicyTested}
@@ -29,8 +32,8 @@ use Rattle.policy.specs.Order.{inOrder, Cause, causes, Sided, sided, cause, pol
 use Rattle.node_causes.specs.Lengths.{SameLengths}
 use Rattle.tree_causes.specs.Counting.{CountableChildren, DupCountOf}
 use Rattle.legality.specs.Answers.{policyAnswer, pairAnswer, policyLegality, pairLegality, nodesStage, treeStage, TestedAs, PolicyTestedAs, earlierIf, earlier, earlierOf, FrontOf}
-use Rattle.policy.proofs.LegalityLaws.{Lengths, lengths}
-use Rattle.policy.proofs.OrderLaws.{passing, sizes-legal, policies-legal}
+use Rattle.policy.proofs.LegalityLaws.{Lengths, lengths, stage-passes}
+use Rattle.policy.proofs.OrderLaws.{passing, fields-pass, after-fields}
 
 -- ---- orders of tests within orders
 
@@ -279,69 +282,76 @@ module _ (kind first second : List ℕ) (side : ℕ) {o g n i t : Tested} {x y :
 -- ---- the calls
 
 -- the tests of one policy as they were made
-module _ (sizes : List ℕ) (L : NodeLists) {c : Counted} (counted : CountOf sizes c) {q : PolicyTested} (policy : PolicyTestedAs sizes 0 L q) {f t : Tested} (fields : f ≡ fieldsStage sizes)
-    (made : t ≡ inOrder (record { fields = f; product = c .tested; texts = Passed; policies = q .tested; lists = Passed; packets = Passed })) where
-  made-as : t ≡ policyTests sizes L
-  unfolding policyTests stagesOf
-  made-as = made ∙ rw (fields, counted .says, policy .tested) refl
+module _ (ts : List Table) (L : NodeLists) {F : Fields} (loaded : FieldsOf ts F) {q : PolicyTested} (policy : PolicyTestedAs (take (F .count) (F .sizes)) 0 L q) {t : Tested}
+    (made : t ≡ inOrder (record { fields = F .tested; product = Passed; texts = Passed; policies = q .tested; lists = Passed; packets = Passed })) where
+  made-as : t ≡ policyTests ts L
+  unfolding policyTests
+  made-as = made ∙ after-fields ts Passed _ Passed Passed (loaded .tested) (λ p. policy .tested ∙ ap (λ (s : List ℕ). policiesStage s (sided 0 L ∷ [])) (loaded .sized p)) (λ p. refl)
 
-  pub policy-refused : (r : Refusal) → t ≡ Refused r → PolicyRefused r ≡ policyLegality sizes L
+  pub policy-refused : (r : Refusal) → t ≡ Refused r → PolicyRefused r ≡ policyLegality ts L
   unfolding policyLegality policyAnswer
   policy-refused r e = sym (ap (λ (u : Tested). policyAnswer u (dupsBelow L (nodeCount L))) (sym made-as ∙ e))
 
-  pub policy-passed : t ≡ Passed → LegalPolicy (q .dups) ≡ policyLegality sizes L
+  pub policy-passed : t ≡ Passed → LegalPolicy (q .dups) ≡ policyLegality ts L
   unfolding policyLegality policyAnswer policyTests
   policy-passed e =
       let h = passing _ _ _ _ _ (sym made-as ∙ e) in
-      sym (ap₂ policyAnswer (sym made-as ∙ e) (sym (policy .counts (h .policies-pass))))
+      let same = loaded .sized (loaded .tested ∙ fields-pass _ _ _ _ _ h) in
+      sym (ap₂ policyAnswer (sym made-as ∙ e) (sym (policy .counts (ap (λ (s : List ℕ). policiesStage s (sided 0 L ∷ [])) same ∙ h .policies-pass))))
 
 -- the tests of two policies as they were made
-module _ (sizes : List ℕ) (L R : NodeLists) (lists : Tested) {c : Counted} (counted : CountOf sizes c) {a b : PolicyTested} (left : PolicyTestedAs sizes 1 L a) (right : PolicyTestedAs sizes 2 R b)
-    {f p t : Tested} (fields : f ≡ fieldsStage sizes) (both : p ≡ earlierOf (a .tested) (b .tested))
-    (made : t ≡ inOrder (record { fields = f; product = c .tested; texts = Passed; policies = p; lists = lists; packets = Passed })) where
-  two-tested : p ≡ policiesStage sizes (pairOf L R)
-  two-tested = both ∙ ap₂ earlierOf (left .tested) (right .tested) ∙ sym (stage-two sizes 1 2 L R)
+module _ (ts : List Table) (L R : NodeLists) (lists : Tested) {F : Fields} (loaded : FieldsOf ts F) {a b : PolicyTested}
+    (left : PolicyTestedAs (take (F .count) (F .sizes)) 1 L a) (right : PolicyTestedAs (take (F .count) (F .sizes)) 2 R b)
+    {p t : Tested} (both : p ≡ earlierOf (a .tested) (b .tested))
+    (made : t ≡ inOrder (record { fields = F .tested; product = Passed; texts = Passed; policies = p; lists = lists; packets = Passed })) where
+  two-tested : p ≡ policiesStage (take (F .count) (F .sizes)) (pairOf L R)
+  two-tested = both ∙ ap₂ earlierOf (left .tested) (right .tested) ∙ sym (stage-two (take (F .count) (F .sizes)) 1 2 L R)
 
-  front-made : t ≡ inOrder (stagesOf sizes Passed (pairOf L R) lists Passed)
-  unfolding stagesOf
-  front-made = made ∙ rw (fields, counted .says, two-tested) refl
+  front-made : t ≡ inOrder (stagesOf ts Passed (pairOf L R) lists Passed)
+  front-made = made ∙ after-fields ts Passed _ lists Passed (loaded .tested) (λ p. two-tested ∙ ap (λ (s : List ℕ). policiesStage s (pairOf L R)) (loaded .sized p)) (λ p. refl)
 
-  pub is-front : FrontOf sizes L R lists (record { tested = t; packets = c .packets; «left_dups» = a .dups; «right_dups» = b .dups })
+  fields-passed : t ≡ Passed → F .tested ≡ Passed
+  fields-passed e = loaded .tested ∙ fields-pass _ _ _ _ _ (passing _ _ _ _ _ (sym front-made ∙ e))
+
+  pub is-front : FrontOf ts L R lists (record { tested = t; count = F .count; sizes = F .sizes; packets = F .packets; «left_dups» = a .dups; «right_dups» = b .dups })
   is-front = record {
     tested = front-made;
-    packets = λ e. counted .counts (passing _ _ _ _ _ (sym front-made ∙ e) .product);
+    few = omega (arith, loaded .few, loaded .space);
+    joint = λ e. loaded .sized (fields-passed e);
+    packets = λ e. loaded .counts (fields-passed e);
     left-dups = λ e. left .counts (each-passed e .0);
     right-dups = λ e. right .counts (each-passed e .1);
   }
     where
-      each-passed : t ≡ Passed → (policiesStage sizes (sided 1 L ∷ []) ≡ Passed) × (policiesStage sizes (sided 2 R ∷ []) ≡ Passed)
-      each-passed e = both-passed _ _ (sym (stage-two sizes 1 2 L R) ∙ passing _ _ _ _ _ (sym front-made ∙ e) .policies-pass)
+      each-passed : t ≡ Passed → (policiesStage (take (F .count) (F .sizes)) (sided 1 L ∷ []) ≡ Passed) × (policiesStage (take (F .count) (F .sizes)) (sided 2 R ∷ []) ≡ Passed)
+      each-passed e =
+          both-passed _ _
+          (sym (stage-two (take (F .count) (F .sizes)) 1 2 L R)
+          ∙ ap (λ (s : List ℕ). policiesStage s (pairOf L R)) (loaded .sized (fields-passed e))
+          ∙ passing _ _ _ _ _ (sym front-made ∙ e) .policies-pass)
 
-module _ (sizes : List ℕ) (L R : NodeLists) {q : PairTested} (f : FrontOf sizes L R Passed q) {t : Tested} (is : t ≡ q .tested) where
-  tests-are : t ≡ pairTests sizes L R
+module _ (ts : List Table) (L R : NodeLists) {q : PairTested} (f : FrontOf ts L R Passed q) {t : Tested} (is : t ≡ q .tested) where
+  tests-are : t ≡ pairTests ts L R
   unfolding pairTests
   tests-are = is ∙ f .tested
 
-  pub pair-refused : (r : Refusal) → t ≡ Refused r → PairRefused r ≡ pairLegality sizes L R
+  pub pair-refused : (r : Refusal) → t ≡ Refused r → PairRefused r ≡ pairLegality ts L R
   unfolding pairLegality pairAnswer
   pair-refused r e = sym (ap (λ (u : Tested). pairAnswer u (dupsBelow L (nodeCount L)) (dupsBelow R (nodeCount R))) (sym tests-are ∙ e))
 
-  pub pair-passed : t ≡ Passed → LegalPair (q .«left_dups») (q .«right_dups») ≡ pairLegality sizes L R
+  pub pair-passed : t ≡ Passed → LegalPair (q .«left_dups») (q .«right_dups») ≡ pairLegality ts L R
   unfolding pairLegality pairAnswer
   pair-passed e =
       ap₂ LegalPair (f .left-dups (sym is ∙ e)) (f .right-dups (sym is ∙ e))
       ∙ sym (ap (λ (u : Tested). pairAnswer u (dupsBelow L (nodeCount L)) (dupsBelow R (nodeCount R))) (sym tests-are ∙ e))
 
--- ---- what a legal answer says
+-- ---- sizes and one policy over them, without tables
 
-answered : (t : Tested) (d e : ℕ) → policyAnswer t d ≡ LegalPolicy e → t ≡ Passed
-unfolding policyAnswer
-answered Passed d e q = refl
-answered (Refused r) d e q = let z : _≡_ {A = ℕ} 0 1 = cc in absurd (zero≢one z)
-
-pub legal-answer : (sizes : List ℕ) (L : NodeLists) (d : ℕ) → policyLegality sizes L ≡ LegalPolicy d
-    → LegalSizes sizes × Legal sizes L × (productStage sizes ≡ Passed)
-unfolding policyLegality policyTests Each sided
-legal-answer sizes L d q =
-    let h = passing _ _ _ _ _ (answered _ _ d q) in
-    (sizes-legal _ _ _ _ _ h, policies-legal _ _ _ _ _ h .0, h .product)
+pub stages-legal : (sizes : List ℕ) (side : ℕ) (L : NodeLists) {r u p q : Tested} → q ≡ productStage sizes → p ≡ policiesStage sizes (sided side L ∷ []) → u ≡ firstOf (q ∷ p ∷ []) → r ≡ firstOf (fieldsStage sizes ∷ u ∷ [])
+    → r ≡ Passed → LegalSizes sizes × Legal sizes L × (productStage sizes ≡ Passed)
+unfolding Each sided
+stages-legal sizes side L c a b e h =
+    let f = firstOf-passed _ _ (sym e ∙ h) in
+    let g = firstOf-passed _ _ (sym b ∙ firstOf-passed _ _ (f .1) .0) in
+    let product = sym c ∙ g .0 in
+    (passed-legal sizes (f .0) product, stage-passes sizes _ .0 (sym a ∙ firstOf-passed _ _ (g .1) .0) .0, product)

@@ -1,15 +1,17 @@
 -- The answers of the calls that test policies.
-use Prim.Native.Nat.{ℕ, pred}
+use Prim.Native.Nat.{ℕ, pred, _≤_}
 use mathlib.Core.Bool.{Bool, true, false}
 use mathlib.Core.List.{List, [], _∷_}
 use mathlib.Core.Path.{_≡_}
 use lib.Dec.{ltb}
+use lib.ListN.{length, take}
 use Rattle.packet.specs.Lowest.{lowest}
 use Rattle.packet.specs.Refusals.{refusedAt, firstOf}
 use Rattle.packet.specs.Sizes.{product}
 use Rattle.packet.specs.declared.Refusal.{Refusal}
 use Rattle.packet.specs.declared.Tested.{Tested}
 use Rattle.packet.specs.declared.Tested.the-variants.{Passed, Refused}
+use Rattle.fields.specs.Tables.{Table, jointSizes}
 use Rattle.legality.specs.declared.PolicyAnswer.{PolicyAnswer}
 use Rattle.legality.specs.declared.PolicyAnswer.the-variants.{Legal as LegalPolicy, Refused as PolicyRefused}
 use Rattle.legality.specs.declared.PairAnswer.{PairAnswer}
@@ -30,12 +32,12 @@ pairAnswer Passed left right = LegalPair left right
 pairAnswer (Refused r) left right = PairRefused r
 
 -- the answer on one policy
-unfoldable pub policyLegality : List ℕ → NodeLists → PolicyAnswer
-policyLegality sizes L = policyAnswer (policyTests sizes L) (dupsBelow L (nodeCount L))
+unfoldable pub policyLegality : List Table → NodeLists → PolicyAnswer
+policyLegality ts L = policyAnswer (policyTests ts L) (dupsBelow L (nodeCount L))
 
 -- the answer on a left and a right policy
-unfoldable pub pairLegality : List ℕ → NodeLists → NodeLists → PairAnswer
-pairLegality sizes L R = pairAnswer (pairTests sizes L R) (dupsBelow L (nodeCount L)) (dupsBelow R (nodeCount R))
+unfoldable pub pairLegality : List Table → NodeLists → NodeLists → PairAnswer
+pairLegality ts L R = pairAnswer (pairTests ts L R) (dupsBelow L (nodeCount L)) (dupsBelow R (nodeCount R))
 
 -- ---- how the answers are worked out: one policy after the other, and each by the causes that need the ones before
 
@@ -78,9 +80,12 @@ earlierOf Passed u = u
 earlierOf (Refused p) Passed = Refused p
 earlierOf (Refused p) (Refused q) = Refused (earlier p q)
 
--- What a call on two policies is told: the first cause, `lists` being what stage "lists" says; N and the dups of each where none holds.
-pub record FrontOf (sizes : List ℕ) (L R : NodeLists) (lists : Tested) (r : PairTested) : Type 0 where
-  pub tested : r .tested ≡ inOrder (stagesOf sizes Passed (pairOf L R) lists Passed)
-  pub packets : r .tested ≡ Passed → r .packets ≡ product sizes
+-- What a call on two policies is told: the first cause, `lists` being what stage "lists" says; the joint sizes, N and the dups of each where
+-- none holds.
+pub record FrontOf (ts : List Table) (L R : NodeLists) (lists : Tested) (r : PairTested) : Type 0 where
+  pub tested : r .tested ≡ inOrder (stagesOf ts Passed (pairOf L R) lists Passed)
+  pub few : r .count ≤ length (r .sizes)
+  pub joint : r .tested ≡ Passed → take (r .count) (r .sizes) ≡ jointSizes ts
+  pub packets : r .tested ≡ Passed → r .packets ≡ product (jointSizes ts)
   pub left-dups : r .tested ≡ Passed → r .«left_dups» ≡ dupsBelow L (nodeCount L)
   pub right-dups : r .tested ≡ Passed → r .«right_dups» ≡ dupsBelow R (nodeCount R)

@@ -1,6 +1,7 @@
 // Which node lists are legal: the causes of a policy in their order, and the public calls that say so.
 ghost use mathlib.Core.Path.{_≡_};
 ghost use lib.ListN.{length};
+ghost use Rattle.fields.specs.Tables.{tablesAtEntry};
 ghost use Rattle.policy.specs.AsLists.{asLists, policyAtEntry};
 ghost use Rattle.policy.specs.NodeLists.{dupsBelow};
 ghost use Rattle.policy.specs.Order.{causePlace};
@@ -29,9 +30,11 @@ pub struct PolicyTested {
     pub dups: u8,
 }
 
-// What the causes of a call on two policies say, beside N and the dups of each, which count where they pass.
+// What the causes of a call on two policies say, beside the joint sizes, N and the dups of each, which count where they pass.
 pub struct PairTested {
     pub tested: Tested,
+    pub count: usize,
+    pub sizes: [u16; 8],
     pub packets: u16,
     pub left_dups: u8,
     pub right_dups: u8,
@@ -67,8 +70,14 @@ fn tree_tested(side: u8, kind: &[u8], first: &[u16], second: &[u16]) -> PolicyTe
     PolicyTested { tested, dups }
 }
 
-// Stage "policies" of one policy.
-fn policy_stage(sizes: &[u16], side: u8, kind: &[u8], first: &[u16], second: &[u16]) -> PolicyTested
+// Inner: stage "policies" of one policy.
+pub fn policy_stage(
+    sizes: &[u16],
+    side: u8,
+    kind: &[u8],
+    first: &[u16],
+    second: &[u16],
+) -> PolicyTested
     ensures { λ r. ⌜ PolicyTestedAs (now (sizes .entry)) side (policyAtEntry kind first second) r ⌝ }
 {
     match packet::refused_at(4, side, node_causes::bad_lengths(kind, first, second)) {
@@ -86,18 +95,27 @@ fn policy_stage(sizes: &[u16], side: u8, kind: &[u8], first: &[u16], second: &[u
     }
 }
 
-// Whether the lists are a legal policy over fields of these sizes: causes 1 to 9 and 19, side 0.
-pub fn policy_legality(sizes: &[u16], kind: &[u8], first: &[u16], second: &[u16]) -> PolicyAnswer
-    ensures { λ r. ⌜ r ≡ policyLegality (now (sizes .entry)) (policyAtEntry kind first second) ⌝ }
+// Whether the lists are a legal policy over the joint fields of the tables, side 0.
+pub fn policy_legality(
+    left_names: &[u8],
+    left_sizes: &[u16],
+    right_names: &[u8],
+    right_sizes: &[u16],
+    kind: &[u8],
+    first: &[u16],
+    second: &[u16],
+) -> PolicyAnswer
+    ensures { λ r. ⌜ r ≡ policyLegality (tablesAtEntry «left_names» «left_sizes» «right_names» «right_sizes») (policyAtEntry kind first second) ⌝ }
 {
-    let fields = packet::fields_stage(sizes);
-    let counted = packet::packet_count(sizes);
-    let policy = policy_stage(sizes, 0, kind, first, second);
-    let product = counted.tested;
+    let fields = fields::load(left_names, left_sizes, right_names, right_sizes);
+    let count = fields.count;
+    let sizes = fields.sizes;
+    let policy = policy_stage(&sizes[..count], 0, kind, first, second);
+    let said = fields.tested;
     let policies = policy.tested;
     let tested = policy::order::in_order(Stages {
-        fields,
-        product,
+        fields: said,
+        product: Tested::Passed,
         texts: Tested::Passed,
         policies,
         lists: Tested::Passed,
@@ -146,7 +164,10 @@ fn earlier(left: Tested, right: Tested) -> Tested
 // Inner: the causes of a call on two policies in their order, `lists` being what stage "lists" says. Every such call goes
 // through here.
 pub fn front(
-    sizes: &[u16],
+    left_names: &[u8],
+    left_sizes: &[u16],
+    right_names: &[u8],
+    right_sizes: &[u16],
     left_kind: &[u8],
     left_first: &[u16],
     left_second: &[u16],
@@ -155,19 +176,20 @@ pub fn front(
     right_second: &[u16],
     lists: Tested,
 ) -> PairTested
-    ensures { λ r. ⌜ FrontOf (now (sizes .entry)) (policyAtEntry «left_kind» «left_first» «left_second») (policyAtEntry «right_kind» «right_first» «right_second») lists r ⌝ }
+    ensures { λ r. ⌜ FrontOf (tablesAtEntry «left_names» «left_sizes» «right_names» «right_sizes») (policyAtEntry «left_kind» «left_first» «left_second») (policyAtEntry «right_kind» «right_first» «right_second») lists r ⌝ }
 {
-    let fields = packet::fields_stage(sizes);
-    let count = packet::packet_count(sizes);
-    let left = policy_stage(sizes, 1, left_kind, left_first, left_second);
-    let right = policy_stage(sizes, 2, right_kind, right_first, right_second);
-    let product = count.tested;
+    let fields = fields::load(left_names, left_sizes, right_names, right_sizes);
+    let count = fields.count;
+    let sizes = fields.sizes;
+    let left = policy_stage(&sizes[..count], 1, left_kind, left_first, left_second);
+    let right = policy_stage(&sizes[..count], 2, right_kind, right_first, right_second);
+    let said = fields.tested;
     let left_says = left.tested;
     let right_says = right.tested;
     let policies = earlier(left_says, right_says);
     let tested = policy::order::in_order(Stages {
-        fields,
-        product,
+        fields: said,
+        product: Tested::Passed,
         texts: Tested::Passed,
         policies,
         lists,
@@ -175,15 +197,20 @@ pub fn front(
     });
     PairTested {
         tested,
-        packets: count.packets,
+        count,
+        sizes,
+        packets: fields.packets,
         left_dups: left.dups,
         right_dups: right.dups,
     }
 }
 
-// Whether the lists are two legal policies over fields of these sizes: causes 1 to 9 and 19, sides 1 and 2.
+// Whether the lists are two legal policies over the joint fields of the tables, sides 1 and 2.
 pub fn pair_legality(
-    sizes: &[u16],
+    left_names: &[u8],
+    left_sizes: &[u16],
+    right_names: &[u8],
+    right_sizes: &[u16],
     left_kind: &[u8],
     left_first: &[u16],
     left_second: &[u16],
@@ -191,10 +218,13 @@ pub fn pair_legality(
     right_first: &[u16],
     right_second: &[u16],
 ) -> PairAnswer
-    ensures { λ r. ⌜ r ≡ pairLegality (now (sizes .entry)) (policyAtEntry «left_kind» «left_first» «left_second») (policyAtEntry «right_kind» «right_first» «right_second») ⌝ }
+    ensures { λ r. ⌜ r ≡ pairLegality (tablesAtEntry «left_names» «left_sizes» «right_names» «right_sizes») (policyAtEntry «left_kind» «left_first» «left_second») (policyAtEntry «right_kind» «right_first» «right_second») ⌝ }
 {
     let found = front(
-        sizes,
+        left_names,
+        left_sizes,
+        right_names,
+        right_sizes,
         left_kind,
         left_first,
         left_second,

@@ -10,6 +10,7 @@ use Rattle.packet.specs.declared.Tested.the-variants.{Passed}
 use Rattle.packet.specs.Refusals.{refusedAt, atPlace, atZero}
 use Rattle.packet.specs.Sizes.{LegalSizes}
 use Rattle.packet.proofs.Stages.{refusedAt-passed, atPlace-none}
+use Rattle.fields.specs.Tables.{Table, jointSizes}
 use Rattle.policy.specs.Order.{inOrder, sided, stagesOf, pairOf, pairTests}
 use Rattle.legality.specs.declared.PairTested.{PairTested}
 use Rattle.legality.specs.Answers.{FrontOf}
@@ -30,20 +31,20 @@ lists-stage work e t = t ∙ ap (λ (w : Bool). refusedAt 10 0 (atZero (w || ltb
 
 -- ---- the causes up to 10
 
-module _ (sizes : List ℕ) (L R : NodeLists) (lists : Tested) where
+module _ (ts : List Table) (L R : NodeLists) (lists : Tested) where
   -- the tests as they were made
-  pub front-tests : {said : Tested} {q : PairTested} → said ≡ lists → FrontOf sizes L R said q → q .tested ≡ lentTests sizes L R lists
+  pub front-tests : {said : Tested} {q : PairTested} → said ≡ lists → FrontOf ts L R said q → q .tested ≡ lentTests ts L R lists
   unfolding lentTests
-  front-tests e f = f .tested ∙ ap (λ (l : Tested). inOrder (stagesOf sizes Passed (pairOf L R) l Passed)) e
+  front-tests e f = f .tested ∙ ap (λ (l : Tested). inOrder (stagesOf ts Passed (pairOf L R) l Passed)) e
 
   -- what holds where the causes before 10 pass
   pub record LegalCall : Type 0 where
-    pub legal-sizes : LegalSizes sizes
-    pub left-legal : Legal sizes L
-    pub right-legal : Legal sizes R
+    pub legal-sizes : LegalSizes (jointSizes ts)
+    pub left-legal : Legal (jointSizes ts) L
+    pub right-legal : Legal (jointSizes ts) R
     pub passed : lists ≡ Passed
 
-  pub tests-passed : lentTests sizes L R lists ≡ Passed → LegalCall
+  pub tests-passed : lentTests ts L R lists ≡ Passed → LegalCall
   unfolding lentTests Each sided
   tests-passed e =
       let h = passing _ _ _ _ _ e in
@@ -51,13 +52,13 @@ module _ (sizes : List ℕ) (L R : NodeLists) (lists : Tested) where
       record { legal-sizes = sizes-legal _ _ _ _ _ h; left-legal = g .0; right-legal = g .1 .0; passed = h .lists-pass }
 
   -- two policies that the causes before 10 let pass, and lists that 10 lets pass
-  pub pair-lent : pairTests sizes L R ≡ Passed → lists ≡ Passed → lentTests sizes L R lists ≡ Passed
+  pub pair-lent : pairTests ts L R ≡ Passed → lists ≡ Passed → lentTests ts L R lists ≡ Passed
   unfolding pairTests lentTests
-  pair-lent e h = still-passing sizes (pairOf L R) _ _ _ e refl h refl
+  pair-lent e h = still-passing ts (pairOf L R) _ _ _ e refl h refl
 
-  pub lent-pair : lentTests sizes L R lists ≡ Passed → pairTests sizes L R ≡ Passed
+  pub lent-pair : lentTests ts L R lists ≡ Passed → pairTests ts L R ≡ Passed
   unfolding pairTests lentTests
-  lent-pair e = still-passing sizes (pairOf L R) _ _ _ e refl refl refl
+  lent-pair e = still-passing ts (pairOf L R) _ _ _ e refl refl refl
 
 -- ---- stage "lists"
 

@@ -7,6 +7,7 @@ use lib.ListN.{length, replicate}
 use Rattle.packet.specs.declared.Tested.{Tested}
 use Rattle.packet.specs.declared.Tested.the-variants.{Passed, Refused}
 use Rattle.packet.specs.Refusals.{refusedAt, atZero}
+use Rattle.fields.specs.Tables.{Table}
 use Rattle.policy.specs.Order.{inOrder, stagesOf, pairOf}
 use Rattle.policy.specs.NodeLists.{NodeLists}
 
@@ -27,8 +28,8 @@ unfoldable pub listsStage : List ℕ → ℕ → Tested
 listsStage rows work = refusedAt 10 0 (atZero (rowsMisfit rows || ltb work 16384))
 
 -- the causes up to 10 in the order tested; `lists` is what the stage of the lists says
-unfoldable pub lentTests : List ℕ → NodeLists → NodeLists → Tested → Tested
-lentTests sizes L R lists = inOrder (stagesOf sizes Passed (pairOf L R) lists Passed)
+unfoldable pub lentTests : List Table → NodeLists → NodeLists → Tested → Tested
+lentTests ts L R lists = inOrder (stagesOf ts Passed (pairOf L R) lists Passed)
 
 -- "past refusal 10 the work list is all 0 on return"; causes up to 10 leave it as it was
 unfoldable pub workAfter : Tested → List ℕ → List ℕ

@@ -7,9 +7,10 @@ use mathlib.Core.Option.{Option}
 use lib.Dec.{eqb}
 use Rattle.packet.specs.Lowest.{lowest}
 use Rattle.packet.specs.Refusals.{refusedAt, atZero, firstOf}
-use Rattle.packet.specs.Sizes.{fieldsStage, productStage}
+use Rattle.packet.specs.Sizes.{productStage}
 use Rattle.packet.specs.declared.Tested.{Tested}
 use Rattle.packet.specs.declared.Tested.the-variants.{Passed}
+use Rattle.fields.specs.Tables.{Table, jointSizes, tablesStage}
 use Rattle.policy.specs.declared.order.Stages.{Stages}
 use Rattle.policy.specs.NodeLists.{NodeLists, nodeCount}
 use Rattle.policy.specs.Legality.{badLengths, badKind, badEntries, badChild, notOnce, badNegation, tooManyDups}
@@ -18,7 +19,7 @@ use Rattle.policy.specs.Legality.{badLengths, badKind, badEntries, badCh
 -- all, 11 and 12 after. The search on two texts reads them only where the stages before `texts` pass.
 unfoldable pub order : Stages → List Tested
 order stages =
-    stages .fields  -- 1, 2
+    stages .fields  -- 4 of side 0, 20, 21, 1, 2
     ∷ stages .product  -- 3
     ∷ stages .texts  -- 14 to 17 on the left text, then on the right
     ∷ stages .policies  -- 4 to 9 and 19
@@ -64,22 +65,29 @@ cause number place policies = firstOf (map (λ (p : Sided). refusedAt number (p 
 unfoldable pub policiesStage : List ℕ → List Sided → Tested
 policiesStage sizes policies = firstOf (map (λ (c : Cause). cause (c .0) (c .1) policies) (causes sizes))
 
--- the stages of a call with fields of these sizes: what its texts say, its policies, what its lists and its packets say
-unfoldable pub stagesOf : List ℕ → Tested → List Sided → Tested → Tested → Stages
-stagesOf sizes texts policies lists packets =
-    record { fields = fieldsStage sizes; product = productStage sizes; texts = texts; policies = policiesStage sizes policies; lists = lists; packets = packets }
+-- the stages of a call with these tables: what its texts say, its policies, what its lists and its packets say
+unfoldable pub stagesOf : List Table → Tested → List Sided → Tested → Tested → Stages
+stagesOf ts texts policies lists packets =
+    record {
+      fields = tablesStage ts;
+      product = productStage (jointSizes ts);
+      texts = texts;
+      policies = policiesStage (jointSizes ts) policies;
+      lists = lists;
+      packets = packets;
+    }
 
 -- a left and a right policy
 abbrev pub pairOf : NodeLists → NodeLists → List Sided
 pairOf L R = sided 1 L ∷ sided 2 R ∷ []
 
 -- the tests on one policy: side 0
-unfoldable pub policyTests : List ℕ → NodeLists → Tested
-policyTests sizes L = inOrder (stagesOf sizes Passed (sided 0 L ∷ []) Passed Passed)
+unfoldable pub policyTests : List Table → NodeLists → Tested
+policyTests ts L = inOrder (stagesOf ts Passed (sided 0 L ∷ []) Passed Passed)
 
 -- the tests on a left and a right policy
-unfoldable pub pairTests : List ℕ → NodeLists → NodeLists → Tested
-pairTests sizes L R = inOrder (stagesOf sizes Passed (pairOf L R) Passed Passed)
+unfoldable pub pairTests : List Table → NodeLists → NodeLists → Tested
+pairTests ts L R = inOrder (stagesOf ts Passed (pairOf L R) Passed Passed)
 
 -- ---- the place of a policy's cause in the list, from 1 on
 

@@ -12,6 +12,7 @@ use Rattle.packet.specs.Refusals.{refusal}
 use Rattle.packet.specs.Sizes.{product}
 use Rattle.legality.specs.declared.PairTested.{PairTested}
 use Rattle.legality.specs.Answers.{FrontOf}
+use Rattle.fields.specs.Tables.{Table, jointSizes}
 use Rattle.policy.specs.NodeLists.{NodeLists}
 use Rattle.system.specs.RowOrder.{NeedsMore}
 use Rattle.pair.specs.Sides.{Side, left, right, policies}
@@ -98,16 +99,16 @@ refused-full e = let z : _≡_ {A = ℕ} 0 1 = cc in zero≢one z
 -- ---- the tests
 
 -- the tests as they were made
-module _ (sizes : List ℕ) (L R : NodeLists) (x : SearchLists) {said : Tested} (is : said ≡ listsStage (length (x .packets) ∷ length (x .lefts) ∷ length (x .rights) ∷ length (x .parents) ∷ []) (length (x .work))) {q : PairTested} (f : FrontOf sizes L R said q) where
-  tests-are : q .tested ≡ searchTests sizes L R x
+module _ (ts : List Table) (L R : NodeLists) (x : SearchLists) {said : Tested} (is : said ≡ listsStage (length (x .packets) ∷ length (x .lefts) ∷ length (x .rights) ∷ length (x .parents) ∷ []) (length (x .work))) {q : PairTested} (f : FrontOf ts L R said q) where
+  tests-are : q .tested ≡ searchTests ts L R x
   unfolding searchTests
-  tests-are = front-tests sizes L R _ is f
+  tests-are = front-tests ts L R _ is f
 
-  pub tests-refuse : (r : Refusal) → q .tested ≡ Stopped r → searchTests sizes L R x ≡ Stopped r
+  pub tests-refuse : (r : Refusal) → q .tested ≡ Stopped r → searchTests ts L R x ≡ Stopped r
   tests-refuse r e = sym tests-are ∙ e
 
-  pub tests-pass : q .tested ≡ Passed → (searchTests sizes L R x ≡ Passed) × (q .packets ≡ product sizes)
-  tests-pass e = (sym tests-are ∙ e, f .packets e)
+  pub tests-pass : q .tested ≡ Passed → (searchTests ts L R x ≡ Passed) × (q .packets ≡ product (jointSizes ts)) × (take (q .count) (q .sizes) ≡ jointSizes ts)
+  tests-pass e = (sym tests-are ∙ e, f .packets e, f .joint e)
 
 module _ {sizes : List ℕ} {L R : NodeLists} {x : SearchLists} where
   -- ---- where no cause up to 10 holds
@@ -148,34 +149,37 @@ module _ {sizes : List ℕ} {L R : NodeLists} {x : SearchLists} where
             leaves = same-lent (H .packets) (H .left) (H .right) (H .parents) (T .leaves ∙ ap (λ a. traceAfter a (x .trace)) answer-here) w;
           }
 
-  pub accepts : searchTests sizes L R x ≡ Passed → (count : ℕ) → count ≡ product sizes → Accepted sizes L R count x
-  unfolding searchTests rowsMisfit
-  accepts e count c =
-      let h = tests-passed sizes L R _ e in
-      let l = lists-passed _ _ (h .passed) in
-      let a = row-list-fits _ _ _ (l .0) in
-      let b = row-list-fits _ _ _ (a .1) in
-      let d = row-list-fits _ _ _ (b .1) in
-      record {
-        legal = h .legal-sizes;
-        left-legal = h .left-legal;
-        right-legal = h .right-legal;
-        packets = c;
-        lefts = a .0;
-        rights = b .0;
-        parents = d .0;
-        few = rows-few _ (d .1);
-        long = l .1;
-      }
+-- `sizes` are the joint sizes as they were loaded
+pub accepts : (ts : List Table) {L R : NodeLists} {x : SearchLists} → searchTests ts L R x ≡ Passed → (count : ℕ) → count ≡ product (jointSizes ts) → {sizes : List ℕ} → sizes ≡ jointSizes ts → Accepted sizes L R count x
+unfolding searchTests rowsMisfit
+accepts ts {L} {R} {x} e count c {sizes} same =
+    let h = tests-passed ts L R _ e in
+    let l = lists-passed _ _ (h .passed) in
+    let a = row-list-fits _ _ _ (l .0) in
+    let b = row-list-fits _ _ _ (a .1) in
+    let d = row-list-fits _ _ _ (b .1) in
+    subst (λ (s : List ℕ). Accepted s L R count x) (sym same)
+    record {
+      legal = h .legal-sizes;
+      left-legal = h .left-legal;
+      right-legal = h .right-legal;
+      packets = c;
+      lefts = a .0;
+      rights = b .0;
+      parents = d .0;
+      few = rows-few _ (d .1);
+      long = l .1;
+    }
 
-  -- ---- the promise
+-- ---- the promise
 
-  pub refuses : (r : Refusal) → searchTests sizes L R x ≡ Stopped r → Searched sizes L R x (Refused r) x
+module _ {ts : List Table} {L R : NodeLists} {x : SearchLists} where
+  pub refuses : (r : Refusal) → searchTests ts L R x ≡ Stopped r → Searched ts L R x (Refused r) x
   unfolding searchVerdict searchLeaves verdictAfter lentAfter
   refuses r e =
       record {
-        answers = sym (ap (λ (t : Tested). verdictAfter t (answerHere sizes L R x)) e);
-        leaves = sym (ap (λ (t : Tested). lentAfter t (rowsHere sizes L R x) (answerHere sizes L R x) x) e);
+        answers = sym (ap (λ (t : Tested). verdictAfter t (answerHere (jointSizes ts) L R x)) e);
+        leaves = sym (ap (λ (t : Tested). lentAfter t (rowsHere (jointSizes ts) L R x) (answerHere (jointSizes ts) L R x) x) e);
         equal-same = λ rows q. absurd (refused-equal q);
         different-tells = λ s n α q. absurd (refused-telling s n α q);
         full-exactly = λ p. let z : Stopped r ≡ Passed = sym e ∙ p in let o : _≡_ {A = ℕ} 0 1 = cc in absurd (zero≢one o);
@@ -183,32 +187,32 @@ module _ {sizes : List ℕ} {L R : NodeLists} {x : SearchLists} where
         full-same = λ q d f. absurd (refused-full f);
       }
 
-  pub promised : searchTests sizes L R x ≡ Passed → {verdict : Verdict} {y : SearchLists} → SearchDone sizes L R x verdict y → Searched sizes L R x verdict y
+  kept : searchTests ts L R x ≡ Passed → {verdict : Verdict} {y : SearchLists} → SearchDone (jointSizes ts) L R x verdict y → Searched ts L R x verdict y
   unfolding searchTests searchVerdict searchLeaves verdictAfter lentAfter filled traceAfter written verdictOf
-  promised e {verdict} {y} D =
+  kept e {verdict} {y} D =
       record {
-        answers = D .answers ∙ sym (ap (λ (t : Tested). verdictAfter t (answerHere sizes L R x)) e);
-        leaves = D .leaves ∙ sym (ap (λ (t : Tested). lentAfter t (rowsHere sizes L R x) (answerHere sizes L R x) x) e);
-        equal-same = λ rows q. verdicts.equal-same sizes (policies L R) ok (length (x .packets)) (length (x .trace)) rows (equal-of _ rows (sym (D .answers) ∙ q)) .1;
+        answers = D .answers ∙ sym (ap (λ (t : Tested). verdictAfter t (answerHere (jointSizes ts) L R x)) e);
+        leaves = D .leaves ∙ sym (ap (λ (t : Tested). lentAfter t (rowsHere (jointSizes ts) L R x) (answerHere (jointSizes ts) L R x) x) e);
+        equal-same = λ rows q. verdicts.equal-same (jointSizes ts) (policies L R) ok (length (x .packets)) (length (x .trace)) rows (equal-of _ rows (sym (D .answers) ∙ q)) .1;
         different-tells = λ s n α q. tells s n α (telling-of _ s n α (sym (D .answers) ∙ q));
-        full-exactly = λ p. (λ q. lacking (full-of _ _ _ (sym (D .answers) ∙ q)), λ m. D .answers ∙ ap verdictOf (verdicts.full-exactly sizes (policies L R) (length (x .packets)) (length (x .trace)) .1 m));
+        full-exactly = λ p. (λ q. lacking (full-of _ _ _ (sym (D .answers) ∙ q)), λ m. D .answers ∙ ap verdictOf (verdicts.full-exactly (jointSizes ts) (policies L R) (length (x .packets)) (length (x .trace)) .1 m));
         full-place = λ r d q. here (full-of _ r d (sym (D .answers) ∙ q));
-        full-same = λ r d q. let f = full-of _ r d (sym (D .answers) ∙ q) in verdicts.full-same sizes (policies L R) ok (length (x .packets)) (length (x .trace)) (f .rows) d (f .answer);
+        full-same = λ r d q. let f = full-of _ r d (sym (D .answers) ∙ q) in verdicts.full-same (jointSizes ts) (policies L R) ok (length (x .packets)) (length (x .trace)) (f .rows) d (f .answer);
       }
     where
-      ok : EvaluablePair sizes (policies L R)
-      ok = let h = tests-passed sizes L R _ e in legal-pair sizes L R (h .left-legal) (h .right-legal)
+      ok : EvaluablePair (jointSizes ts) (policies L R)
+      ok = let h = tests-passed ts L R _ e in legal-pair (jointSizes ts) L R (h .left-legal) (h .right-legal)
 
-      at : {r : Refusal} {d : ℕ} → (f : FullWith (answerHere sizes L R x) r d) → (f .rows ≡ length (x .packets)) × (d ≡ depthHere sizes L R x)
-      at {r} {d} f = verdicts.full-place sizes (policies L R) (length (x .packets)) (length (x .trace)) (f .rows) d (f .answer)
+      at : {r : Refusal} {d : ℕ} → (f : FullWith (answerHere (jointSizes ts) L R x) r d) → (f .rows ≡ length (x .packets)) × (d ≡ depthHere (jointSizes ts) L R x)
+      at {r} {d} f = verdicts.full-place (jointSizes ts) (policies L R) (length (x .packets)) (length (x .trace)) (f .rows) d (f .answer)
 
-      here : {r : Refusal} {d : ℕ} → FullWith (answerHere sizes L R x) r d → Full r d ≡ fullHere sizes L R x
+      here : {r : Refusal} {d : ℕ} → FullWith (answerHere (jointSizes ts) L R x) r d → Full r d ≡ fullHere (jointSizes ts) L R x
       here f = ap₂ Full (f .place ∙ ap (refusal 11 0) (at f .0)) (at f .1)
 
-      lacking : {r : Refusal} → FullWith (answerHere sizes L R x) r (depthHere sizes L R x) → NeedsMore (pairSystem sizes (policies L R)) (length (x .packets))
-      lacking f = verdicts.full-exactly sizes (policies L R) (length (x .packets)) (length (x .trace)) .0 (f .answer ∙ ap (λ n. rowsFull n (depthHere sizes L R x)) (at f .0))
+      lacking : {r : Refusal} → FullWith (answerHere (jointSizes ts) L R x) r (depthHere (jointSizes ts) L R x) → NeedsMore (pairSystem (jointSizes ts) (policies L R)) (length (x .packets))
+      lacking f = verdicts.full-exactly (jointSizes ts) (policies L R) (length (x .packets)) (length (x .trace)) .0 (f .answer ∙ ap (λ n. rowsFull n (depthHere (jointSizes ts) L R x)) (at f .0))
 
-      tells : (s : Side) (n α : ℕ) → Trace (answerHere sizes L R x) s n α → Telling sizes L R x s n α (y .trace)
+      tells : (s : Side) (n α : ℕ) → Trace (answerHere (jointSizes ts) L R x) s n α → Telling (jointSizes ts) L R x s n α (y .trace)
       tells s n α t =
           let first : take n (y .trace) ≡ t .trace =
           ap (take n) (ap (λ (z : SearchLists). z .trace) (D .leaves) ∙ ap (λ a. traceAfter a (x .trace)) (t .answer))
@@ -217,6 +221,9 @@ module _ {sizes : List ℕ} {L R : NodeLists} {x : SearchLists} where
           record {
             long = ap length first ∙ t .long;
             tells =
-                subst (Distinguishes sizes (policies L R) s α) (sym first)
-                (verdicts.different-tells sizes (policies L R) ok (length (x .packets)) (length (x .trace)) s α (t .trace) (t .answer));
+                subst (Distinguishes (jointSizes ts) (policies L R) s α) (sym first)
+                (verdicts.different-tells (jointSizes ts) (policies L R) ok (length (x .packets)) (length (x .trace)) s α (t .trace) (t .answer));
           }
+
+  pub promised : searchTests ts L R x ≡ Passed → {sizes : List ℕ} → sizes ≡ jointSizes ts → {verdict : Verdict} {y : SearchLists} → SearchDone sizes L R x verdict y → Searched ts L R x verdict y
+  promised e same {verdict} {y} D = kept e (subst (λ (s : List ℕ). SearchDone s L R x verdict y) same D)

@@ -11,6 +11,7 @@ use Rattle.packet.specs.declared.Tested.{Tested}
 use Rattle.packet.specs.declared.Tested.the-variants.{Passed, Refused as Stopped}
 use Rattle.packet.specs.Refusals.{refusal}
 use Rattle.packet.specs.Sizes.{product, LegalSizes}
+use Rattle.fields.specs.Tables.{Table, jointSizes}
 use Rattle.policy.specs.Legality.{Legal}
 use Rattle.policy.specs.Meaning.{SameTracesBelow, SameShortTracesBelow}
 use Rattle.policy.specs.NodeLists.{NodeLists, policyOf}
@@ -64,10 +65,6 @@ lentAfter Passed rows a x = filled rows a x
 lentAfter (Stopped r) rows a x = x
 
 module _ (sizes : List ℕ) (L R : NodeLists) (x : SearchLists) where
-  -- the causes up to 10 in the order tested
-  unfoldable pub searchTests : Tested
-  searchTests = lentTests sizes L R (listsStage (length (x .packets) ∷ length (x .lefts) ∷ length (x .rights) ∷ length (x .parents) ∷ []) (length (x .work)))
-
   -- the theory's answer with as many rows and as long a trace as were lent
   abbrev pub answerHere : SearchAnswer
   answerHere = searchAnswer sizes (policies L R) (length (x .packets)) (length (x .trace))
@@ -83,31 +80,36 @@ module _ (sizes : List ℕ) (L R : NodeLists) (x : SearchLists) where
   abbrev pub fullHere : Verdict
   fullHere = Full (refusal 11 0 (length (x .packets))) depthHere
 
-  unfoldable pub searchVerdict : Verdict
-  searchVerdict = verdictAfter searchTests answerHere
-
-  unfoldable pub searchLeaves : SearchLists
-  searchLeaves = lentAfter searchTests rowsHere answerHere x
-
   -- the first n packets of the trace list tell the policies apart (Figure 1)
   pub record Telling (s : Side) (n α : ℕ) (trace : List ℕ) : Type 0 where
     pub long : length (take n trace) ≡ n
     pub tells : Distinguishes sizes (policies L R) s α (take n trace)
 
-  -- The promise of the search.
+module _ (ts : List Table) (L R : NodeLists) (x : SearchLists) where
+  -- the causes up to 10 in the order tested
+  unfoldable pub searchTests : Tested
+  searchTests = lentTests ts L R (listsStage (length (x .packets) ∷ length (x .lefts) ∷ length (x .rights) ∷ length (x .parents) ∷ []) (length (x .work)))
+
+  unfoldable pub searchVerdict : Verdict
+  searchVerdict = verdictAfter searchTests (answerHere (jointSizes ts) L R x)
+
+  unfoldable pub searchLeaves : SearchLists
+  searchLeaves = lentAfter searchTests (rowsHere (jointSizes ts) L R x) (answerHere (jointSizes ts) L R x) x
+
+  -- The promise of the search, over packets of the joint fields.
   pub record Searched (verdict : Verdict) (y : SearchLists) : Type 0 where
     pub answers : verdict ≡ searchVerdict
     pub leaves : y ≡ searchLeaves
     -- demand 2: equal only if both policies have the same traces from every packet
-    pub equal-same : (rows : ℕ) → verdict ≡ Equal rows → SameTracesBelow sizes (policyOf L) (policyOf R)
+    pub equal-same : (rows : ℕ) → verdict ≡ Equal rows → SameTracesBelow (jointSizes ts) (policyOf L) (policyOf R)
     -- different only with a packet and trace that exactly one of them has, and no shorter trace tells the two apart from any packet
-    pub different-tells : (s : Side) (n α : ℕ) → verdict ≡ tellingVerdict s n α → Telling s n α (y .trace)
+    pub different-tells : (s : Side) (n α : ℕ) → verdict ≡ tellingVerdict s n α → Telling (jointSizes ts) L R x s n α (y .trace)
     -- where no cause tested earlier holds, full comes exactly when the row order needs more rows than were lent
-    pub full-exactly : searchTests ≡ Passed → (verdict ≡ fullHere) ↔ NeedsMore (pairSystem sizes (policies L R)) (length (x .packets))
+    pub full-exactly : searchTests ≡ Passed → (verdict ≡ fullHere (jointSizes ts) L R x) ↔ NeedsMore (pairSystem (jointSizes ts) (policies L R)) (length (x .packets))
     -- and it names the rows lent, and the depth of the row being handled
-    pub full-place : (r : Refusal) (d : ℕ) → verdict ≡ Full r d → Full r d ≡ fullHere
+    pub full-place : (r : Refusal) (d : ℕ) → verdict ≡ Full r d → Full r d ≡ fullHere (jointSizes ts) L R x
     -- document 02, A.3: both policies have the same traces of d packets or fewer from every packet
-    pub full-same : (r : Refusal) (d : ℕ) → verdict ≡ Full r d → SameShortTracesBelow sizes d (policyOf L) (policyOf R)
+    pub full-same : (r : Refusal) (d : ℕ) → verdict ≡ Full r d → SameShortTracesBelow (jointSizes ts) d (policyOf L) (policyOf R)
 
 -- what is known of the lent lists where no cause up to 10 holds, and N = count
 pub record Accepted (sizes : List ℕ) (L R : NodeLists) (count : ℕ) (x : SearchLists) : Type 0 where

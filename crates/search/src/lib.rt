@@ -3,6 +3,7 @@ ghost use Prim.Native.Nat.{ℕ, _+_, _/_, _<_, _≤_};
 ghost use mathlib.Core.Bool.{true, false};
 ghost use mathlib.Core.List.{[]};
 ghost use mathlib.Core.Path.{_≡_};
+ghost use Rattle.fields.specs.Tables.{tablesAtEntry};
 ghost use Rattle.policy.specs.AsLists.{asLists, policyAtEntry};
 ghost use Rattle.index.specs.Appending.{lists, listsAtEntry, listsAtExit};
 ghost use Rattle.search.specs.InnerRows.{columnsAtEntry, columnsAtExit, RoundsReady, RoundsDone, RestReady, RestDone, RunReady, RunDone};
@@ -251,7 +252,10 @@ fn search_accepted(
 // Whether two policies have the same traces from every packet: equal, or a shortest trace that one of them alone has, written to the trace list.
 // The row lists hold the rows of the row order listed so far, the work list is 0; refusals up to 10 leave all lists as they were.
 pub fn search(
-    sizes: &[u16],
+    left_names: &[u8],
+    left_sizes: &[u16],
+    right_names: &[u8],
+    right_sizes: &[u16],
     left_kind: &[u8],
     left_first: &[u16],
     left_second: &[u16],
@@ -265,7 +269,7 @@ pub fn search(
     trace: &mut [u16],
     work: &mut [u32],
 ) -> Verdict
-    ensures { λ r. ⌜ Searched (now (sizes .entry)) (policyAtEntry «left_kind» «left_first» «left_second») (policyAtEntry «right_kind» «right_first» «right_second») (lentAtEntry packets lefts rights parents trace work) r (lentAtExit packets lefts rights parents trace work) ⌝ }
+    ensures { λ r. ⌜ Searched (tablesAtEntry «left_names» «left_sizes» «right_names» «right_sizes») (policyAtEntry «left_kind» «left_first» «left_second») (policyAtEntry «right_kind» «right_first» «right_second») (lentAtEntry packets lefts rights parents trace work) r (lentAtExit packets lefts rights parents trace work) ⌝ }
 {
     let lists = lent_lists::search_lists(
         packets.len(),
@@ -275,7 +279,10 @@ pub fn search(
         work.len(),
     );
     let found = legality::front(
-        sizes,
+        left_names,
+        left_sizes,
+        right_names,
+        right_sizes,
         left_kind,
         left_first,
         left_second,
@@ -286,10 +293,12 @@ pub fn search(
     );
     let tested = found.tested;
     let count = found.packets;
+    let fields = found.count;
+    let sizes = found.sizes;
     match tested {
         Tested::Refused(r) => Verdict::Refused(r),
         Tested::Passed => search_accepted(
-            sizes,
+            &sizes[..fields],
             count,
             left_kind,
             left_first,

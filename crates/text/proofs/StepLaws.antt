@@ -10,7 +10,7 @@ use Rattle.policy.specs.Tree.{Policy}
 use Rattle.policy.specs.Tree
 use Rattle.policy.specs.NodeLists.{NodeLists}
 use Rattle.policy.specs.NodesOfTree.{NodeEntry, nodeEntry, actionEntry, treeSize, entriesFrom}
-use Rattle.grammar.specs.Tokens.{Placed, Constant, Comparison, dropped, passed, recorded, equals, differs, assigned, tokensFrom, fieldNames}
+use Rattle.grammar.specs.Tokens.{Placed, Constant, Comparison, dropped, passed, recorded, equals, differs, assigned, tokensFrom}
 use Rattle.grammar.specs.InnerKinds.{frontKind, constantKind, comparisonKind}
 use Rattle.grammar.specs.Grammar.{constantPolicy, fieldAction}
 use Rattle.grammar.specs.Reading.{Before, nothing, joinSequence, joinSum, upTo, whole, negated, State, wants, named, compared, has, negating, itemRead, stop, readOn}
@@ -41,27 +41,27 @@ action-entries n equals f v = refl
 action-entries n differs f v = refl
 action-entries n assigned f v = refl
 
-module _ (text : List ℕ) (room : ℕ) where
+module _ (names : List (List ℕ)) (text : List ℕ) (room : ℕ) where
   abbrev toks : ℕ → List Placed
-  toks at = tokensFrom fieldNames text at
+  toks at = tokensFrom names text at
 
   abbrev end : ℕ
   end = length text
 
   -- the front token's kind, as the reader has it
-  pub kind-at : {at k : ℕ} {t : Found.Token} → TokenFrom text at t → t .kind ≡ k → frontKind (toks at) ≡ k
+  pub kind-at : {at k : ℕ} {t : Found.Token} → TokenFrom names text at t → t .kind ≡ k → frontKind (toks at) ≡ k
   kind-at t e = sym (t .kind-is) ∙ e
 
-  pub kind-not : {at k : ℕ} {t : Found.Token} → TokenFrom text at t → (t .kind ≡ k → ⊥) → frontKind (toks at) ≡ k → ⊥
+  pub kind-not : {at k : ℕ} {t : Found.Token} → TokenFrom names text at t → (t .kind ≡ k → ⊥) → frontKind (toks at) ≡ k → ⊥
   kind-not t h e = h (t .kind-is ∙ e)
 
   -- ---- an item that is one node
 
-  onward-of : {at k : ℕ} {t : Found.Token} → TokenFrom text at t → t .kind ≡ k → (k ≡ 1 → ⊥) → at < t .next
+  onward-of : {at k : ℕ} {t : Found.Token} → TokenFrom names text at t → t .kind ≡ k → (k ≡ 1 → ⊥) → at < t .next
   onward-of {t = t} k e h = let l : t .start < t .next = k .onward (λ q. h (sym e ∙ q)) in omega (arith, k .low)
 
-  pub leaf-constant : {at k : ℕ} {t : Found.Token} → TokenFrom text at t → t .kind ≡ 2 → (t .value < 256 → k ≡ t .value)
-      → LeafDone text at (record { ok = true; at = t .next; kind = k; first = 0; second = 0 })
+  pub leaf-constant : {at k : ℕ} {t : Found.Token} → TokenFrom names text at t → t .kind ≡ 2 → (t .value < 256 → k ≡ t .value)
+      → LeafDone names text at (record { ok = true; at = t .next; kind = k; first = 0; second = 0 })
   leaf-constant {at} {k} {t} f e h =
       let c = constant-at (toks at) (kind-at f e) in
       let v : t .value ≡ constantKind (c .0) = f .value-is ∙ c .1 in
@@ -79,32 +79,32 @@ module _ (text : List ℕ) (room : ℕ) where
         stopped = λ x. absurd (true≢false x);
       }
 
-  leaf-stopped : {at place : ℕ} → ((b : Before) (cs : List Before) → readOn end (wants b cs) (toks at) ≡ stop place) → LeafDone text at (record { ok = false; at = place; kind = 0; first = 0; second = 0 })
+  leaf-stopped : {at place : ℕ} → ((b : Before) (cs : List Before) → readOn end (wants b cs) (toks at) ≡ stop place) → LeafDone names text at (record { ok = false; at = place; kind = 0; first = 0; second = 0 })
   leaf-stopped h = record { got = λ x. absurd (true≢false (sym x)); stopped = λ _. h }
 
-  pub leaf-none : {at : ℕ} {t : Found.Token} → TokenFrom text at t → (t .kind ≡ 2 → ⊥) → (t .kind ≡ 3 → ⊥) → (frontKind (toks at) ≡ 9 → ⊥) → (frontKind (toks at) ≡ 11 → ⊥)
-      → LeafDone text at (record { ok = false; at = t .start; kind = 0; first = 0; second = 0 })
+  pub leaf-none : {at : ℕ} {t : Found.Token} → TokenFrom names text at t → (t .kind ≡ 2 → ⊥) → (t .kind ≡ 3 → ⊥) → (frontKind (toks at) ≡ 9 → ⊥) → (frontKind (toks at) ≡ 11 → ⊥)
+      → LeafDone names text at (record { ok = false; at = t .start; kind = 0; first = 0; second = 0 })
   leaf-none {at} f x y z w = leaf-stopped (λ b cs. wants-stops end b cs (toks at) (kind-not f x) (kind-not f y) z w ∙ ap stop (sym (f .start-is)))
 
-  module _ {at : ℕ} {t : Found.Token} (f : TokenFrom text at t) (e : t .kind ≡ 3) {c : Found.Token} (g : TokenFrom text (t .next) c) where
+  module _ {at : ℕ} {t : Found.Token} (f : TokenFrom names text at t) (e : t .kind ≡ 3) {c : Found.Token} (g : TokenFrom names text (t .next) c) where
     past-name : (b : Before) (cs : List Before) → readOn end (wants b cs) (toks at) ≡ readOn end (named b cs (t .value)) (toks (t .next))
     past-name b cs = at-field end b cs (toks at) (kind-at f e) ∙ ap₂ (λ (x : ℕ) (l : List Placed). readOn end (named b cs x) l) (sym (f .value-is)) (sym (f .rest))
 
-    pub leaf-named : (c .kind ≡ 5 → ⊥) → LeafDone text at (record { ok = false; at = c .start; kind = 0; first = 0; second = 0 })
+    pub leaf-named : (c .kind ≡ 5 → ⊥) → LeafDone names text at (record { ok = false; at = c .start; kind = 0; first = 0; second = 0 })
     leaf-named x = leaf-stopped (λ b cs. past-name b cs ∙ named-stops end b cs (t .value) (toks (t .next)) (kind-not g x) ∙ ap stop (sym (g .start-is)))
 
-    module _ (e′ : c .kind ≡ 5) {v : Found.Token} (w : TokenFrom text (c .next) v) where
+    module _ (e′ : c .kind ≡ 5) {v : Found.Token} (w : TokenFrom names text (c .next) v) where
       past-comparison : (b : Before) (cs : List Before) → readOn end (wants b cs) (toks at) ≡ readOn end (compared b cs (t .value) (comparison-at (toks (t .next)) (kind-at g e′) .0)) (toks (c .next))
       past-comparison b cs =
           past-name b cs ∙ at-comparison end b cs (t .value) (toks (t .next)) (kind-at g e′)
           ∙ ap₂ (λ (x : Comparison) (l : List Placed). readOn end (compared b cs (t .value) x) l) (comparison-at (toks (t .next)) (kind-at g e′) .2) (sym (g .rest))
 
-      pub leaf-compared : (v .kind ≡ 4 → ⊥) → LeafDone text at (record { ok = false; at = v .start; kind = 0; first = 0; second = 0 })
+      pub leaf-compared : (v .kind ≡ 4 → ⊥) → LeafDone names text at (record { ok = false; at = v .start; kind = 0; first = 0; second = 0 })
       leaf-compared x =
           leaf-stopped
           (λ b cs. past-comparison b cs ∙ compared-stops end b cs (t .value) (comparison-at (toks (t .next)) (kind-at g e′) .0) (toks (c .next)) (kind-not w x) ∙ ap stop (sym (w .start-is)))
 
-      pub leaf-action : {k : ℕ} → v .kind ≡ 4 → (c .value < 256 → k ≡ c .value) → LeafDone text at (record { ok = true; at = v .next; kind = k; first = t .value; second = v .value })
+      pub leaf-action : {k : ℕ} → v .kind ≡ 4 → (c .value < 256 → k ≡ c .value) → LeafDone names text at (record { ok = true; at = v .next; kind = k; first = t .value; second = v .value })
       unfolding treeSize
       leaf-action {k} x h =
           let m = comparison-at (toks (t .next)) (kind-at g e′) in
@@ -129,9 +129,9 @@ module _ (text : List ℕ) (room : ℕ) where
             stopped = λ z. absurd (true≢false z);
           }
 
-  pub leaf-item : {at nodes : ℕ} {L L′ : NodeLists} {w : Leaves.Leaf} → GotLeaf text at w
+  pub leaf-item : {at nodes : ℕ} {L L′ : NodeLists} {w : Leaves.Leaf} → GotLeaf names text at w
       → L′ ≡ putEntry room nodes (nodeEntry (w .kind) (w .first) (w .second)) L
-      → Got bare text at nodes room L (record { ok = true; at = w .at; nodes = nodes + 1 }) L′
+      → Got bare names text at nodes room L (record { ok = true; at = w .at; nodes = nodes + 1 }) L′
   unfolding Past After putAll
   leaf-item {nodes = n} {L = L} g l =
       record {
@@ -147,8 +147,8 @@ module _ (text : List ℕ) (room : ℕ) where
 
   -- ---- a sum in parentheses
 
-  pub opened : {at nodes : ℕ} {L L′ : NodeLists} {t : Found.Token} {s r : Stepped.Step} → TokenFrom text at t → t .kind ≡ 9 → Done sum text (t .next) nodes room L s L′ → ClosingRead text s r
-      → Done bare text at nodes room L r L′
+  pub opened : {at nodes : ℕ} {L L′ : NodeLists} {t : Found.Token} {s r : Stepped.Step} → TokenFrom names text at t → t .kind ≡ 9 → Done sum names text (t .next) nodes room L s L′ → ClosingRead names text s r
+      → Done bare names text at nodes room L r L′
   unfolding Entered After Past
   opened {at} {nodes} {L} {L′} {t} {s} {r} k e d c = go (s .ok) refl
     where
@@ -158,7 +158,7 @@ module _ (text : List ℕ) (room : ℕ) where
       low : at < t .next
       low = let h : t .start < t .next = k .onward (λ q. omega (arith, e, q)) in omega (arith, k .low)
 
-      go : (o : Bool) → s .ok ≡ o → Done bare text at nodes room L r L′
+      go : (o : Bool) → s .ok ≡ o → Done bare names text at nodes room L r L′
       go false q =
           record {
             got = λ x. absurd (true≢false (sym x ∙ ap (λ (z : Stepped.Step). z .ok) (c .failed q) ∙ q));
@@ -192,7 +192,7 @@ module _ (text : List ℕ) (room : ℕ) where
   unfolding moreNegations
   scanned-none at b cs = ap (λ (n : ℕ). readOn end (wants (record { summed = b .summed; sequenced = b .sequenced; negations = n }) cs) (toks at)) (omega arith)
 
-  pub scanned-more : (count : ℕ) {at : ℕ} {t : Found.Token} → TokenFrom text at t → t .kind ≡ 11 → (b : Before) (cs : List Before)
+  pub scanned-more : (count : ℕ) {at : ℕ} {t : Found.Token} → TokenFrom names text at t → t .kind ≡ 11 → (b : Before) (cs : List Before)
       → readOn end (wants (moreNegations count b) cs) (toks at) ≡ readOn end (wants (moreNegations (count + 1) b) cs) (toks (t .next))
   unfolding moreNegations negating
   scanned-more count {at} f e b cs =
@@ -205,8 +205,8 @@ module _ (text : List ℕ) (room : ℕ) where
   read-negated n b cs p h =
       ap₂ (λ (m k : ℕ). has (record { summed = b .summed; sequenced = b .sequenced; negations = m }) cs (negated k p)) (sym h) (omega arith)
 
-  item-turn : {at nodes : ℕ} {L L₁ L₂ : NodeLists} {x : Scan.NegationRun} {r : Stepped.Step} → Scanned text at x → Got bare text (x .at) nodes room L r L₁
-      → L₂ ≡ putNegations room (r .nodes) (x .count) L₁ → Got item text at nodes room L (record { ok = true; at = r .at; nodes = r .nodes + x .count }) L₂
+  item-turn : {at nodes : ℕ} {L L₁ L₂ : NodeLists} {x : Scan.NegationRun} {r : Stepped.Step} → Scanned names text at x → Got bare names text (x .at) nodes room L r L₁
+      → L₂ ≡ putNegations room (r .nodes) (x .count) L₁ → Got item names text at nodes room L (record { ok = true; at = r .at; nodes = r .nodes + x .count }) L₂
   unfolding Entered After Past
   item-turn {nodes = nodes} {L = L} {x = x} {r = r} s g l =
       record {
@@ -224,9 +224,9 @@ module _ (text : List ℕ) (room : ℕ) where
 
   -- ---- one more *
 
-  pub star-turn : {at nodes : ℕ} {L L₁ L₂ : NodeLists} {s : Stepped.Step} {t : Found.Token} → Got item text at nodes room L s L₁ → TokenFrom text (s .at) t → t .kind ≡ 8
+  pub star-turn : {at nodes : ℕ} {L L₁ L₂ : NodeLists} {s : Stepped.Step} {t : Found.Token} → Got item names text at nodes room L s L₁ → TokenFrom names text (s .at) t → t .kind ≡ 8
       → L₂ ≡ putEntry room (s .nodes) (nodeEntry 8 (s .nodes - 1) 0) L₁
-      → Got item text at nodes room L (record { ok = true; at = t .next; nodes = s .nodes + 1 }) L₂
+      → Got item names text at nodes room L (record { ok = true; at = t .next; nodes = s .nodes + 1 }) L₂
   unfolding Past After treeSize
   star-turn {at} {nodes} {L} {s = s} {t = t} g k e l =
       let h : t .start < t .next = k .onward (λ q. omega (arith, e, q)) in
@@ -241,25 +241,25 @@ module _ (text : List ℕ) (room : ℕ) where
         few = omega (arith, g .few, k .low);
       }
 
-  pub star-ends : {at nodes : ℕ} {L L₁ : NodeLists} {s : Stepped.Step} → Got item text at nodes room L s L₁ → (frontKind (toks (s .at)) ≡ 8 → ⊥) → Got starred text at nodes room L s L₁
+  pub star-ends : {at nodes : ℕ} {L L₁ : NodeLists} {s : Stepped.Step} → Got item names text at nodes room L s L₁ → (frontKind (toks (s .at)) ≡ 8 → ⊥) → Got starred names text at nodes room L s L₁
   unfolding Past Entered After
   star-ends g h =
       record { policy = g .policy; moves = g .moves; past = h; nodes-is = g .nodes-is; lists-are = g .lists-are; onward = g .onward; within = g .within; few = g .few }
 
   -- ---- one more starred item
 
-  pub sequence-starts : {at nodes : ℕ} {L L₁ : NodeLists} {s : Stepped.Step} → Got starred text at nodes room L s L₁ → Got joined text at nodes room L s L₁
+  pub sequence-starts : {at nodes : ℕ} {L L₁ : NodeLists} {s : Stepped.Step} → Got starred names text at nodes room L s L₁ → Got joined names text at nodes room L s L₁
   unfolding Past Entered After
   sequence-starts g =
       record { policy = g .policy; moves = λ b h cs. g .moves b (h .1) cs; past = g .past; nodes-is = g .nodes-is; lists-are = g .lists-are; onward = g .onward; within = g .within; few = g .few }
 
-  pub sequence-ends : {at nodes : ℕ} {L L₁ : NodeLists} {s : Stepped.Step} → Got joined text at nodes room L s L₁ → (frontKind (toks (s .at)) ≡ 7 → ⊥) → Got sequence text at nodes room L s L₁
+  pub sequence-ends : {at nodes : ℕ} {L L₁ : NodeLists} {s : Stepped.Step} → Got joined names text at nodes room L s L₁ → (frontKind (toks (s .at)) ≡ 7 → ⊥) → Got sequence names text at nodes room L s L₁
   unfolding Past Entered After
   sequence-ends g h =
       record { policy = g .policy; moves = g .moves; past = (g .past, h); nodes-is = g .nodes-is; lists-are = g .lists-are; onward = g .onward; within = g .within; few = g .few }
 
   -- up to the ; and past it
-  past-semicolon : {at nodes : ℕ} {L L₁ : NodeLists} {s : Stepped.Step} {t : Found.Token} (g : Got joined text at nodes room L s L₁) → TokenFrom text (s .at) t → t .kind ≡ 7 → (m : Option Policy) (cs : List Before)
+  past-semicolon : {at nodes : ℕ} {L L₁ : NodeLists} {s : Stepped.Step} {t : Found.Token} (g : Got joined names text at nodes room L s L₁) → TokenFrom names text (s .at) t → t .kind ≡ 7 → (m : Option Policy) (cs : List Before)
       → readOn end (wants (record { summed = m; sequenced = none; negations = 0 }) cs) (toks at) ≡ readOn end (wants (record { summed = m; sequenced = some (g .policy); negations = 0 }) cs) (toks (t .next))
   unfolding Entered After upTo joinSequence
   past-semicolon {s = s} g k e m cs =
@@ -270,9 +270,9 @@ module _ (text : List ℕ) (room : ℕ) where
   as-joined : (P : Before → Type 0) → ((m : Option Policy) → P (record { summed = m; sequenced = none; negations = 0 })) → (b : Before) → (b .sequenced ≡ none) × (b .negations ≡ 0) → P b
   as-joined P f b h = subst P (λ i. record { summed = b .summed; sequenced = sym (h .0) i; negations = sym (h .1) i }) (f (b .summed))
 
-  pub sequence-turn : {at nodes : ℕ} {L L₁ L₂ L₃ : NodeLists} {s r : Stepped.Step} {t : Found.Token} → Got joined text at nodes room L s L₁ → TokenFrom text (s .at) t → t .kind ≡ 7
-      → Got starred text (t .next) (s .nodes) room L₁ r L₂ → L₃ ≡ putEntry room (r .nodes) (nodeEntry 7 (s .nodes - 1) (r .nodes - 1)) L₂
-      → Got joined text at nodes room L (record { ok = true; at = r .at; nodes = r .nodes + 1 }) L₃
+  pub sequence-turn : {at nodes : ℕ} {L L₁ L₂ L₃ : NodeLists} {s r : Stepped.Step} {t : Found.Token} → Got joined names text at nodes room L s L₁ → TokenFrom names text (s .at) t → t .kind ≡ 7
+      → Got starred names text (t .next) (s .nodes) room L₁ r L₂ → L₃ ≡ putEntry room (r .nodes) (nodeEntry 7 (s .nodes - 1) (r .nodes - 1)) L₂
+      → Got joined names text at nodes room L (record { ok = true; at = r .at; nodes = r .nodes + 1 }) L₃
   unfolding Past Entered After treeSize entriesFrom joinedEntries
   sequence-turn {at} {nodes} {L} {L₁} {L₂} {s = s} {r = r} {t = t} g k e y l =
       let h : t .start < t .next = k .onward (λ q. omega (arith, e, q)) in
@@ -291,27 +291,27 @@ module _ (text : List ℕ) (room : ℕ) where
 
   -- ---- one more sequence
 
-  pub sum-starts : {at nodes : ℕ} {L L₁ : NodeLists} {s : Stepped.Step} → Got sequence text at nodes room L s L₁ → Got added text at nodes room L s L₁
+  pub sum-starts : {at nodes : ℕ} {L L₁ : NodeLists} {s : Stepped.Step} → Got sequence names text at nodes room L s L₁ → Got added names text at nodes room L s L₁
   unfolding Past Entered After nothing
   sum-starts g =
       record { policy = g .policy; moves = λ b h cs. g .moves b (ap (λ (x : Before). x .sequenced) h, ap (λ (x : Before). x .negations) h) cs; past = g .past; nodes-is = g .nodes-is; lists-are = g .lists-are; onward = g .onward; within = g .within; few = g .few }
 
-  pub sum-ends : {at nodes : ℕ} {L L₁ : NodeLists} {s : Stepped.Step} → Got added text at nodes room L s L₁ → (frontKind (toks (s .at)) ≡ 6 → ⊥) → Got sum text at nodes room L s L₁
+  pub sum-ends : {at nodes : ℕ} {L L₁ : NodeLists} {s : Stepped.Step} → Got added names text at nodes room L s L₁ → (frontKind (toks (s .at)) ≡ 6 → ⊥) → Got sum names text at nodes room L s L₁
   unfolding Past Entered After
   sum-ends g h =
       record { policy = g .policy; moves = g .moves; past = (g .past .0, g .past .1, h); nodes-is = g .nodes-is; lists-are = g .lists-are; onward = g .onward; within = g .within; few = g .few }
 
   -- up to the + and past it
-  past-plus : {at nodes : ℕ} {L L₁ : NodeLists} {s : Stepped.Step} {t : Found.Token} (g : Got added text at nodes room L s L₁) → TokenFrom text (s .at) t → t .kind ≡ 6 → (cs : List Before)
+  past-plus : {at nodes : ℕ} {L L₁ : NodeLists} {s : Stepped.Step} {t : Found.Token} (g : Got added names text at nodes room L s L₁) → TokenFrom names text (s .at) t → t .kind ≡ 6 → (cs : List Before)
       → readOn end (wants nothing cs) (toks at) ≡ readOn end (wants (record { summed = some (g .policy); sequenced = none; negations = 0 }) cs) (toks (t .next))
   unfolding Entered After whole upTo joinSequence joinSum nothing
   past-plus {s = s} g k e cs =
       g .moves nothing refl cs ∙ at-plus end nothing cs (g .policy) (toks (s .at)) (kind-at k e)
       ∙ ap (readOn end (wants (record { summed = some (g .policy); sequenced = none; negations = 0 }) cs)) (sym (k .rest))
 
-  pub sum-turn : {at nodes : ℕ} {L L₁ L₂ L₃ : NodeLists} {s r : Stepped.Step} {t : Found.Token} → Got added text at nodes room L s L₁ → TokenFrom text (s .at) t → t .kind ≡ 6
-      → Got sequence text (t .next) (s .nodes) room L₁ r L₂ → L₃ ≡ putEntry room (r .nodes) (nodeEntry 6 (s .nodes - 1) (r .nodes - 1)) L₂
-      → Got added text at nodes room L (record { ok = true; at = r .at; nodes = r .nodes + 1 }) L₃
+  pub sum-turn : {at nodes : ℕ} {L L₁ L₂ L₃ : NodeLists} {s r : Stepped.Step} {t : Found.Token} → Got added names text at nodes room L s L₁ → TokenFrom names text (s .at) t → t .kind ≡ 6
+      → Got sequence names text (t .next) (s .nodes) room L₁ r L₂ → L₃ ≡ putEntry room (r .nodes) (nodeEntry 6 (s .nodes - 1) (r .nodes - 1)) L₂
+      → Got added names text at nodes room L (record { ok = true; at = r .at; nodes = r .nodes + 1 }) L₃
   unfolding Past Entered After treeSize entriesFrom joinedEntries
   sum-turn {at} {nodes} {L} {L₁} {L₂} {s = s} {r = r} {t = t} g k e y l =
       let h : t .start < t .next = k .onward (λ q. omega (arith, e, q)) in
@@ -331,65 +331,65 @@ module _ (text : List ℕ) (room : ℕ) where
   -- ---- a reader that has read, or stopped
 
   -- what is known where s has read: nothing has stopped it
-  pub done-got : {l : ReaderLevel} {at nodes : ℕ} {L L₁ : NodeLists} {s : Stepped.Step} → s .ok ≡ true → Got l text at nodes room L s L₁ → Done l text at nodes room L s L₁
+  pub done-got : {l : ReaderLevel} {at nodes : ℕ} {L L₁ : NodeLists} {s : Stepped.Step} → s .ok ≡ true → Got l names text at nodes room L s L₁ → Done l names text at nodes room L s L₁
   done-got o g = record { got = λ _. g; stopped = λ x. absurd (true≢false (sym o ∙ x)) }
 
   pub done-stopped : {l : ReaderLevel} {at nodes : ℕ} {L L₁ : NodeLists} {s : Stepped.Step} → s .ok ≡ false
-      → ((b : Before) → Entered l b → (cs : List Before) → readOn end (wants b cs) (toks at) ≡ stop (s .at)) → Done l text at nodes room L s L₁
+      → ((b : Before) → Entered l b → (cs : List Before) → readOn end (wants b cs) (toks at) ≡ stop (s .at)) → Done l names text at nodes room L s L₁
   done-stopped o f = record { got = λ x. absurd (true≢false (sym x ∙ o)); stopped = λ _. f }
 
   -- a reader of one level, handed on as one of another
-  pub done-as : {l m : ReaderLevel} {at nodes : ℕ} {L L₁ : NodeLists} {s : Stepped.Step} → Done l text at nodes room L s L₁
-      → (Got l text at nodes room L s L₁ → Got m text at nodes room L s L₁) → ((b : Before) → Entered m b → Entered l b) → Done m text at nodes room L s L₁
+  pub done-as : {l m : ReaderLevel} {at nodes : ℕ} {L L₁ : NodeLists} {s : Stepped.Step} → Done l names text at nodes room L s L₁
+      → (Got l names text at nodes room L s L₁ → Got m names text at nodes room L s L₁) → ((b : Before) → Entered m b → Entered l b) → Done m names text at nodes room L s L₁
   done-as d f h = record { got = λ o. f (d .got o); stopped = λ o b x. d .stopped o b (h b x) }
 
   -- an item with its !
-  pub item-negated : {at nodes : ℕ} {L L₁ L₂ : NodeLists} {x : Scan.NegationRun} {r r′ : Stepped.Step} → Scanned text at x → Done bare text (x .at) nodes room L r L₁
-      → Negated (x .count) room r L₁ r′ L₂ → Done item text at nodes room L r′ L₂
+  pub item-negated : {at nodes : ℕ} {L L₁ L₂ : NodeLists} {x : Scan.NegationRun} {r r′ : Stepped.Step} → Scanned names text at x → Done bare names text (x .at) nodes room L r L₁
+      → Negated (x .count) room r L₁ r′ L₂ → Done item names text at nodes room L r′ L₂
   unfolding Entered
   item-negated {at} {nodes} {L} {L₁} {L₂} {x} {r} {r′} s d n = go (r .ok) refl
     where
-      go : (b : Bool) → r .ok ≡ b → Done item text at nodes room L r′ L₂
+      go : (b : Bool) → r .ok ≡ b → Done item names text at nodes room L r′ L₂
       go true q =
-          subst (λ (z : Stepped.Step). Done item text at nodes room L z L₂) (sym (n .made q .0)) (done-got refl (item-turn s (d .got q) (n .made q .1)))
+          subst (λ (z : Stepped.Step). Done item names text at nodes room L z L₂) (sym (n .made q .0)) (done-got refl (item-turn s (d .got q) (n .made q .1)))
       go false q =
-          subst (λ (z : Stepped.Step). Done item text at nodes room L z L₂) (sym (n .failed q .0))
+          subst (λ (z : Stepped.Step). Done item names text at nodes room L z L₂) (sym (n .failed q .0))
           (done-stopped q (λ b h cs. s .moves b cs ∙ d .stopped q (moreNegations (x .count) b) tt cs))
 
   -- one more operand: s has read, the mark stands there, r has read or stopped after it, and j joins the two
-  pub sequence-next : {at nodes : ℕ} {L L₁ L₂ L₃ : NodeLists} {s r s′ : Stepped.Step} {t : Found.Token} → s .ok ≡ true → Done joined text at nodes room L s L₁ → TokenFrom text (s .at) t → t .kind ≡ 7
-      → Done starred text (t .next) (s .nodes) room L₁ r L₂ → NodeJoined 7 (s .nodes - 1) room r L₂ s′ L₃ → Done joined text at nodes room L s′ L₃
+  pub sequence-next : {at nodes : ℕ} {L L₁ L₂ L₃ : NodeLists} {s r s′ : Stepped.Step} {t : Found.Token} → s .ok ≡ true → Done joined names text at nodes room L s L₁ → TokenFrom names text (s .at) t → t .kind ≡ 7
+      → Done starred names text (t .next) (s .nodes) room L₁ r L₂ → NodeJoined 7 (s .nodes - 1) room r L₂ s′ L₃ → Done joined names text at nodes room L s′ L₃
   unfolding Entered
   sequence-next {at} {nodes} {L} {L₁} {L₂} {L₃} {s} {r} {s′} {t} o d k e y j = go (r .ok) refl
     where
-      go : (b : Bool) → r .ok ≡ b → Done joined text at nodes room L s′ L₃
+      go : (b : Bool) → r .ok ≡ b → Done joined names text at nodes room L s′ L₃
       go true q =
-          subst (λ (x : Stepped.Step). Done joined text at nodes room L x L₃) (sym (j .made q .0))
+          subst (λ (x : Stepped.Step). Done joined names text at nodes room L x L₃) (sym (j .made q .0))
           (done-got refl (sequence-turn (d .got o) k e (y .got q) (j .made q .1)))
       go false q =
-          subst (λ (x : Stepped.Step). Done joined text at nodes room L x L₃) (sym (j .failed q .0))
+          subst (λ (x : Stepped.Step). Done joined names text at nodes room L x L₃) (sym (j .failed q .0))
           (done-stopped q
           (λ b h cs. as-joined (λ x. readOn end (wants x cs) (toks at) ≡ stop (r .at))
           (λ m. past-semicolon (d .got o) k e m cs ∙ y .stopped q (record { summed = m; sequenced = some (d .got o .policy); negations = 0 }) refl cs) b h))
 
-  pub sum-next : {at nodes : ℕ} {L L₁ L₂ L₃ : NodeLists} {s r s′ : Stepped.Step} {t : Found.Token} → s .ok ≡ true → Done added text at nodes room L s L₁ → TokenFrom text (s .at) t → t .kind ≡ 6
-      → Done sequence text (t .next) (s .nodes) room L₁ r L₂ → NodeJoined 6 (s .nodes - 1) room r L₂ s′ L₃ → Done added text at nodes room L s′ L₃
+  pub sum-next : {at nodes : ℕ} {L L₁ L₂ L₃ : NodeLists} {s r s′ : Stepped.Step} {t : Found.Token} → s .ok ≡ true → Done added names text at nodes room L s L₁ → TokenFrom names text (s .at) t → t .kind ≡ 6
+      → Done sequence names text (t .next) (s .nodes) room L₁ r L₂ → NodeJoined 6 (s .nodes - 1) room r L₂ s′ L₃ → Done added names text at nodes room L s′ L₃
   unfolding Entered
   sum-next {at} {nodes} {L} {L₁} {L₂} {L₃} {s} {r} {s′} {t} o d k e y j = go (r .ok) refl
     where
-      go : (b : Bool) → r .ok ≡ b → Done added text at nodes room L s′ L₃
+      go : (b : Bool) → r .ok ≡ b → Done added names text at nodes room L s′ L₃
       go true q =
-          subst (λ (x : Stepped.Step). Done added text at nodes room L x L₃) (sym (j .made q .0))
+          subst (λ (x : Stepped.Step). Done added names text at nodes room L x L₃) (sym (j .made q .0))
           (done-got refl (sum-turn (d .got o) k e (y .got q) (j .made q .1)))
       go false q =
-          subst (λ (x : Stepped.Step). Done added text at nodes room L x L₃) (sym (j .failed q .0))
+          subst (λ (x : Stepped.Step). Done added names text at nodes room L x L₃) (sym (j .failed q .0))
           (done-stopped q
           (λ b h cs. subst (λ (x : Before). readOn end (wants x cs) (toks at) ≡ stop (r .at)) (sym h)
           (past-plus (d .got o) k e cs ∙ y .stopped q (record { summed = some (d .got o .policy); sequenced = none; negations = 0 }) (refl, refl) cs)))
 
   -- ---- the closing parenthesis
 
-  pub closed-shut : {s : Stepped.Step} {t : Found.Token} → s .ok ≡ true → TokenFrom text (s .at) t → t .kind ≡ 10 → ClosingRead text s (record { ok = true; at = t .next; nodes = s .nodes })
+  pub closed-shut : {s : Stepped.Step} {t : Found.Token} → s .ok ≡ true → TokenFrom names text (s .at) t → t .kind ≡ 10 → ClosingRead names text s (record { ok = true; at = t .next; nodes = s .nodes })
   closed-shut o k e =
       record {
         failed = λ x. absurd (true≢false (sym o ∙ x));
@@ -397,7 +397,7 @@ module _ (text : List ℕ) (room : ℕ) where
         unshut = λ _ x. absurd (true≢false x);
       }
 
-  pub closed-unshut : {s : Stepped.Step} {t : Found.Token} → s .ok ≡ true → TokenFrom text (s .at) t → (t .kind ≡ 10 → ⊥) → ClosingRead text s (record { ok = false; at = t .start; nodes = s .nodes })
+  pub closed-unshut : {s : Stepped.Step} {t : Found.Token} → s .ok ≡ true → TokenFrom names text (s .at) t → (t .kind ≡ 10 → ⊥) → ClosingRead names text s (record { ok = false; at = t .start; nodes = s .nodes })
   closed-unshut o k e =
       record {
         failed = λ x. absurd (true≢false (sym o ∙ x));
@@ -405,10 +405,13 @@ module _ (text : List ℕ) (room : ℕ) where
         unshut = λ _ _. (kind-not k e, k .start-is);
       }
 
-  pub closed-failed : {s : Stepped.Step} → s .ok ≡ false → ClosingRead text s s
+  pub closed-failed : {s : Stepped.Step} → s .ok ≡ false → ClosingRead names text s s
   closed-failed o =
       record { failed = λ _. refl; shut = λ x. absurd (true≢false (sym x ∙ o)); unshut = λ x. absurd (true≢false (sym x ∙ o)) }
 
+-- ---- the nodes that join and negate
+
+module _ (room : ℕ) where
   pub joined-made : {k left : ℕ} {L L′ : NodeLists} {r : Stepped.Step} → r .ok ≡ true → L′ ≡ putEntry room (r .nodes) (nodeEntry k left (r .nodes - 1)) L
       → NodeJoined k left room r L (record { ok = true; at = r .at; nodes = r .nodes + 1 }) L′
   joined-made o l = record { failed = λ x. absurd (true≢false (sym o ∙ x)); made = λ _. (refl, l) }

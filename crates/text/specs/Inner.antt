@@ -9,7 +9,7 @@ use lib.ListN.{length, set}
 use Rattle.policy.specs.Tree.{Policy}
 use Rattle.policy.specs.NodeLists.{NodeLists}
 use Rattle.policy.specs.NodesOfTree.{NodeEntry, nodeEntry, treeSize, entriesFrom}
-use Rattle.grammar.specs.Tokens.{tokensFrom, fieldNames}
+use Rattle.grammar.specs.Tokens.{tokensFrom}
 use Rattle.grammar.specs.InnerKinds.{frontKind, frontPlace, afterFront}
 use Rattle.grammar.specs.Reading.{Before, nothing, State, wants, has, itemRead, stop, readOn}
 use Rattle.grammar.specs.Answer.{stopPlace, outcome, textTree}
@@ -69,11 +69,12 @@ unfoldable pub putNegations : ℕ → ℕ → ℕ → NodeLists → NodeLists
 putNegations room n zero L = L
 putNegations room n (suc k) L = putEntry room (n + k) (nodeEntry 9 (n + k - 1) 0) (putNegations room n k L)
 
--- what a reader asks: nodes so far are no more than bytes so far, and no more are written than there is room for
-pub record ReaderReady (text : List ℕ) (at nodes room : ℕ) (L : NodeLists) : Type 0 where
+-- what a reader asks: at most eight names, no more nodes so far than bytes so far, and no more written than there is room for
+pub record ReaderReady (cells text : List ℕ) (at nodes room : ℕ) (L : NodeLists) : Type 0 where
   pub within : at ≤ length text
   pub few : nodes ≤ at
   pub small : room ≤ 512
+  pub named : length cells ≤ 128
   pub kinds : room ≤ length (L .kind)
   pub firsts : room ≤ length (L .first)
   pub seconds : room ≤ length (L .second)
@@ -83,34 +84,34 @@ unfoldable pub moreNegations : ℕ → Before → Before
 moreNegations n b = record { summed = b .summed; sequenced = b .sequenced; negations = n + b .negations }
 
 -- a run of ! from a byte on, and the token after it, which is none
-pub record Scanned (text : List ℕ) (at : ℕ) (r : Scan.NegationRun) : Type 0 where
+pub record Scanned (names : List (List ℕ)) (text : List ℕ) (at : ℕ) (r : Scan.NegationRun) : Type 0 where
   pub moves : (b : Before) (cs : List Before)
-      → readOn (length text) (wants b cs) (tokensFrom fieldNames text at)
-      ≡ readOn (length text) (wants (moreNegations (r .count) b) cs) (tokensFrom fieldNames text (r .at))
-  pub token-is : TokenFrom text (r .at) (r .token)
+      → readOn (length text) (wants b cs) (tokensFrom names text at)
+      ≡ readOn (length text) (wants (moreNegations (r .count) b) cs) (tokensFrom names text (r .at))
+  pub token-is : TokenFrom names text (r .at) (r .token)
   pub over : r .token .kind ≡ 11 → ⊥
   pub few : at + r .count ≤ r .at
   pub within : r .at ≤ length text
 
 -- an item that is no sum in parentheses: one node, whatever its number
-pub record GotLeaf (text : List ℕ) (at : ℕ) (r : Leaves.Leaf) : Type 0 where
+pub record GotLeaf (names : List (List ℕ)) (text : List ℕ) (at : ℕ) (r : Leaves.Leaf) : Type 0 where
   pub policy : Policy
   pub moves : (b : Before) (cs : List Before)
-      → readOn (length text) (wants b cs) (tokensFrom fieldNames text at) ≡ readOn (length text) (itemRead b cs policy) (tokensFrom fieldNames text (r .at))
+      → readOn (length text) (wants b cs) (tokensFrom names text at) ≡ readOn (length text) (itemRead b cs policy) (tokensFrom names text (r .at))
   pub one : treeSize policy ≡ 1
   pub entries : (n : ℕ) → entriesFrom n policy ≡ nodeEntry (r .kind) (r .first) (r .second) ∷ []
   pub onward : at < r .at
   pub within : r .at ≤ length text
 
-pub record LeafDone (text : List ℕ) (at : ℕ) (r : Leaves.Leaf) : Type 0 where
-  pub got : r .ok ≡ true → GotLeaf text at r
-  pub stopped : r .ok ≡ false → (b : Before) (cs : List Before) → readOn (length text) (wants b cs) (tokensFrom fieldNames text at) ≡ stop (r .at)
+pub record LeafDone (names : List (List ℕ)) (text : List ℕ) (at : ℕ) (r : Leaves.Leaf) : Type 0 where
+  pub got : r .ok ≡ true → GotLeaf names text at r
+  pub stopped : r .ok ≡ false → (b : Before) (cs : List Before) → readOn (length text) (wants b cs) (tokensFrom names text at) ≡ stop (r .at)
 
 -- the closing parenthesis after what s has read
-pub record ClosingRead (text : List ℕ) (s r : Stepped.Step) : Type 0 where
+pub record ClosingRead (names : List (List ℕ)) (text : List ℕ) (s r : Stepped.Step) : Type 0 where
   pub failed : s .ok ≡ false → r ≡ s
-  pub shut : s .ok ≡ true → r .ok ≡ true → (frontKind (tokensFrom fieldNames text (s .at)) ≡ 10) × (tokensFrom fieldNames text (r .at) ≡ afterFront (tokensFrom fieldNames text (s .at))) × (s .at < r .at) × (r .at ≤ length text) × (r .nodes ≡ s .nodes)
-  pub unshut : s .ok ≡ true → r .ok ≡ false → (frontKind (tokensFrom fieldNames text (s .at)) ≡ 10 → ⊥) × (r .at ≡ frontPlace (length text) (tokensFrom fieldNames text (s .at)))
+  pub shut : s .ok ≡ true → r .ok ≡ true → (frontKind (tokensFrom names text (s .at)) ≡ 10) × (tokensFrom names text (r .at) ≡ afterFront (tokensFrom names text (s .at))) × (s .at < r .at) × (r .at ≤ length text) × (r .nodes ≡ s .nodes)
+  pub unshut : s .ok ≡ true → r .ok ≡ false → (frontKind (tokensFrom names text (s .at)) ≡ 10 → ⊥) × (r .at ≡ frontPlace (length text) (tokensFrom names text (s .at)))
 
 -- the node that joins what r has read to what stands before it
 pub record NodeJoined (k left room : ℕ) (r : Stepped.Step) (L : NodeLists) (r′ : Stepped.Step) (L′ : NodeLists) : Type 0 where
@@ -123,11 +124,11 @@ pub record Negated (count room : ℕ) (r : Stepped.Step) (L : NodeLists) (r′ :
   pub made : r .ok ≡ true → (r′ ≡ record { ok = true; at = r .at; nodes = r .nodes + count }) × (L′ ≡ putNegations room (r .nodes) count L)
 
 -- a reader has read a policy, whose nodes are those after the first so many
-pub record Got (l : ReaderLevel) (text : List ℕ) (at nodes room : ℕ) (L : NodeLists) (r : Stepped.Step) (L′ : NodeLists) : Type 0 where
+pub record Got (l : ReaderLevel) (names : List (List ℕ)) (text : List ℕ) (at nodes room : ℕ) (L : NodeLists) (r : Stepped.Step) (L′ : NodeLists) : Type 0 where
   pub policy : Policy
   pub moves : (b : Before) → Entered l b → (cs : List Before)
-      → readOn (length text) (wants b cs) (tokensFrom fieldNames text at) ≡ readOn (length text) (After l b cs policy) (tokensFrom fieldNames text (r .at))
-  pub past : Past l (frontKind (tokensFrom fieldNames text (r .at)))
+      → readOn (length text) (wants b cs) (tokensFrom names text at) ≡ readOn (length text) (After l b cs policy) (tokensFrom names text (r .at))
+  pub past : Past l (frontKind (tokensFrom names text (r .at)))
   pub nodes-is : r .nodes ≡ nodes + treeSize policy
   pub lists-are : L′ ≡ putAll room nodes (entriesFrom nodes policy) L
   pub onward : at < r .at
@@ -135,18 +136,18 @@ pub record Got (l : ReaderLevel) (text : List ℕ) (at nodes room : ℕ) (L : No
   pub few : r .nodes + at ≤ r .at + nodes
 
 -- what a reader of the level has done
-pub record Done (l : ReaderLevel) (text : List ℕ) (at nodes room : ℕ) (L : NodeLists) (r : Stepped.Step) (L′ : NodeLists) : Type 0 where
-  pub got : r .ok ≡ true → Got l text at nodes room L r L′
+pub record Done (l : ReaderLevel) (names : List (List ℕ)) (text : List ℕ) (at nodes room : ℕ) (L : NodeLists) (r : Stepped.Step) (L′ : NodeLists) : Type 0 where
+  pub got : r .ok ≡ true → Got l names text at nodes room L r L′
   pub stopped : r .ok ≡ false → (b : Before) → Entered l b → (cs : List Before)
-      → readOn (length text) (wants b cs) (tokensFrom fieldNames text at) ≡ stop (r .at)
+      → readOn (length text) (wants b cs) (tokensFrom names text at) ≡ stop (r .at)
 
 -- the end of the text after what s has read
-pub record EndRead (text : List ℕ) (s r : Stepped.Step) : Type 0 where
+pub record EndRead (names : List (List ℕ)) (text : List ℕ) (s r : Stepped.Step) : Type 0 where
   pub failed : s .ok ≡ false → r ≡ s
-  pub over : s .ok ≡ true → r .ok ≡ true → (frontKind (tokensFrom fieldNames text (s .at)) ≡ 1) × (r .nodes ≡ s .nodes)
-  pub more : s .ok ≡ true → r .ok ≡ false → (frontKind (tokensFrom fieldNames text (s .at)) ≡ 1 → ⊥) × (r .at ≡ frontPlace (length text) (tokensFrom fieldNames text (s .at)))
+  pub over : s .ok ≡ true → r .ok ≡ true → (frontKind (tokensFrom names text (s .at)) ≡ 1) × (r .nodes ≡ s .nodes)
+  pub more : s .ok ≡ true → r .ok ≡ false → (frontKind (tokensFrom names text (s .at)) ≡ 1 → ⊥) × (r .at ≡ frontPlace (length text) (tokensFrom names text (s .at)))
 
 -- the whole text has been read, or the reading has stopped
-pub record WholeRead (text : List ℕ) (r : Stepped.Step) : Type 0 where
-  pub read : r .ok ≡ true → (stopPlace (outcome fieldNames text) ≡ none) × (r .nodes ≡ treeSize (textTree fieldNames text))
-  pub stopped : r .ok ≡ false → stopPlace (outcome fieldNames text) ≡ some (r .at)
+pub record WholeRead (names : List (List ℕ)) (text : List ℕ) (r : Stepped.Step) : Type 0 where
+  pub read : r .ok ≡ true → (stopPlace (outcome names text) ≡ none) × (r .nodes ≡ treeSize (textTree names text))
+  pub stopped : r .ok ≡ false → stopPlace (outcome names text) ≡ some (r .at)

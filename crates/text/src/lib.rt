@@ -1,18 +1,22 @@
-// The text reader (document 01, "Text", and document 02, A.1). Its tokens and their kinds are those of `tokens`.
+// The text reader (document 01, "Text", and document 02, A.1 and A.4). Its tokens and their kinds are those of `tokens`.
 use grammar::Answer;
 use packet::Refusal;
 use packet::Tested;
 use tokens::Token;
 ghost use mathlib.Core.Path.{_≡_};
-ghost use mathlib.Core.Bool.{true, false};
-ghost use Prim.Native.Nat.{_+_, _^_, _≤_, _<_, min};
-ghost use lib.ListN.{length};
+ghost use mathlib.Core.Bool.{true, false, cond};
+ghost use Prim.Native.Nat.{_+_, _*_, _^_, _≤_, _<_, min};
+ghost use lib.Dec.{eqb};
+ghost use lib.ListN.{length, take};
 ghost use mathlib.Core.List.{[], _∷_};
 ghost use Rattle.packet.specs.Refusals.{refusal, refusedAt, firstOf};
 ghost use Rattle.policy.specs.AsLists.{asLists};
 ghost use Rattle.policy.specs.NodesOfTree.{nodeEntry, treeSize};
-ghost use Rattle.grammar.specs.Tokens.{tokens, tokensFrom, fieldNames};
-ghost use Rattle.grammar.specs.Answer.{badPlace, deepPlace, stopPlace, tooMany, answerAfter, outcome, textTree, answerTo, TextRead};
+ghost use Rattle.fields.specs.Inner.{keptNames};
+ghost use Rattle.fields.specs.Names.{namesIn};
+ghost use Rattle.fields.specs.Tables.{table};
+ghost use Rattle.grammar.specs.Tokens.{tokens, tokensFrom};
+ghost use Rattle.grammar.specs.Answer.{badPlace, deepPlace, stopPlace, tooMany, answerAfter, outcome, textTree, answerTo, ReadWith, TextRead};
 ghost use Rattle.grammar.specs.InnerKinds.{frontKind, openAfterKind};
 ghost use Rattle.text.specs.Inner;
 ghost use Rattle.text.specs.Inner.{Scanned, LeafDone, ClosingRead, NodeJoined, Negated, putEntry, ReaderReady, Done, EndRead, WholeRead};
@@ -41,14 +45,14 @@ struct Leaf {
 }
 
 // The run of ! from a byte on, empty where there is none. A loop: a run may be as long as the text.
-fn negations(text: &[u8], at: usize) -> NegationRun
-    requires { ⌜ at ≤ length (now text) ⌝ }
-    ensures { λ r. ⌜ Scanned (now (text .entry)) at r ⌝ }
+fn negations(names: &[u8], text: &[u8], at: usize) -> NegationRun
+    requires { ⌜ (length (now names) ≤ 128) × (at ≤ length (now text)) ⌝ }
+    ensures { λ r. ⌜ Scanned (namesIn (now (names .entry))) (now (text .entry)) at r ⌝ }
 {
     let mut count = 0;
     let mut i = at;
     loop {
-        let token = tokens::token_from(text, i);
+        let token = tokens::token_from(names, text, i);
         if token.kind != 11 {
             return NegationRun {
                 count,
@@ -85,12 +89,12 @@ fn small(k: u16) -> u8
 }
 
 // The item at a byte, where no parenthesis opens and no ! stands.
-fn leaf_item(text: &[u8], at: usize) -> Leaf
-    requires { ⌜ (at ≤ length (now text)) × (frontKind (tokensFrom fieldNames (now text) at) ≡ 9 → ⊥)
-        × (frontKind (tokensFrom fieldNames (now text) at) ≡ 11 → ⊥) ⌝ }
-    ensures { λ r. ⌜ LeafDone (now (text .entry)) at r ⌝ }
+fn leaf_item(names: &[u8], text: &[u8], at: usize) -> Leaf
+    requires { ⌜ (length (now names) ≤ 128) × (at ≤ length (now text)) × (frontKind (tokensFrom (namesIn (now names)) (now text) at) ≡ 9 → ⊥)
+        × (frontKind (tokensFrom (namesIn (now names)) (now text) at) ≡ 11 → ⊥) ⌝ }
+    ensures { λ r. ⌜ LeafDone (namesIn (now (names .entry))) (now (text .entry)) at r ⌝ }
 {
-    let t = tokens::token_from(text, at);
+    let t = tokens::token_from(names, text, at);
     if t.kind == 2 {
         return Leaf {
             ok: true,
@@ -103,11 +107,11 @@ fn leaf_item(text: &[u8], at: usize) -> Leaf
     if t.kind != 3 {
         return stopped(t.start);
     }
-    let c = tokens::token_from(text, t.next);
+    let c = tokens::token_from(names, text, t.next);
     if c.kind != 5 {
         return stopped(c.start);
     }
-    let v = tokens::token_from(text, c.next);
+    let v = tokens::token_from(names, text, c.next);
     if v.kind != 4 {
         return stopped(v.start);
     }
@@ -229,12 +233,12 @@ fn negate(
 }
 
 // The closing parenthesis after what s has read.
-fn closed(text: &[u8], s: Step) -> Step
-    requires { ⌜ (s .ok ≡ true → s .at ≤ length (now text)) ⌝ }
-    ensures { λ r. ⌜ ClosingRead (now (text .entry)) s r ⌝ }
+fn closed(names: &[u8], text: &[u8], s: Step) -> Step
+    requires { ⌜ (length (now names) ≤ 128) × (s .ok ≡ true → s .at ≤ length (now text)) ⌝ }
+    ensures { λ r. ⌜ ClosingRead (namesIn (now (names .entry))) (now (text .entry)) s r ⌝ }
 {
     if s.ok {
-        let t = tokens::token_from(text, s.at);
+        let t = tokens::token_from(names, text, s.at);
         if t.kind == 10 {
             return Step {
                 ok: true,
@@ -253,6 +257,7 @@ fn closed(text: &[u8], s: Step) -> Step
 
 // An item: any number of !, then drop, id, dup, a field with a comparison and a number, or a sum in parentheses. Each ! negates it.
 fn item(
+    names: &[u8],
     text: &[u8],
     at: usize,
     nodes: usize,
@@ -261,17 +266,26 @@ fn item(
     first: &mut [u16],
     second: &mut [u16],
 ) -> Step
-    requires { ⌜ ReaderReady (now text) at nodes room (asLists (now kind) (now first) (now second)) ⌝ }
-    ensures { λ r. ⌜ Done Inner.item (now (text .entry)) at nodes room (asLists (now (kind .entry)) (now (first .entry)) (now (second .entry))) r
+    requires { ⌜ ReaderReady (now names) (now text) at nodes room (asLists (now kind) (now first) (now second)) ⌝ }
+    ensures { λ r. ⌜ Done Inner.item (namesIn (now (names .entry))) (now (text .entry)) at nodes room (asLists (now (kind .entry)) (now (first .entry)) (now (second .entry))) r
         (asLists (now (kind .exit)) (now (first .exit)) (now (second .exit))) ⌝ }
 {
-    let run = negations(text, at);
+    let run = negations(names, text, at);
     if run.token.kind == 9 {
-        let s = sum(text, run.token.next, nodes, room, kind, first, second);
-        let r = closed(text, s);
+        let s = sum(
+            names,
+            text,
+            run.token.next,
+            nodes,
+            room,
+            kind,
+            first,
+            second,
+        );
+        let r = closed(names, text, s);
         return negate(run.count, r, room, kind, first, second);
     }
-    let w = leaf_item(text, run.at);
+    let w = leaf_item(names, text, run.at);
     if w.ok {
         put(nodes, room, w.kind, w.first, w.second, kind, first, second);
         let r = Step {
@@ -290,6 +304,7 @@ fn item(
 
 // A starred item: an item and any number of *.
 fn starred(
+    names: &[u8],
     text: &[u8],
     at: usize,
     nodes: usize,
@@ -298,13 +313,13 @@ fn starred(
     first: &mut [u16],
     second: &mut [u16],
 ) -> Step
-    requires { ⌜ ReaderReady (now text) at nodes room (asLists (now kind) (now first) (now second)) ⌝ }
-    ensures { λ r. ⌜ Done Inner.starred (now (text .entry)) at nodes room (asLists (now (kind .entry)) (now (first .entry)) (now (second .entry))) r
+    requires { ⌜ ReaderReady (now names) (now text) at nodes room (asLists (now kind) (now first) (now second)) ⌝ }
+    ensures { λ r. ⌜ Done Inner.starred (namesIn (now (names .entry))) (now (text .entry)) at nodes room (asLists (now (kind .entry)) (now (first .entry)) (now (second .entry))) r
         (asLists (now (kind .exit)) (now (first .exit)) (now (second .exit))) ⌝ }
 {
-    let mut s = item(text, at, nodes, room, kind, first, second);
+    let mut s = item(names, text, at, nodes, room, kind, first, second);
     while s.ok {
-        let t = tokens::token_from(text, s.at);
+        let t = tokens::token_from(names, text, s.at);
         if t.kind != 8 {
             return s;
         }
@@ -321,6 +336,7 @@ fn starred(
 
 // A sequence: starred items joined by ;
 fn sequence(
+    names: &[u8],
     text: &[u8],
     at: usize,
     nodes: usize,
@@ -329,18 +345,18 @@ fn sequence(
     first: &mut [u16],
     second: &mut [u16],
 ) -> Step
-    requires { ⌜ ReaderReady (now text) at nodes room (asLists (now kind) (now first) (now second)) ⌝ }
-    ensures { λ r. ⌜ Done Inner.sequence (now (text .entry)) at nodes room (asLists (now (kind .entry)) (now (first .entry)) (now (second .entry))) r
+    requires { ⌜ ReaderReady (now names) (now text) at nodes room (asLists (now kind) (now first) (now second)) ⌝ }
+    ensures { λ r. ⌜ Done Inner.sequence (namesIn (now (names .entry))) (now (text .entry)) at nodes room (asLists (now (kind .entry)) (now (first .entry)) (now (second .entry))) r
         (asLists (now (kind .exit)) (now (first .exit)) (now (second .exit))) ⌝ }
 {
-    let mut s = starred(text, at, nodes, room, kind, first, second);
+    let mut s = starred(names, text, at, nodes, room, kind, first, second);
     while s.ok {
-        let t = tokens::token_from(text, s.at);
+        let t = tokens::token_from(names, text, s.at);
         if t.kind != 7 {
             return s;
         }
         let n = s.nodes;
-        let r = starred(text, t.next, n, room, kind, first, second);
+        let r = starred(names, text, t.next, n, room, kind, first, second);
         s = join(7, n - 1, r, room, kind, first, second);
     }
     s
@@ -348,6 +364,7 @@ fn sequence(
 
 // A sum: sequences joined by +
 fn sum(
+    names: &[u8],
     text: &[u8],
     at: usize,
     nodes: usize,
@@ -356,30 +373,30 @@ fn sum(
     first: &mut [u16],
     second: &mut [u16],
 ) -> Step
-    requires { ⌜ ReaderReady (now text) at nodes room (asLists (now kind) (now first) (now second)) ⌝ }
-    ensures { λ r. ⌜ Done Inner.sum (now (text .entry)) at nodes room (asLists (now (kind .entry)) (now (first .entry)) (now (second .entry))) r
+    requires { ⌜ ReaderReady (now names) (now text) at nodes room (asLists (now kind) (now first) (now second)) ⌝ }
+    ensures { λ r. ⌜ Done Inner.sum (namesIn (now (names .entry))) (now (text .entry)) at nodes room (asLists (now (kind .entry)) (now (first .entry)) (now (second .entry))) r
         (asLists (now (kind .exit)) (now (first .exit)) (now (second .exit))) ⌝ }
 {
-    let mut s = sequence(text, at, nodes, room, kind, first, second);
+    let mut s = sequence(names, text, at, nodes, room, kind, first, second);
     while s.ok {
-        let t = tokens::token_from(text, s.at);
+        let t = tokens::token_from(names, text, s.at);
         if t.kind != 6 {
             return s;
         }
         let n = s.nodes;
-        let r = sequence(text, t.next, n, room, kind, first, second);
+        let r = sequence(names, text, t.next, n, room, kind, first, second);
         s = join(6, n - 1, r, room, kind, first, second);
     }
     s
 }
 
 // The end of the text after what s has read.
-fn ended(text: &[u8], s: Step) -> Step
-    requires { ⌜ (s .ok ≡ true → s .at ≤ length (now text)) ⌝ }
-    ensures { λ r. ⌜ EndRead (now (text .entry)) s r ⌝ }
+fn ended(names: &[u8], text: &[u8], s: Step) -> Step
+    requires { ⌜ (length (now names) ≤ 128) × (s .ok ≡ true → s .at ≤ length (now text)) ⌝ }
+    ensures { λ r. ⌜ EndRead (namesIn (now (names .entry))) (now (text .entry)) s r ⌝ }
 {
     if s.ok {
-        let t = tokens::token_from(text, s.at);
+        let t = tokens::token_from(names, text, s.at);
         if t.kind == 1 {
             return s;
         }
@@ -394,14 +411,15 @@ fn ended(text: &[u8], s: Step) -> Step
 
 // The nodes of the whole text, none of them written. The test of cause 15 must have passed: at most 64 open parentheses bound the depth of the
 // recursion.
-fn count(text: &[u8]) -> Step
-    ensures { λ r. ⌜ WholeRead (now (text .entry)) r ⌝ }
+fn count(names: &[u8], text: &[u8]) -> Step
+    requires { ⌜ length (now names) ≤ 128 ⌝ }
+    ensures { λ r. ⌜ WholeRead (namesIn (now (names .entry))) (now (text .entry)) r ⌝ }
 {
     let mut kind = [0u8; 1];
     let mut first = [0u16; 1];
     let mut second = [0u16; 1];
-    let s = sum(text, 0, 0, 0, &mut kind, &mut first, &mut second);
-    ended(text, s)
+    let s = sum(names, text, 0, 0, 0, &mut kind, &mut first, &mut second);
+    ended(names, text, s)
 }
 
 // A refusal of the text: a call on one text carries side 0.
@@ -416,12 +434,13 @@ fn refuse(number: u8, place: usize) -> Refusal
 }
 
 // Cause 14.
-fn token_stage(text: &[u8]) -> Tested
-    ensures { λ r. ⌜ r ≡ refusedAt 14 0 (badPlace (tokens fieldNames (now (text .entry)))) ⌝ }
+fn token_stage(names: &[u8], text: &[u8]) -> Tested
+    requires { ⌜ length (now names) ≤ 128 ⌝ }
+    ensures { λ r. ⌜ r ≡ refusedAt 14 0 (badPlace (tokens (namesIn (now (names .entry))) (now (text .entry)))) ⌝ }
 {
     let mut at = 0;
     loop {
-        let t = tokens::token_from(text, at);
+        let t = tokens::token_from(names, text, at);
         if t.kind == 1 {
             return Tested::Passed;
         }
@@ -450,13 +469,14 @@ fn open_after(n: usize, k: u8) -> usize
 }
 
 // Cause 15.
-fn depth_stage(text: &[u8]) -> Tested
-    ensures { λ r. ⌜ r ≡ refusedAt 15 0 (deepPlace 0 (tokens fieldNames (now (text .entry)))) ⌝ }
+fn depth_stage(names: &[u8], text: &[u8]) -> Tested
+    requires { ⌜ length (now names) ≤ 128 ⌝ }
+    ensures { λ r. ⌜ r ≡ refusedAt 15 0 (deepPlace 0 (tokens (namesIn (now (names .entry))) (now (text .entry)))) ⌝ }
 {
     let mut at = 0;
     let mut n = 0;
     loop {
-        let t = tokens::token_from(text, at);
+        let t = tokens::token_from(names, text, at);
         if t.kind == 1 {
             return Tested::Passed;
         }
@@ -469,11 +489,12 @@ fn depth_stage(text: &[u8]) -> Tested
 }
 
 // Causes 16 and 17.
-fn size_stage(text: &[u8], room: usize) -> Answer
-    ensures { λ r. ⌜ r ≡ answerAfter (firstOf (refusedAt 16 0 (stopPlace (outcome fieldNames (now (text .entry))))
-        ∷ refusedAt 17 0 (tooMany room (treeSize (textTree fieldNames (now (text .entry))))) ∷ [])) (treeSize (textTree fieldNames (now (text .entry)))) ⌝ }
+fn size_stage(names: &[u8], text: &[u8], room: usize) -> Answer
+    requires { ⌜ length (now names) ≤ 128 ⌝ }
+    ensures { λ r. ⌜ r ≡ answerAfter (firstOf (refusedAt 16 0 (stopPlace (outcome (namesIn (now (names .entry))) (now (text .entry))))
+        ∷ refusedAt 17 0 (tooMany room (treeSize (textTree (namesIn (now (names .entry))) (now (text .entry))))) ∷ [])) (treeSize (textTree (namesIn (now (names .entry))) (now (text .entry)))) ⌝ }
 {
-    let s = count(text);
+    let s = count(names, text);
     if s.ok {
         let n = s.nodes;
         if n > 512 {
@@ -488,18 +509,19 @@ fn size_stage(text: &[u8], room: usize) -> Answer
 }
 
 // All causes, in their order.
-fn test(text: &[u8], room: usize) -> Answer
-    ensures { λ r. ⌜ r ≡ answerTo fieldNames (now (text .entry)) room ⌝ }
+fn test(names: &[u8], text: &[u8], room: usize) -> Answer
+    requires { ⌜ length (now names) ≤ 128 ⌝ }
+    ensures { λ r. ⌜ r ≡ answerTo (namesIn (now (names .entry))) (now (text .entry)) room ⌝ }
 {
-    let words = token_stage(text);
+    let words = token_stage(names, text);
     if let Tested::Refused(r) = words {
         return Answer::Refused(r);
     }
-    let depth = depth_stage(text);
+    let depth = depth_stage(names, text);
     if let Tested::Refused(r) = depth {
         return Answer::Refused(r);
     }
-    size_stage(text, room)
+    size_stage(names, text, room)
 }
 
 // Inner: the lesser of two lengths.
@@ -512,16 +534,75 @@ pub fn least(a: usize, b: usize) -> usize
     b
 }
 
-// Reads a text into three lent lists of any lengths, and answers the number of its nodes. On a refusal the lists are as found.
-pub fn read(text: &[u8], kind: &mut [u8], first: &mut [u16], second: &mut [u16]) -> Answer
-    ensures { λ r. ⌜ TextRead (now (text .entry)) (now (kind .entry)) (now (first .entry)) (now (second .entry)) r
+// Inner: reads a text over at most eight names into three lent lists of any lengths, and answers the number of its nodes. On a refusal the
+// lists are as found.
+pub fn read_with(
+    names: &[u8],
+    text: &[u8],
+    kind: &mut [u8],
+    first: &mut [u16],
+    second: &mut [u16],
+) -> Answer
+    requires { ⌜ length (now names) ≤ 128 ⌝ }
+    ensures { λ r. ⌜ ReadWith (namesIn (now (names .entry))) (now (text .entry)) (now (kind .entry)) (now (first .entry)) (now (second .entry)) r
         (now (kind .exit)) (now (first .exit)) (now (second .exit)) ⌝ }
 {
     let room = least(kind.len(), least(first.len(), second.len()));
-    let answer = test(text, room);
+    let answer = test(names, text, room);
     if let Answer::Nodes(n) = answer {
-        sum(text, 0, 0, n, kind, first, second);
+        sum(names, text, 0, 0, n, kind, first, second);
         return Answer::Nodes(n);
     }
     answer
+}
+
+// Inner: of the joint names, so many in cells, those that a text over the table may use: the others' cells are emptied.
+pub fn side_names(joint: [u8; 128], count: usize, table: &[u8]) -> [u8; 128]
+    requires { ⌜ (count ≤ 8) × (128 ≡ length joint) ⌝ }
+    ensures { λ r. ⌜ (namesIn (take (count * 16) r) ≡ keptNames (namesIn (now (table .entry))) (namesIn (take (count * 16) joint))) × (128 ≡ length r) ⌝ }
+{
+    let mut names = joint;
+    let end = count * 16;
+    fields::keep_named(&mut names[..end], table);
+    names
+}
+
+// The same for the text of a side: 2 is right, any other number left.
+fn names_on(side: u8, joint: [u8; 128], count: usize, left: &[u8], right: &[u8]) -> [u8; 128]
+    requires { ⌜ (count ≤ 8) × (128 ≡ length joint) ⌝ }
+    ensures { λ r. ⌜ (namesIn (take (count * 16) r) ≡ keptNames (namesIn (cond (eqb side 2) (now (right .entry)) (now (left .entry)))) (namesIn (take (count * 16) joint)))
+        × (128 ≡ length r) ⌝ }
+{
+    if side == 2 {
+        return side_names(joint, count, right);
+    }
+    side_names(joint, count, left)
+}
+
+// Reads a text of one side over two tables of fields into three lent lists of any lengths, and answers the number of its nodes. On a refusal
+// the lists are as found.
+pub fn read(
+    left_names: &[u8],
+    left_sizes: &[u16],
+    right_names: &[u8],
+    right_sizes: &[u16],
+    side: u8,
+    text: &[u8],
+    kind: &mut [u8],
+    first: &mut [u16],
+    second: &mut [u16],
+) -> Answer
+    ensures { λ r. ⌜ TextRead (table (now («left_names» .entry)) (now («left_sizes» .entry))) (table (now («right_names» .entry)) (now («right_sizes» .entry))) side
+        (now (text .entry)) (now (kind .entry)) (now (first .entry)) (now (second .entry)) r (now (kind .exit)) (now (first .exit)) (now (second .exit)) ⌝ }
+{
+    let joint = fields::join(left_names, left_sizes, right_names, right_sizes);
+    let tested = joint.tested;
+    if let Tested::Refused(r) = tested {
+        return Answer::Refused(r);
+    }
+    let count = joint.count;
+    let cells = joint.names;
+    let names = names_on(side, cells, count, left_names, right_names);
+    let end = count * 16;
+    read_with(&names[..end], text, kind, first, second)
 }

@@ -7,7 +7,7 @@ use mathlib.Core.List.{List}
 use mathlib.Core.Path.{_≡_, refl, sym, _∙_, ap}
 use lib.Dec.{T, eqb}
 use lib.ListN.{length, getD}
-use Rattle.grammar.specs.Bytes.{isBlank, isLetter, isDigit, inWord}
+use Rattle.fields.specs.Bytes.{isBlank, isCapital, isSmall, isLetter, isDigit, inWord}
 use Rattle.grammar.specs.Tokens.{singleMark, beginsDouble}
 use Rattle.grammar.specs.InnerKinds.{classOf, classesFrom, classTable, kindOf}
 use Rattle.tokens.proofs.Below.{below}
@@ -39,13 +39,13 @@ unfolding classTable
 table-entry classes b i e q h = ap (λ (t : List ℕ). getD t i 0) e ∙ classes-at 0 256 i (omega arith) ∙ ap classOf (omega arith)
 
 pub class-blank : (b : ℕ) → b < 256 → eqb (classOf b) 1 ≡ isBlank b
-unfolding classOf isBlank isLetter isDigit beginsDouble singleMark kindOf
+unfolding classOf isBlank isCapital isSmall isLetter isDigit beginsDouble singleMark kindOf
 class-blank b h = beq-true _ _ (below (λ b. Bool·beq (eqb (classOf b) 1) (isBlank b)) 256 tt b h)
 
 pub class-digit : (b : ℕ) → b < 256 → eqb (classOf b) 3 ≡ isDigit b
-unfolding classOf isBlank isLetter isDigit beginsDouble singleMark kindOf
+unfolding classOf isBlank isCapital isSmall isLetter isDigit beginsDouble singleMark kindOf
 class-digit b h = beq-true _ _ (below (λ b. Bool·beq (eqb (classOf b) 3) (isDigit b)) 256 tt b h)
 
 pub class-word : (b : ℕ) → b < 256 → eqb (classOf b) 2 || eqb (classOf b) 3 ≡ inWord b
-unfolding classOf isBlank isLetter isDigit beginsDouble singleMark kindOf inWord
+unfolding classOf isBlank isCapital isSmall isLetter isDigit beginsDouble singleMark kindOf inWord
 class-word b h = beq-true _ _ (below (λ b. Bool·beq (eqb (classOf b) 2 || eqb (classOf b) 3) (inWord b)) 256 tt b h)

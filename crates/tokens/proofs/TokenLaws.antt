@@ -10,8 +10,8 @@ use lib.Dec.{eqb}
 use lib.ListN.{length, getD, take, drop, length-drop, drop-of-length-le, List·getD-eq-default}
 use lib.Seq.{drop-cons, drop-drop, getD-drop}
 use borrow.Author.Tests.{ne-eqb, eqb-true}
-use Rattle.grammar.specs.Bytes.{isBlank, isLetter, isDigit, inWord}
-use Rattle.grammar.specs.Tokens.{Token, Placed, Comparison, equals, differs, assigned, comparison, exclamation, bad, wordToken, singleMark, isDouble, doubleMark, beginsDouble, markToken, wordOf, frontToken, restOfToken, placedFrom, tokensFrom, fieldNames}
+use Rattle.fields.specs.Bytes.{isBlank, isCapital, isSmall, isLetter, isDigit, inWord}
+use Rattle.grammar.specs.Tokens.{Token, Placed, Comparison, equals, differs, assigned, comparison, exclamation, bad, wordToken, singleMark, isDouble, doubleMark, beginsDouble, markToken, wordOf, frontToken, restOfToken, placedFrom, tokensFrom}
 use Rattle.grammar.specs.InnerKinds.{kindOf, tokenValue, comparisonKind, classOf, frontKind, frontValue, frontPlace, afterFront}
 use Rattle.tokens.specs.Inner.{NumbersOf, FrontAt, Skipped, TokenFrom}
 use Rattle.tokens.specs.declared.Token as Found
@@ -88,12 +88,12 @@ word-short (b ∷ bs) = go (inWord b) refl (word-short bs)
     go false e h = rw e (omega arith)
 
 -- the token of a word
-pub front-word : (text : List ℕ) (at end kind value : ℕ) → at < length text → inWord (getD text at 0) ≡ true
+pub front-word : (names : List (List ℕ)) (text : List ℕ) (at end kind value : ℕ) → at < length text → inWord (getD text at 0) ≡ true
     → end ≡ at + length (wordOf (drop at text))
-    → NumbersOf (wordToken fieldNames (take (end - at) (drop at text))) kind value
-    → FrontAt text at (record { kind = kind; value = value; start = at; next = end })
+    → NumbersOf (wordToken names (take (end - at) (drop at text))) kind value
+    → FrontAt names text at (record { kind = kind; value = value; start = at; next = end })
 unfolding frontToken restOfToken
-front-word text at end kind value h e q n =
+front-word names text at end kind value h e q n =
     record {
       is = subst (λ (t : Token). NumbersOf t kind value) token n;
       starts = refl;
@@ -107,20 +107,20 @@ front-word text at end kind value h e q n =
     part : take (end - at) (drop at text) ≡ wordOf (drop at text)
     part = let l : end - at ≡ length (wordOf (drop at text)) = omega (arith, q) in ap (λ (k : ℕ). take k (drop at text)) l ∙ word-part (drop at text)
 
-    token : wordToken fieldNames (take (end - at) (drop at text)) ≡ frontToken fieldNames (getD text at 0) (drop (suc at) text)
-    token = ap (wordToken fieldNames) (part ∙ ap wordOf front) ∙ sym (rw e)
+    token : wordToken names (take (end - at) (drop at text)) ≡ frontToken names (getD text at 0) (drop (suc at) text)
+    token = ap (wordToken names) (part ∙ ap wordOf front) ∙ sym (rw e)
 
 after-is : (text : List ℕ) (at : ℕ) → getD (drop (suc at) text) 0 0 ≡ getD text (at + 1) 0
 after-is text at = getD-drop (suc at) text 0 0 ∙ ap (λ (k : ℕ). getD text k 0) (omega arith)
 
 -- the token of a mark, which has one byte more or not
-pub front-mark : (text : List ℕ) (at kind value next : ℕ) → at < length text → inWord (getD text at 0) ≡ false
+pub front-mark : (names : List (List ℕ)) (text : List ℕ) (at kind value next : ℕ) → at < length text → inWord (getD text at 0) ≡ false
     → NumbersOf (markToken (getD text at 0) (getD text (at + 1) 0)) kind value
     → next ≡ at + 1 + cond (isDouble (getD text at 0) (getD text (at + 1) 0)) 1 0
     → next ≤ length text
-    → FrontAt text at (record { kind = kind; value = value; start = at; next = next })
+    → FrontAt names text at (record { kind = kind; value = value; start = at; next = next })
 unfolding frontToken restOfToken
-front-mark text at kind value next h e n q w =
+front-mark names text at kind value next h e n q w =
     record {
       is = rw (e, after-is text at) n;
       starts = refl;
@@ -188,7 +188,7 @@ unfolding isDouble
 lone-not b = rw (and-false (eqb b 33), and-false (eqb b 60))
 
 pub class-double : (b : ℕ) → b < 256 → eqb (classOf b) 4 ≡ beginsDouble b
-unfolding classOf isBlank isLetter isDigit beginsDouble singleMark kindOf
+unfolding classOf isBlank isCapital isSmall isLetter isDigit beginsDouble singleMark kindOf
 class-double b h = beq-true _ _ (below (λ b. Bool·beq (eqb (classOf b) 4) (beginsDouble b)) 256 tt b h)
 
 single-value : (b : ℕ) → b < 256 → tokenValue (singleMark b) ≡ cond (eqb (kindOf (singleMark b)) 5) 2 0
@@ -208,72 +208,73 @@ single-class b a h blank word double =
 pub word-within : (text : List ℕ) (at r : ℕ) → at ≤ length text → r ≡ at + length (wordOf (drop at text)) → r ≤ length text
 word-within text at r h e = let l : length (wordOf (drop at text)) ≤ length (drop at text) = word-short (drop at text) in omega (arith, length-drop at text)
 
-module _ (text : List ℕ) (at : ℕ) (h : at < length text) (word : inWord (getD text at 0) ≡ false) where
+module _ (names : List (List ℕ)) (text : List ℕ) (at : ℕ) (h : at < length text) (word : inWord (getD text at 0) ≡ false) where
   -- the byte alone is the mark
   front-lone : (k : ℕ) → beginsDouble (getD text at 0) ≡ true → k ≡ kindOf (doubleMark (getD text at 0) 0) → isDouble (getD text at 0) (getD text (at + 1) 0) ≡ false
-      → FrontAt text at (record { kind = k; value = 0; start = at; next = at + 1 })
+      → FrontAt names text at (record { kind = k; value = 0; start = at; next = at + 1 })
   unfolding markToken Either
   front-lone k d e n =
       let z : at + 1 ≡ at + 1 + 0 = omega arith in
       let w : at + 1 ≤ length text = omega arith in
       ⊎-elim
-      (λ q. front-mark text at k 0 (at + 1) h word (rw d (record { kind-is = e ∙ ap kindOf (sym (q .1)); value-is = sym (q .2) })) (rw n z) w)
+      (λ q. front-mark names text at k 0 (at + 1) h word (rw d (record { kind-is = e ∙ ap kindOf (sym (q .1)); value-is = sym (q .2) })) (rw n z) w)
       (λ q. absurd (true≢false (sym (q .0) ∙ n)))
       (double-either (getD text at 0) (getD text (at + 1) 0))
 
   pub front-last : (k : ℕ) → beginsDouble (getD text at 0) ≡ true → length text ≤ at + 1 → k ≡ kindOf (doubleMark (getD text at 0) 0)
-      → FrontAt text at (record { kind = k; value = 0; start = at; next = at + 1 })
+      → FrontAt names text at (record { kind = k; value = 0; start = at; next = at + 1 })
   front-last k d l e = front-lone k d e (ap (isDouble (getD text at 0)) (List·getD-eq-default text 0 l) ∙ lone-not (getD text at 0))
 
   pub front-none : (m k : ℕ) → beginsDouble (getD text at 0) ≡ true → m ≡ tokenValue (doubleMark (getD text at 0) (getD text (at + 1) 0)) → m ≡ 0
-      → k ≡ kindOf (doubleMark (getD text at 0) 0) → FrontAt text at (record { kind = k; value = 0; start = at; next = at + 1 })
+      → k ≡ kindOf (doubleMark (getD text at 0) 0) → FrontAt names text at (record { kind = k; value = 0; start = at; next = at + 1 })
   unfolding Either
   front-none m k d e z f =
       ⊎-elim (λ q. front-lone k d f (q .0)) (λ q. absurd (q .2 (sym e ∙ z))) (double-either (getD text at 0) (getD text (at + 1) 0))
 
-  pub front-double : (k : ℕ) → beginsDouble (getD text at 0) ≡ true → at + 1 < length text → k ≡ tokenValue (doubleMark (getD text at 0) (getD text (at + 1) 0)) → (k ≡ 0 → ⊥) → FrontAt text at (record { kind = 5; value = k; start = at; next = at + 1 + 1 })
+  pub front-double : (k : ℕ) → beginsDouble (getD text at 0) ≡ true → at + 1 < length text → k ≡ tokenValue (doubleMark (getD text at 0) (getD text (at + 1) 0)) → (k ≡ 0 → ⊥) → FrontAt names text at (record { kind = 5; value = k; start = at; next = at + 1 + 1 })
   unfolding markToken Either
   front-double k d l e z =
       ⊎-elim (λ q. absurd (z (e ∙ q .2)))
-      (λ q. front-mark text at 5 k (at + 1 + 1) h word (rw d (record { kind-is = sym (q .1); value-is = e })) (rw (q .0) refl) (omega arith))
+      (λ q. front-mark names text at 5 k (at + 1 + 1) h word (rw d (record { kind-is = sym (q .1); value-is = e })) (rw (q .0) refl) (omega arith))
       (double-either (getD text at 0) (getD text (at + 1) 0))
 
-  pub front-single : (k : ℕ) → getD text at 0 < 256 → isBlank (getD text at 0) ≡ false → k ≡ classOf (getD text at 0) → (k ≡ 4 → ⊥) → FrontAt text at (record { kind = k; value = cond (eqb k 5) 2 0; start = at; next = at + 1 })
+  pub front-single : (k : ℕ) → getD text at 0 < 256 → isBlank (getD text at 0) ≡ false → k ≡ classOf (getD text at 0) → (k ≡ 4 → ⊥) → FrontAt names text at (record { kind = k; value = cond (eqb k 5) 2 0; start = at; next = at + 1 })
   front-single k b blank e z =
       let d : beginsDouble (getD text at 0) ≡ false = sym (class-double (getD text at 0) b) ∙ ne-eqb _ _ (λ q. z (e ∙ q)) in
       let s = single-class (getD text at 0) (getD text (at + 1) 0) b blank word d in
-      front-mark text at k (cond (eqb k 5) 2 0) (at + 1) h word
+      front-mark names text at k (cond (eqb k 5) 2 0) (at + 1) h word
       (rw (s .0) (record { kind-is = e ∙ sym (s .1); value-is = ap (λ (n : ℕ). cond (eqb n 5) 2 0) e ∙ sym (s .2) }))
       (rw (s .3) (omega arith)) (omega arith)
 
 -- the first token after blanks
-pub token-end : (text : List ℕ) (at s : ℕ) → Skipped text at s → length text ≤ s → TokenFrom text at (record { kind = 1; value = 0; start = s; next = s })
-unfolding frontKind frontValue frontPlace afterFront
-token-end text at s k h =
-    let none : tokensFrom fieldNames text s ≡ [] = from-end fieldNames text s h in
-    let before : tokensFrom fieldNames text at ≡ [] = sym (k .same) ∙ none in
-    record {
-      kind-is = rw before;
-      value-is = rw before;
-      start-is = rw before (omega (arith, k .within));
-      rest = rw (none, before);
-      low = k .low;
-      onward = λ no. absurd (no refl);
-      within = k .within;
-    }
+module _ (names : List (List ℕ)) (text : List ℕ) (at s : ℕ) (k : Skipped text at s) where
+  pub token-end : length text ≤ s → TokenFrom names text at (record { kind = 1; value = 0; start = s; next = s })
+  unfolding frontKind frontValue frontPlace afterFront
+  token-end h =
+      let none : tokensFrom names text s ≡ [] = from-end names text s h in
+      let before : tokensFrom names text at ≡ [] = sym (k .same names) ∙ none in
+      record {
+        kind-is = rw before;
+        value-is = rw before;
+        start-is = rw before (omega (arith, k .within));
+        rest = rw (none, before);
+        low = k .low;
+        onward = λ no. absurd (no refl);
+        within = k .within;
+      }
 
-pub token-front : (text : List ℕ) (at s : ℕ) (r : Found.Token) → Skipped text at s → s < length text → FrontAt text s r → TokenFrom text at r
-unfolding frontKind frontValue frontPlace afterFront
-token-front text at s r k h f =
-    let here : tokensFrom fieldNames text at
-    ≡ record { token = frontToken fieldNames (getD text s 0) (drop (suc s) text); start = s }
-    ∷ tokensFrom fieldNames text (suc s + restOfToken (getD text s 0) (drop (suc s) text)) = sym (k .same) ∙ from-front fieldNames text s h (k .found h) in
-    record {
-      kind-is = f .is .kind-is ∙ sym (rw here);
-      value-is = f .is .value-is ∙ sym (rw here);
-      start-is = f .starts ∙ sym (rw here);
-      rest = ap (tokensFrom fieldNames text) (f .ends) ∙ sym (rw here);
-      low = omega (arith, k .low, f .starts);
-      onward = λ _. omega (arith, f .starts, f .ends);
-      within = f .within;
-    }
+  pub token-front : (r : Found.Token) → s < length text → FrontAt names text s r → TokenFrom names text at r
+  unfolding frontKind frontValue frontPlace afterFront
+  token-front r h f =
+      let here : tokensFrom names text at
+      ≡ record { token = frontToken names (getD text s 0) (drop (suc s) text); start = s }
+      ∷ tokensFrom names text (suc s + restOfToken (getD text s 0) (drop (suc s) text)) = sym (k .same names) ∙ from-front names text s h (k .found h) in
+      record {
+        kind-is = f .is .kind-is ∙ sym (rw here);
+        value-is = f .is .value-is ∙ sym (rw here);
+        start-is = f .starts ∙ sym (rw here);
+        rest = ap (tokensFrom names text) (f .ends) ∙ sym (rw here);
+        low = omega (arith, k .low, f .starts);
+        onward = λ _. omega (arith, f .starts, f .ends);
+        within = f .within;
+      }

@@ -7,15 +7,15 @@ use mathlib.Core.Path.{_≡_, refl, sym, _∙_, ap, ap₂}
 use lib.ListN.{length, drop}
 use lib.Seq.{drop-drop}
 use borrow.Author.Tests.{ne-eqb}
-use Rattle.grammar.specs.Bytes.{isBlank, isLetter, isDigit, inWord}
-use Rattle.grammar.specs.Tokens.{Placed, isDouble, wordOf, restOfToken, placedFrom, tokensFrom, fieldNames}
+use Rattle.fields.specs.Bytes.{isBlank, isCapital, isSmall, isLetter, isDigit, inWord}
+use Rattle.grammar.specs.Tokens.{Placed, isDouble, wordOf, restOfToken, placedFrom, tokensFrom}
 use Rattle.grammar.specs.InnerKinds.{frontKind, afterFront}
 use Rattle.tokens.specs.Inner.{TokenFrom}
 use Rattle.tokens.specs.declared.Token as Found
 use Rattle.tokens.proofs.TokenLaws.{placed-over, placed-blank, placed-front}
 
 word-no-blank : (b : ℕ) → inWord b ≡ true → isBlank b ≡ false
-unfolding isBlank inWord isLetter isDigit
+unfolding isBlank inWord isCapital isSmall isLetter isDigit
 word-no-blank b e = rw (ne-eqb b 32 (λ q. true≢false (sym e ∙ ap inWord q)), ne-eqb b 9 (λ q. true≢false (sym e ∙ ap inWord q)))
 
 rest-word : (b c : ℕ) (cs : List ℕ) → inWord b ≡ true → inWord c ≡ true → restOfToken b (c ∷ cs) ≡ suc (restOfToken c cs)
@@ -118,13 +118,13 @@ module _ (names : List (List ℕ)) where
       ∙ sym (ap length (placed-over names (at′ - at) at (drop at text))) ∙ placed-length (at′ - at) at (drop at text) in
       omega (arith, there, placed-length 0 at (drop at text), fewer (drop at text) .skipped (at′ - at))
 
--- a token read on from `at`, at once or later, leaves fewer
-pub fewer-next : (text : List ℕ) {at at′ k : ℕ} {t : Found.Token} → at ≤ at′ → TokenFrom text at′ t → t .kind ≡ k → (k ≡ 1 → ⊥)
-    → length (tokensFrom fieldNames text (t .next)) < length (tokensFrom fieldNames text at)
-unfolding frontKind afterFront
-fewer-next text {at} {at′} {t = t} h f e ne =
-    omega (arith, ap length (f .rest), after (tokensFrom fieldNames text at′) (λ q. ne (sym e ∙ f .kind-is ∙ q)), no-more fieldNames text at at′ h)
-  where
-    after : (ts : List Placed) → (frontKind ts ≡ 1 → ⊥) → length (afterFront ts) < length ts
-    after [] ne = absurd (ne refl)
-    after (t ∷ ts) ne = omega arith
+  -- a token read on from `at`, at once or later, leaves fewer
+  pub fewer-next : (text : List ℕ) {at at′ k : ℕ} {t : Found.Token} → at ≤ at′ → TokenFrom names text at′ t → t .kind ≡ k → (k ≡ 1 → ⊥)
+      → length (tokensFrom names text (t .next)) < length (tokensFrom names text at)
+  unfolding frontKind afterFront
+  fewer-next text {at} {at′} {t = t} h f e ne =
+      omega (arith, ap length (f .rest), after (tokensFrom names text at′) (λ q. ne (sym e ∙ f .kind-is ∙ q)), no-more text at at′ h)
+    where
+      after : (ts : List Placed) → (frontKind ts ≡ 1 → ⊥) → length (afterFront ts) < length ts
+      after [] ne = absurd (ne refl)
+      after (t ∷ ts) ne = omega arith

@@ -2,46 +2,25 @@
 use Prim.Native.Nat.{ℕ, _+_, _-_, _*_, _≤_, _<_}
 use native.Mathlib.Nat.{le-refl}
 use native.Mathlib.Omega.{arith}
-use mathlib.Core.Bool.{Bool, true, false, _&&_, cond, true≢false}
+use mathlib.Core.Bool.{Bool, true, false, _&&_, cond}
 use mathlib.Core.List.{List, [], _∷_}
-use mathlib.Core.Option.{Option, none}
-use mathlib.Core.Path.{_≡_, refl, sym, _∙_, ap, ap₂, subst}
+use mathlib.Core.Option.{Option, none, some}
+use mathlib.Core.Path.{_≡_, refl, sym, subst}
 use lib.Dec.{eqb, leb}
-use lib.ListN.{length, getD, take, drop}
-use borrow.Author.Tests.{eqb-true, eq-eqb, le-leb, lt-leb, leb-true, le-ltb, lt-ltb}
-use Rattle.packet.specs.Lowest.{lowest}
-use Rattle.packet.proofs.Lowest.{lowest-found, lowest-none-whole}
-use Rattle.packet.proofs.Tests.{and-true, T-true}
-use Rattle.grammar.specs.Bytes.{isDigit}
-use Rattle.grammar.specs.Tokens.{Token, number, bad, sameWord, allDigits, decimal, leadingZero, isNumber, numberToken, fieldNames, fieldNamed, fieldToken, wordToken}
+use lib.ListN.{length, getD}
+use borrow.Author.Tests.{le-leb, lt-leb, leb-true, le-ltb, lt-ltb}
+use Rattle.packet.proofs.Lowest.{Found, lowest-is}
+use Rattle.packet.proofs.Tests.{and-true}
+use Rattle.fields.specs.Bytes.{isDigit}
+use Rattle.fields.specs.Names.{sameWord, fieldNamed, namesIn, wordDrop, wordId, wordDup}
+use Rattle.fields.proofs.NameLaws.{length-names}
+use Rattle.grammar.specs.Tokens.{Token, number, bad, allDigits, decimal, leadingZero, isNumber, numberToken, fieldToken, wordToken}
 use Rattle.grammar.specs.InnerKinds.{kindOf, tokenValue, constantKind}
-use Rattle.tokens.specs.Inner.{numberFrom, Named, NumbersOf}
-use Rattle.tokens.proofs.Below.{below}
+use Rattle.tokens.specs.Inner.{numberFrom, NumbersOf}
 
 pub and-false : (a : Bool) → a && false ≡ false
 and-false true = refl
 and-false false = refl
-
-pub same-eq : (a b : List ℕ) → sameWord a b ≡ true → a ≡ b
-unfolding sameWord
-same-eq [] [] e = refl
-same-eq [] (y ∷ ys) e = absurd (true≢false (sym e))
-same-eq (x ∷ xs) [] e = absurd (true≢false (sym e))
-same-eq (x ∷ xs) (y ∷ ys) e = ap₂ _∷_ (eqb-true x y (and-true (eqb x y) (sameWord xs ys) e .0)) (same-eq xs ys (and-true (eqb x y) (sameWord xs ys) e .1))
-
-pub same-refl : (a : List ℕ) → sameWord a a ≡ true
-unfolding sameWord
-same-refl [] = refl
-same-refl (x ∷ xs) = rw (eq-eqb x x refl) (same-refl xs)
-
--- the answer of a test that two words are the same
-pub same-is : (r : Bool) (a b : List ℕ) → (r ≡ true → a ≡ b) → (a ≡ b → r ≡ true) → r ≡ sameWord a b
-same-is true a b f g = sym (subst (λ (x : List ℕ). sameWord a x ≡ true) (f refl) (same-refl a))
-same-is false a b f g = go (sameWord a b) refl
-  where
-    go : (s : Bool) → sameWord a b ≡ s → false ≡ sameWord a b
-    go true e = absurd (true≢false (sym (g (same-eq a b e))))
-    go false e = sym e
 
 decimal-grows : (n : ℕ) (w : List ℕ) → n ≤ decimal n w
 unfolding decimal
@@ -64,40 +43,21 @@ pub number-large : (n : ℕ) (bs : List ℕ) → 65535 < n → numberFrom n bs �
 unfolding numberFrom
 number-large n bs h = rw (lt-leb (decimal n bs) 65535 (let g : n ≤ decimal n bs = decimal-grows n bs in omega arith), and-false (allDigits bs))
 
--- the names as they stand in the table, two bytes each
-abbrev pub nameTable : List ℕ
-nameTable = 102 ∷ 48 ∷ 102 ∷ 49 ∷ 102 ∷ 50 ∷ 102 ∷ 51 ∷ 102 ∷ 52 ∷ 102 ∷ 53 ∷ 102 ∷ 54 ∷ 102 ∷ 55 ∷ []
+-- a field that has been found is one of at most eight
+pub field-few : (cells w : List ℕ) (f : ℕ) → length cells ≤ 128 → some f ≡ fieldNamed (namesIn cells) w → f < 8
+unfolding fieldNamed
+field-few cells w f h e =
+    let bears : ℕ → Bool = λ k. sameWord w (getD (namesIn cells) k []) in
+    let l : f < length (namesIn cells) = subst (Found bears (length (namesIn cells))) (sym e) (lowest-is bears (length (namesIn cells))) .below in
+    omega (arith, length-names cells)
 
-name-part : (f : ℕ) → f < 8 → take 2 (drop (f * 2) nameTable) ≡ getD fieldNames f []
-unfolding sameWord fieldNames
-name-part f h =
-    same-eq (take 2 (drop (f * 2) nameTable)) (getD fieldNames f [])
-    (T-true _ (below (λ f. sameWord (take 2 (drop (f * 2) nameTable)) (getD fieldNames f [])) 8 tt f h))
-
-pub named-at : (w : List ℕ) (f : ℕ) (r s : Bool) → f < 8 → r ≡ sameWord w (take (f * 2 + 2 - f * 2) (drop (f * 2) nameTable)) → r ≡ s → sameWord w (getD fieldNames f []) ≡ s
-named-at w f r s h e q =
-    let two : f * 2 + 2 - f * 2 ≡ 2 = omega arith in
-    sym (ap (sameWord w) (ap (λ (k : ℕ). take k (drop (f * 2) nameTable)) two ∙ name-part f h)) ∙ sym e ∙ q
-
--- the word is the name of field f
-abbrev pub bears : List ℕ → ℕ → Bool
-bears w f = sameWord w (getD fieldNames f [])
-
-pub named-found : (w : List ℕ) (f : ℕ) → f < 8 → lowest (bears w) f ≡ none → bears w f ≡ true → Named (fieldNamed fieldNames w) f
-unfolding fieldNamed fieldNames
-named-found w f h miss e = record { found = λ _. lowest-found (bears w) f 8 miss e h; missing = λ l. absurd (omega arith) }
-
-pub named-none : (w : List ℕ) (f : ℕ) → lowest (bears w) f ≡ none → f ≡ 8 → Named (fieldNamed fieldNames w) 8
-unfolding fieldNamed fieldNames
-named-none w f miss e = record { found = λ l. absurd (omega arith); missing = λ _. lowest-none-whole (bears w) f 8 miss e }
-
-pub field-is : (o : Option ℕ) (w : List ℕ) (r : ℕ) → Named o r → r < 8 → NumbersOf (fieldToken o w) 3 r
+pub field-is : (o : Option ℕ) (w : List ℕ) (f : ℕ) → some f ≡ o → NumbersOf (fieldToken o w) 3 f
 unfolding fieldToken kindOf tokenValue
-field-is o w r n h = subst (λ (p : Option ℕ). NumbersOf (fieldToken p w) 3 r) (sym (n .found h)) (record { kind-is = refl; value-is = refl })
+field-is o w f e = subst (λ (p : Option ℕ). NumbersOf (fieldToken p w) 3 f) e (record { kind-is = refl; value-is = refl })
 
-pub field-not : (o : Option ℕ) (w : List ℕ) (r k v : ℕ) → Named o r → 8 ≤ r → NumbersOf (numberToken w) k v → NumbersOf (fieldToken o w) k v
+pub field-not : (o : Option ℕ) (w : List ℕ) (k v : ℕ) → none ≡ o → NumbersOf (numberToken w) k v → NumbersOf (fieldToken o w) k v
 unfolding fieldToken
-field-not o w r k v n h t = subst (λ (p : Option ℕ). NumbersOf (fieldToken p w) k v) (sym (n .missing h)) t
+field-not o w k v e t = subst (λ (p : Option ℕ). NumbersOf (fieldToken p w) k v) e t
 
 pub leading-short : (w : List ℕ) → length w ≤ 1 → leadingZero w ≡ false
 unfolding leadingZero
@@ -143,21 +103,22 @@ number-is w n e q h = rw (number-test w e) (go (allDigits w && leb (decimal 0 w)
     go true q = record { kind-is = refl; value-is = q }
     go false q = absurd (omega arith)
 
-pub word-drop : (w : List ℕ) → sameWord w (100 ∷ 114 ∷ 111 ∷ 112 ∷ []) ≡ true → NumbersOf (wordToken fieldNames w) 2 0
-unfolding wordToken kindOf tokenValue constantKind
-word-drop w e = rw e (record { kind-is = refl; value-is = refl })
+module _ (names : List (List ℕ)) where
+  pub word-drop : (w : List ℕ) → sameWord w wordDrop ≡ true → NumbersOf (wordToken names w) 2 0
+  unfolding wordToken kindOf tokenValue constantKind
+  word-drop w e = rw e (record { kind-is = refl; value-is = refl })
 
-pub word-id : (w : List ℕ) → sameWord w (100 ∷ 114 ∷ 111 ∷ 112 ∷ []) ≡ false → sameWord w (105 ∷ 100 ∷ []) ≡ true → NumbersOf (wordToken fieldNames w) 2 1
-unfolding wordToken kindOf tokenValue constantKind
-word-id w d e = rw (d, e) (record { kind-is = refl; value-is = refl })
+  pub word-id : (w : List ℕ) → sameWord w wordDrop ≡ false → sameWord w wordId ≡ true → NumbersOf (wordToken names w) 2 1
+  unfolding wordToken kindOf tokenValue constantKind
+  word-id w d e = rw (d, e) (record { kind-is = refl; value-is = refl })
 
-pub word-dup : (w : List ℕ) → sameWord w (100 ∷ 114 ∷ 111 ∷ 112 ∷ []) ≡ false → sameWord w (105 ∷ 100 ∷ []) ≡ false → sameWord w (100 ∷ 117 ∷ 112 ∷ []) ≡ true → NumbersOf (wordToken fieldNames w) 2 5
-unfolding wordToken kindOf tokenValue constantKind
-word-dup w d i e = rw (d, i, e) (record { kind-is = refl; value-is = refl })
+  pub word-dup : (w : List ℕ) → sameWord w wordDrop ≡ false → sameWord w wordId ≡ false → sameWord w wordDup ≡ true → NumbersOf (wordToken names w) 2 5
+  unfolding wordToken kindOf tokenValue constantKind
+  word-dup w d i e = rw (d, i, e) (record { kind-is = refl; value-is = refl })
 
-pub word-other : (w : List ℕ) (k v : ℕ) → sameWord w (100 ∷ 114 ∷ 111 ∷ 112 ∷ []) ≡ false → sameWord w (105 ∷ 100 ∷ []) ≡ false → sameWord w (100 ∷ 117 ∷ 112 ∷ []) ≡ false → NumbersOf (fieldToken (fieldNamed fieldNames w) w) k v → NumbersOf (wordToken fieldNames w) k v
-unfolding wordToken
-word-other w k v d i e n = rw (d, i, e) n
+  pub word-other : (w : List ℕ) (k v : ℕ) → sameWord w wordDrop ≡ false → sameWord w wordId ≡ false → sameWord w wordDup ≡ false → NumbersOf (fieldToken (fieldNamed names w) w) k v → NumbersOf (wordToken names w) k v
+  unfolding wordToken
+  word-other w k v d i e n = rw (d, i, e) n
 
 pub digit-low : (b : ℕ) → isDigit b ≡ true → 48 ≤ b
 unfolding isDigit

@@ -2,23 +2,17 @@
 use Prim.Native.Nat.{ℕ, suc, _+_, _≤_, _<_}
 use mathlib.Core.Bool.{false, cond, _&&_}
 use mathlib.Core.List.{List}
-use mathlib.Core.Option.{Option, none, some}
 use mathlib.Core.Path.{_≡_}
 use lib.Dec.{leb}
 use lib.ListN.{length, getD, drop}
-use Rattle.grammar.specs.Bytes.{isBlank}
-use Rattle.grammar.specs.Tokens.{Token, allDigits, decimal, frontToken, restOfToken, tokensFrom, fieldNames}
+use Rattle.fields.specs.Bytes.{isBlank}
+use Rattle.grammar.specs.Tokens.{Token, allDigits, decimal, frontToken, restOfToken, tokensFrom}
 use Rattle.grammar.specs.InnerKinds.{kindOf, tokenValue, frontKind, frontValue, frontPlace, afterFront}
 use Rattle.tokens.specs.declared.Token as Found
 
 -- the value of digits that follow others of value n, or 65,536 where they are no digits or make more than 65,535
 unfoldable pub numberFrom : ℕ → List ℕ → ℕ
 numberFrom n w = cond (allDigits w && leb (decimal n w) 65535) (decimal n w) 65536
-
--- r is the field's number, or 8 where there is none
-pub record Named (o : Option ℕ) (r : ℕ) : Type 0 where
-  pub found : r < 8 → o ≡ some r
-  pub missing : 8 ≤ r → o ≡ none
 
 -- these are the numbers of the token
 pub record NumbersOf (t : Token) (kind value : ℕ) : Type 0 where
@@ -29,22 +23,22 @@ pub record NumbersOf (t : Token) (kind value : ℕ) : Type 0 where
 pub record Skipped (text : List ℕ) (at r : ℕ) : Type 0 where
   pub low : at ≤ r
   pub within : r ≤ length text
-  pub same : tokensFrom fieldNames text r ≡ tokensFrom fieldNames text at
+  pub same : (names : List (List ℕ)) → tokensFrom names text r ≡ tokensFrom names text at
   pub found : r < length text → isBlank (getD text r 0) ≡ false
 
 -- the token that starts at a byte
-pub record FrontAt (text : List ℕ) (at : ℕ) (r : Found.Token) : Type 0 where
-  pub is : NumbersOf (frontToken fieldNames (getD text at 0) (drop (suc at) text)) (r .kind) (r .value)
+pub record FrontAt (names : List (List ℕ)) (text : List ℕ) (at : ℕ) (r : Found.Token) : Type 0 where
+  pub is : NumbersOf (frontToken names (getD text at 0) (drop (suc at) text)) (r .kind) (r .value)
   pub starts : r .start ≡ at
   pub ends : r .next ≡ suc at + restOfToken (getD text at 0) (drop (suc at) text)
   pub within : r .next ≤ length text
 
 -- the first token from a byte on, or the end
-pub record TokenFrom (text : List ℕ) (at : ℕ) (r : Found.Token) : Type 0 where
-  pub kind-is : r .kind ≡ frontKind (tokensFrom fieldNames text at)
-  pub value-is : r .value ≡ frontValue (tokensFrom fieldNames text at)
-  pub start-is : r .start ≡ frontPlace (length text) (tokensFrom fieldNames text at)
-  pub rest : tokensFrom fieldNames text (r .next) ≡ afterFront (tokensFrom fieldNames text at)
+pub record TokenFrom (names : List (List ℕ)) (text : List ℕ) (at : ℕ) (r : Found.Token) : Type 0 where
+  pub kind-is : r .kind ≡ frontKind (tokensFrom names text at)
+  pub value-is : r .value ≡ frontValue (tokensFrom names text at)
+  pub start-is : r .start ≡ frontPlace (length text) (tokensFrom names text at)
+  pub rest : tokensFrom names text (r .next) ≡ afterFront (tokensFrom names text at)
   pub low : at ≤ r .start
   pub onward : (r .kind ≡ 1 → ⊥) → r .start < r .next
   pub within : r .next ≤ length text

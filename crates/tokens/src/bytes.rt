@@ -1,6 +1,6 @@
 // Classes of bytes.
 ghost use mathlib.Core.Path.{_≡_};
-ghost use Rattle.grammar.specs.Bytes.{isBlank, isDigit, inWord};
+ghost use Rattle.fields.specs.Bytes.{isBlank, isDigit, inWord};
 ghost use Rattle.grammar.specs.InnerKinds.{classOf, classTable};
 ghost use lib.ListN.{length};
 

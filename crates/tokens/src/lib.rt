@@ -5,9 +5,11 @@ pub mod words;
 
 ghost use mathlib.Core.Path.{_≡_};
 ghost use mathlib.Core.Bool.{true, false};
-ghost use Prim.Native.Nat.{_+_, _≤_, _<_};
+ghost use mathlib.Core.List.{List};
+ghost use Prim.Native.Nat.{ℕ, _+_, _≤_, _<_};
 ghost use lib.ListN.{length, getD, drop};
-ghost use Rattle.grammar.specs.Bytes.{isBlank, inWord};
+ghost use Rattle.fields.specs.Bytes.{isBlank, inWord};
+ghost use Rattle.fields.specs.Names.{namesIn};
 ghost use Rattle.grammar.specs.Tokens.{wordOf, doubleMark, beginsDouble};
 ghost use Rattle.grammar.specs.InnerKinds.{classTable, kindOf, tokenValue};
 ghost use Rattle.tokens.specs.Inner.{Skipped, FrontAt, TokenFrom};
@@ -48,12 +50,12 @@ fn word_end(classes: &[u8], text: &[u8], at: usize) -> usize
     i
 }
 
-fn word_at(classes: &[u8], text: &[u8], at: usize) -> Token
-    requires { ⌜ (now classes ≡ classTable) × (at < length (now text)) × (inWord (getD (now text) at 0) ≡ true) ⌝ }
-    ensures { λ r. ⌜ FrontAt (now (text .entry)) at r ⌝ }
+fn word_at(names: &[u8], classes: &[u8], text: &[u8], at: usize) -> Token
+    requires { ⌜ (length (now names) ≤ 128) × (now classes ≡ classTable) × (at < length (now text)) × (inWord (getD (now text) at 0) ≡ true) ⌝ }
+    ensures { λ r. ⌜ FrontAt (namesIn (now (names .entry))) (now (text .entry)) at r ⌝ }
 {
     let end = word_end(classes, text, at);
-    let w = words::word_token(&text[at..end]);
+    let w = words::word_token(names, &text[at..end]);
     Token {
         kind: w.kind,
         value: w.value,
@@ -92,7 +94,7 @@ fn lone(b: u8) -> u8
 
 fn double_at(text: &[u8], at: usize) -> Token
     requires { ⌜ (at < length (now text)) × (inWord (getD (now text) at 0) ≡ false) × (beginsDouble (getD (now text) at 0) ≡ true) ⌝ }
-    ensures { λ r. ⌜ FrontAt (now (text .entry)) at r ⌝ }
+    ensures { λ r. ⌜ ((names : List (List ℕ)) → FrontAt names (now (text .entry)) at r) ⌝ }
 {
     let b = text[at];
     let next = at + 1;
@@ -123,7 +125,7 @@ fn double_at(text: &[u8], at: usize) -> Token
 
 fn mark_at(classes: &[u8], text: &[u8], at: usize) -> Token
     requires { ⌜ (now classes ≡ classTable) × (at < length (now text)) × (inWord (getD (now text) at 0) ≡ false) × (isBlank (getD (now text) at 0) ≡ false) ⌝ }
-    ensures { λ r. ⌜ FrontAt (now (text .entry)) at r ⌝ }
+    ensures { λ r. ⌜ ((names : List (List ℕ)) → FrontAt names (now (text .entry)) at r) ⌝ }
 {
     let c = bytes::class_of(classes, text[at]);
     if c == 4 {
@@ -145,10 +147,10 @@ fn mark_at(classes: &[u8], text: &[u8], at: usize) -> Token
     }
 }
 
-// Inner: the first token from a byte on, or the end.
-pub fn token_from(text: &[u8], at: usize) -> Token
-    requires { ⌜ at ≤ length (now text) ⌝ }
-    ensures { λ r. ⌜ TokenFrom (now (text .entry)) at r ⌝ }
+// Inner: the first token from a byte on, or the end, over at most eight names in cells.
+pub fn token_from(names: &[u8], text: &[u8], at: usize) -> Token
+    requires { ⌜ (length (now names) ≤ 128) × (at ≤ length (now text)) ⌝ }
+    ensures { λ r. ⌜ TokenFrom (namesIn (now (names .entry))) (now (text .entry)) at r ⌝ }
 {
     let classes = bytes::classes();
     let start = skip(&classes, text, at);
@@ -161,7 +163,7 @@ pub fn token_from(text: &[u8], at: usize) -> Token
         };
     }
     if bytes::in_word(&classes, text[start]) {
-        return word_at(&classes, text, start);
+        return word_at(names, &classes, text, start);
     }
     mark_at(&classes, text, start)
 }

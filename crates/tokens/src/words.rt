@@ -1,43 +1,21 @@
 // Words: drop, id, dup, names of fields, and numbers.
 use super::bytes;
+use fields::names::find;
+use fields::names::same;
+use packet::Place;
 ghost use mathlib.Core.Path.{_≡_};
 ghost use mathlib.Core.Bool.{true};
-ghost use Prim.Native.Nat.{_-_};
-ghost use Rattle.grammar.specs.Bytes.{isDigit};
-ghost use Rattle.grammar.specs.Tokens.{sameWord, leadingZero, fieldNamed, fieldNames, numberToken, fieldToken, wordToken};
-ghost use Rattle.tokens.specs.Inner.{numberFrom, Named, NumbersOf};
-
-// The names of the fields, two bytes each.
-const NAMES: [u8; 16] = [
-    102,
-    48,
-    102,
-    49,
-    102,
-    50,
-    102,
-    51,
-    102,
-    52,
-    102,
-    53,
-    102,
-    54,
-    102,
-    55,
-];
+ghost use Prim.Native.Nat.{_-_, _≤_};
+ghost use lib.ListN.{length};
+ghost use Rattle.fields.specs.Bytes.{isDigit};
+ghost use Rattle.fields.specs.Names.{fieldNamed, namesIn};
+ghost use Rattle.grammar.specs.Tokens.{leadingZero, numberToken, fieldToken, wordToken};
+ghost use Rattle.tokens.specs.Inner.{numberFrom, NumbersOf};
 
 // A word's token: its kind and value.
 pub struct Word {
     pub kind: u8,
     pub value: u16,
-}
-
-// Whether the word is the name, byte for byte.
-fn is(w: &[u8], name: &[u8]) -> bool
-    ensures { λ r. ⌜ r ≡ sameWord (now (w .entry)) (now (name .entry)) ⌝ }
-{
-    check::same(w, name)
 }
 
 // The value of a digit.
@@ -95,45 +73,33 @@ fn number(w: &[u8]) -> Word
     }
 }
 
-// The number of the field that bears the name, or 8.
-fn field_named(w: &[u8]) -> u16
-    ensures { λ r. ⌜ Named (fieldNamed fieldNames (now (w .entry))) r ⌝ }
+fn field_or_number(names: &[u8], w: &[u8]) -> Word
+    requires { ⌜ length (now names) ≤ 128 ⌝ }
+    ensures { λ r. ⌜ NumbersOf (fieldToken (fieldNamed (namesIn (now (names .entry))) (now (w .entry))) (now (w .entry))) (r .kind) (r .value) ⌝ }
 {
-    let names = NAMES;
-    let mut f: usize = 0;
-    while f < 8 {
-        let at = f * 2;
-        let end = at + 2;
-        if is(w, &names[at..end]) {
-            return f as u16;
-        }
-        f += 1;
-    }
-    8
-}
-
-fn field_or_number(w: &[u8]) -> Word
-    ensures { λ r. ⌜ NumbersOf (fieldToken (fieldNamed fieldNames (now (w .entry))) (now (w .entry))) (r .kind) (r .value) ⌝ }
-{
-    let f = field_named(w);
-    if f < 8 {
-        return Word { kind: 3, value: f };
+    let found = find(names, w);
+    if let Place::At(f) = found {
+        return Word {
+            kind: 3,
+            value: f as u16,
+        };
     }
     number(w)
 }
 
-// Inner: the token of a word.
-pub fn word_token(w: &[u8]) -> Word
-    ensures { λ r. ⌜ NumbersOf (wordToken fieldNames (now (w .entry))) (r .kind) (r .value) ⌝ }
+// Inner: the token of a word, over at most eight names in cells.
+pub fn word_token(names: &[u8], w: &[u8]) -> Word
+    requires { ⌜ length (now names) ≤ 128 ⌝ }
+    ensures { λ r. ⌜ NumbersOf (wordToken (namesIn (now (names .entry))) (now (w .entry))) (r .kind) (r .value) ⌝ }
 {
-    if is(w, b"drop") {
+    if same(w, b"drop") {
         return Word { kind: 2, value: 0 };
     }
-    if is(w, b"id") {
+    if same(w, b"id") {
         return Word { kind: 2, value: 1 };
     }
-    if is(w, b"dup") {
+    if same(w, b"dup") {
         return Word { kind: 2, value: 5 };
     }
-    field_or_number(w)
+    field_or_number(names, w)
 }

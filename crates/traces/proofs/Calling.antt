@@ -13,6 +13,7 @@ use Rattle.packet.specs.declared.Tested.the-variants.{Passed, Refused}
 use Rattle.packet.specs.Sizes.{product}
 use Rattle.policy.specs.Order.{pairTests}
 use Rattle.policy.specs.Legality.{Legal}
+use Rattle.fields.specs.Tables.{Table, jointSizes}
 use Rattle.policy.specs.NodeLists.{NodeLists}
 use Rattle.policy.proofs.EachLaws.{each-at}
 use Rattle.policy.proofs.Numbered.{traces-below}
@@ -65,36 +66,37 @@ unfolding checkedUnless isRefused
 unless-answer Passed a b e = (refl, sym (answer-in a) ∙ ap answerIn e ∙ answer-in b)
 unless-answer (Refused r) a b e = absurd (true≢false (ap isRefused e ∙ not-refused b))
 
-module _ (sizes : List ℕ) (L R : NodeLists) where
-  evaluable : (words : ℕ) → listsTests sizes L R words ≡ Passed → EvaluablePair sizes (policies L R)
-  evaluable words e = let h = lent-passed sizes L R words e in legal-pair sizes L R (h .left-legal) (h .right-legal)
+module _ (ts : List Table) (L R : NodeLists) where
+  evaluable : (words : ℕ) → listsTests ts L R words ≡ Passed → EvaluablePair (jointSizes ts) (policies L R)
+  evaluable words e = let h = lent-passed ts L R words e in legal-pair (jointSizes ts) L R (h .left-legal) (h .right-legal)
 
   -- an answer says of each side whether Figure 1 gives it the trace
-  pub answer-iff : (α : ℕ) (trace : List ℕ) (words : ℕ) (a : TraceAnswer) → traceCall sizes L R α trace words ≡ checkedAs a
-      → (s : Side) → T (has s a) ↔ SideTraces sizes (policies L R) s α trace
+  pub answer-iff : (α : ℕ) (trace : List ℕ) (words : ℕ) (a : TraceAnswer) → traceCall ts L R α trace words ≡ checkedAs a
+      → (s : Side) → T (has s a) ↔ SideTraces (jointSizes ts) (policies L R) s α trace
   unfolding traceCall
   answer-iff α trace words a e s =
       let g = unless-answer _ _ a e in
-      let t = trace-passed sizes L R words α trace (g .0) in
-      subst (λ (b : TraceAnswer). T (has s b) ↔ SideTraces sizes (policies L R) s α trace) (g .1)
-      (trace-iff sizes (policies L R) (evaluable words (t .0)) s α (packets-inside _ _ _ (t .1) .0) trace)
+      let t = trace-passed ts L R words α trace (g .0) in
+      subst (λ (b : TraceAnswer). T (has s b) ↔ SideTraces (jointSizes ts) (policies L R) s α trace) (g .1)
+      (trace-iff (jointSizes ts) (policies L R) (evaluable words (t .0)) s α (packets-inside _ _ _ (t .1) .0) trace)
 
   -- and the entering packet is below N
-  pub answer-enters : (α : ℕ) (trace : List ℕ) (words : ℕ) (a : TraceAnswer) → traceCall sizes L R α trace words ≡ checkedAs a → α < product sizes
+  pub answer-enters : (α : ℕ) (trace : List ℕ) (words : ℕ) (a : TraceAnswer) → traceCall ts L R α trace words ≡ checkedAs a → α < product (jointSizes ts)
   unfolding traceCall
-  answer-enters α trace words a e = packets-inside _ _ _ (trace-passed sizes L R words α trace (unless-answer _ _ a e .0) .1) .0
+  answer-enters α trace words a e = packets-inside _ _ _ (trace-passed ts L R words α trace (unless-answer _ _ a e .0) .1) .0
 
   -- a trace of length 0 is neither
-  pub empty-neither : (α words : ℕ) → traceTests sizes L R α [] words ≡ Passed → traceCall sizes L R α [] words ≡ Neither
+  pub empty-neither : (α words : ℕ) → traceTests ts L R α [] words ≡ Passed → traceCall ts L R α [] words ≡ Neither
   unfolding traceCall checkedUnless checkedAs
-  empty-neither α words e = ap₂ checkedUnless e (trace-empty sizes (policies L R) α)
+  empty-neither α words e = ap₂ checkedUnless e (trace-empty (jointSizes ts) (policies L R) α)
 
   -- ---- what following the trace asks, with a work list of so many words that is all 0
 
-  module _ (α : ℕ) (trace : List ℕ) (words : ℕ) (e : listsTests sizes L R words ≡ Passed) {work : List ℕ} (w : work ≡ replicate words 0) (q : packetsStage (product sizes) α trace ≡ Passed) {count : ℕ} (c : count ≡ product sizes) where
-    ready : (M : NodeLists) → Legal sizes M → FollowReady sizes M count α trace work
+  module _ (α : ℕ) (trace : List ℕ) (words : ℕ) (e : listsTests ts L R words ≡ Passed) {work : List ℕ} (w : work ≡ replicate words 0) (q : packetsStage (product (jointSizes ts)) α trace ≡ Passed) {count : ℕ} (c : count ≡ product (jointSizes ts))
+      {sizes : List ℕ} (same : sizes ≡ jointSizes ts) where
+    ready : (M : NodeLists) → Legal (jointSizes ts) M → FollowReady (jointSizes ts) M count α trace work
     ready M legal =
-        let lent = lent-passed sizes L R words e in
+        let lent = lent-passed ts L R words e in
         let inside = packets-inside _ _ _ q in
         record {
           legal-sizes = lent .legal-sizes;
@@ -110,16 +112,16 @@ module _ (sizes : List ℕ) (L R : NodeLists) where
         enough i h k = omega arith
 
     pub left-ready : FollowReady sizes L count α trace work
-    left-ready = ready L (lent-passed sizes L R words e .left-legal)
+    left-ready = subst (λ (s : List ℕ). FollowReady s L count α trace work) (sym same) (ready L (lent-passed ts L R words e .left-legal))
 
     pub right-ready : FollowReady sizes R count α trace work
-    right-ready = ready R (lent-passed sizes L R words e .right-legal)
+    right-ready = subst (λ (s : List ℕ). FollowReady s R count α trace work) (sym same) (ready R (lent-passed ts L R words e .right-legal))
 
   -- ---- the promise
 
   module _ (α : ℕ) (trace work : List ℕ) where
-    checked : {answer : TraceChecked} {work′ : List ℕ} → answer ≡ traceCall sizes L R α trace (length work) → work′ ≡ workAfter (listsTests sizes L R (length work)) work
-        → CheckedTrace sizes L R α trace work answer work′
+    checked : {answer : TraceChecked} {work′ : List ℕ} → answer ≡ traceCall ts L R α trace (length work) → work′ ≡ workAfter (listsTests ts L R (length work)) work
+        → CheckedTrace ts L R α trace work answer work′
     unfolding SideTraces at
     checked e w =
         record {
@@ -129,44 +131,46 @@ module _ (sizes : List ℕ) (L R : NodeLists) where
           right-trace = λ a q. answer-iff α trace (length work) a (sym e ∙ q) right;
         }
 
-    pub lent-refused : (r : Refusal) → listsTests sizes L R (length work) ≡ Refused r → CheckedTrace sizes L R α trace work (CheckRefused r) work
+    pub lent-refused : (r : Refusal) → listsTests ts L R (length work) ≡ Refused r → CheckedTrace ts L R α trace work (CheckRefused r) work
     unfolding traceCall checkedUnless workAfter
     lent-refused r e =
         checked
-        (sym (ap (λ (t : Tested). checkedUnless t (traceAnswer sizes (policies L R) α trace)) (trace-refused sizes L R (length work) α trace r e)))
+        (sym (ap (λ (t : Tested). checkedUnless t (traceAnswer (jointSizes ts) (policies L R) α trace)) (trace-refused ts L R (length work) α trace r e)))
         (sym (ap (λ (t : Tested). workAfter t work) e))
 
-    module _ (e : listsTests sizes L R (length work) ≡ Passed) {work′ : List ℕ} (w : work′ ≡ replicate (length work) 0) where
-      cleared : work′ ≡ workAfter (listsTests sizes L R (length work)) work
+    module _ (e : listsTests ts L R (length work) ≡ Passed) {work′ : List ℕ} (w : work′ ≡ replicate (length work) 0) where
+      cleared : work′ ≡ workAfter (listsTests ts L R (length work)) work
       unfolding workAfter
       cleared = w ∙ sym (ap (λ (t : Tested). workAfter t work) e)
 
-      called : (t : Tested) → packetsStage (product sizes) α trace ≡ t
-          → checkedUnless t (traceAnswer sizes (policies L R) α trace) ≡ traceCall sizes L R α trace (length work)
+      called : (t : Tested) → packetsStage (product (jointSizes ts)) α trace ≡ t
+          → checkedUnless t (traceAnswer (jointSizes ts) (policies L R) α trace) ≡ traceCall ts L R α trace (length work)
       unfolding traceCall
-      called t q = sym (ap (λ (u : Tested). checkedUnless u (traceAnswer sizes (policies L R) α trace)) (trace-tested sizes L R (length work) α trace e ∙ q))
+      called t q = sym (ap (λ (u : Tested). checkedUnless u (traceAnswer (jointSizes ts) (policies L R) α trace)) (trace-tested ts L R (length work) α trace e ∙ q))
 
-      pub packet-refused : (r : Refusal) → packetsStage (product sizes) α trace ≡ Refused r → CheckedTrace sizes L R α trace work (CheckRefused r) work′
+      pub packet-refused : (r : Refusal) → packetsStage (product (jointSizes ts)) α trace ≡ Refused r → CheckedTrace ts L R α trace work (CheckRefused r) work′
       unfolding checkedUnless
       packet-refused r q = checked (called (Refused r) q) cleared
 
-      pub answered : packetsStage (product sizes) α trace ≡ Passed → {l r : Bool} {work₁ work₂ : List ℕ} → Followed sizes L α trace work′ l work₁ → Followed sizes R α trace work₁ r work₂
-          → (answer : TraceChecked) → answer ≡ checkedAs (answerOf l r) → CheckedTrace sizes L R α trace work answer work₂
+      pub answered : packetsStage (product (jointSizes ts)) α trace ≡ Passed → {sizes : List ℕ} → sizes ≡ jointSizes ts → {l r : Bool} {work₁ work₂ : List ℕ} → Followed sizes L α trace work′ l work₁ → Followed sizes R α trace work₁ r work₂
+          → (answer : TraceChecked) → answer ≡ checkedAs (answerOf l r) → CheckedTrace ts L R α trace work answer work₂
       unfolding checkedUnless traceAnswer sideHas at
-      answered q f g answer a =
+      answered q same {l} {r} {work₁} {work₂} f′ g′ answer a =
+          let f = subst (λ (s : List ℕ). Followed s L α trace work′ l work₁) same f′ in
+          let g = subst (λ (s : List ℕ). Followed s R α trace work₁ r work₂) same g′ in
           checked (a ∙ ap checkedAs (ap₂ answerOf (f .answers) (g .answers)) ∙ called Passed q) (g .kept ∙ f .kept ∙ cleared)
 
   -- ---- the search's trace
 
   -- where the causes up to 10 let the call pass, a trace with which the search answers left is answered left, and right, right
-  pub search-checked : (words : ℕ) → pairTests sizes L R ≡ Passed → 16384 ≤ words → (rows lent : ℕ) (s : Side) (α : ℕ) (trace : List ℕ)
-      → searchAnswer sizes (policies L R) rows lent ≡ different s α trace → traceCall sizes L R α trace words ≡ checkedAs (only s)
+  pub search-checked : (words : ℕ) → pairTests ts L R ≡ Passed → 16384 ≤ words → (rows lent : ℕ) (s : Side) (α : ℕ) (trace : List ℕ)
+      → searchAnswer (jointSizes ts) (policies L R) rows lent ≡ different s α trace → traceCall ts L R α trace words ≡ checkedAs (only s)
   unfolding traceCall checkedUnless SideTraces
   search-checked words e h rows lent s α trace d =
-      let passed = pair-lent sizes L R words e h in
+      let passed = pair-lent ts L R words e h in
       let ok = evaluable words passed in
-      let tells = different-tells sizes (policies L R) ok rows lent s α trace d in
+      let tells = different-tells (jointSizes ts) (policies L R) ok rows lent s α trace d in
       ap₂ checkedUnless
-      (trace-tested sizes L R words α trace passed
-      ∙ inside-packets _ _ _ (tells .enters) (λ i l. each-at (λ γ. γ < product sizes) trace 0 (omega (arith, tells .enters)) (traces-below sizes (at s (policies L R) .tree) (ok s .inFields) α (tells .enters) trace (tells .has)) i))
-      (different-only sizes (policies L R) ok rows lent s α trace d)
+      (trace-tested ts L R words α trace passed
+      ∙ inside-packets _ _ _ (tells .enters) (λ i l. each-at (λ γ. γ < product (jointSizes ts)) trace 0 (omega (arith, tells .enters)) (traces-below (jointSizes ts) (at s (policies L R) .tree) (ok s .inFields) α (tells .enters) trace (tells .has)) i))
+      (different-only (jointSizes ts) (policies L R) ok rows lent s α trace d)

@@ -20,6 +20,7 @@ use Rattle.policy.proofs.OrderLaws.{packets-last}
 use Rattle.legality.specs.declared.PairTested.{PairTested}
 use Rattle.legality.specs.Answers.{FrontOf}
 use Rattle.policy.specs.Legality.{Legal}
+use Rattle.fields.specs.Tables.{Table, jointSizes}
 use Rattle.policy.specs.NodeLists.{NodeLists}
 use Rattle.lent_lists.specs.LentLists as rows
 use Rattle.lent_lists.specs.LentLists.{listsStage}
@@ -69,42 +70,42 @@ module _ (N α : ℕ) (trace : List ℕ) where
 
 -- ---- the causes up to 10
 
-module _ (sizes : List ℕ) (L R : NodeLists) (words : ℕ) where
+module _ (ts : List Table) (L R : NodeLists) (words : ℕ) where
   -- the tests as they were made
-  pub tests-made : {said : Tested} {q : PairTested} → said ≡ listsStage [] words → FrontOf sizes L R said q → q .tested ≡ listsTests sizes L R words
+  pub tests-made : {said : Tested} {q : PairTested} → said ≡ listsStage [] words → FrontOf ts L R said q → q .tested ≡ listsTests ts L R words
   unfolding listsTests
-  tests-made e f = front-tests sizes L R _ e f
+  tests-made e f = front-tests ts L R _ e f
 
   -- what holds where they pass
   pub record Passing : Type 0 where
-    pub legal-sizes : LegalSizes sizes
-    pub left-legal : Legal sizes L
-    pub right-legal : Legal sizes R
+    pub legal-sizes : LegalSizes (jointSizes ts)
+    pub left-legal : Legal (jointSizes ts) L
+    pub right-legal : Legal (jointSizes ts) R
     pub long : 16384 ≤ words
 
-  pub lent-passed : listsTests sizes L R words ≡ Passed → Passing
+  pub lent-passed : listsTests ts L R words ≡ Passed → Passing
   unfolding listsTests
   lent-passed e =
-      let h = tests-passed sizes L R _ e in
+      let h = tests-passed ts L R _ e in
       record { legal-sizes = h .legal-sizes; left-legal = h .left-legal; right-legal = h .right-legal; long = lists-passed [] words (h .passed) .1 }
 
   -- two policies that the causes before 10 let pass, and a work list that is long enough
-  pub pair-lent : pairTests sizes L R ≡ Passed → 16384 ≤ words → listsTests sizes L R words ≡ Passed
+  pub pair-lent : pairTests ts L R ≡ Passed → 16384 ≤ words → listsTests ts L R words ≡ Passed
   unfolding listsTests
-  pair-lent e h = rows-laws.pair-lent sizes L R (listsStage [] words) e (work-passes words h)
+  pair-lent e h = rows-laws.pair-lent ts L R (listsStage [] words) e (work-passes words h)
 
   -- ---- then 13
 
   module _ (α : ℕ) (trace : List ℕ) where
-    then-packets : traceTests sizes L R α trace words ≡ firstOf (listsTests sizes L R words ∷ packetsStage (product sizes) α trace ∷ [])
+    then-packets : traceTests ts L R α trace words ≡ firstOf (listsTests ts L R words ∷ packetsStage (product (jointSizes ts)) α trace ∷ [])
     unfolding traceTests listsTests rows.lentTests
-    then-packets = packets-last sizes Passed (pairOf L R) _ _
+    then-packets = packets-last ts Passed (pairOf L R) _ _
 
-    pub trace-refused : (r : Refusal) → listsTests sizes L R words ≡ Refused r → traceTests sizes L R α trace words ≡ Refused r
+    pub trace-refused : (r : Refusal) → listsTests ts L R words ≡ Refused r → traceTests ts L R α trace words ≡ Refused r
     trace-refused r e = then-packets ∙ firstOf-refused _ _ r e
 
-    pub trace-tested : listsTests sizes L R words ≡ Passed → traceTests sizes L R α trace words ≡ packetsStage (product sizes) α trace
+    pub trace-tested : listsTests ts L R words ≡ Passed → traceTests ts L R α trace words ≡ packetsStage (product (jointSizes ts)) α trace
     trace-tested e = then-packets ∙ firstOf-next _ _ e ∙ firstOf-last _
 
-    pub trace-passed : traceTests sizes L R α trace words ≡ Passed → (listsTests sizes L R words ≡ Passed) × (packetsStage (product sizes) α trace ≡ Passed)
+    pub trace-passed : traceTests ts L R α trace words ≡ Passed → (listsTests ts L R words ≡ Passed) × (packetsStage (product (jointSizes ts)) α trace ≡ Passed)
     trace-passed e = let f = firstOf-passed _ _ (sym then-packets ∙ e) in (f .0, firstOf-passed _ _ (f .1) .0)

@@ -14,6 +14,7 @@ use Rattle.packet.specs.Sizes.{product, LegalSizes}
 use Rattle.policy.specs.Legality.{Legal}
 use Rattle.policy.specs.Order.{inOrder, stagesOf, pairOf}
 use Rattle.policy.specs.Meaning.{numbered, Traces}
+use Rattle.fields.specs.Tables.{Table, jointSizes}
 use Rattle.policy.specs.NodeLists.{NodeLists, nodeCount, dupsBelow, policyOf}
 use Rattle.automaton.specs.State.{hasTrace}
 use Rattle.pair.specs.Sides.{left, right, policies}
@@ -45,25 +46,25 @@ unfoldable pub checkedUnless : Tested → TraceAnswer → TraceChecked
 checkedUnless Passed a = checkedAs a
 checkedUnless (Refused r) a = CheckRefused r
 
-module _ (sizes : List ℕ) (L R : NodeLists) where
+module _ (ts : List Table) (L R : NodeLists) where
   -- the tests on what else is lent, with a work list of so many words: the causes up to 10
   unfoldable pub listsTests : ℕ → Tested
-  listsTests words = rows.lentTests sizes L R (listsStage [] words)
+  listsTests words = rows.lentTests ts L R (listsStage [] words)
 
   -- the order of causes: up to 10, then 13
   unfoldable pub traceTests : ℕ → List ℕ → ℕ → Tested
-  traceTests α trace words = inOrder (stagesOf sizes Passed (pairOf L R) (listsStage [] words) (packetsStage (product sizes) α trace))
+  traceTests α trace words = inOrder (stagesOf ts Passed (pairOf L R) (listsStage [] words) (packetsStage (product (jointSizes ts)) α trace))
 
   -- the trace checker's answer
   unfoldable pub traceCall : ℕ → List ℕ → ℕ → TraceChecked
-  traceCall α trace words = checkedUnless (traceTests α trace words) (traceAnswer sizes (policies L R) α trace)
+  traceCall α trace words = checkedUnless (traceTests α trace words) (traceAnswer (jointSizes ts) (policies L R) α trace)
 
   -- The call's promise. Where it answers, the answer says of each policy whether Figure 1 gives it the trace from the entering packet.
   pub record CheckedTrace (α : ℕ) (trace work : List ℕ) (answer : TraceChecked) (work′ : List ℕ) : Type 0 where
     pub answers : answer ≡ traceCall α trace (length work)
     pub work-list : work′ ≡ workAfter (listsTests (length work)) work
-    pub left-trace : (a : TraceAnswer) → answer ≡ checkedAs a → T (has left a) ↔ Traces (numbered sizes) (policyOf L) α trace
-    pub right-trace : (a : TraceAnswer) → answer ≡ checkedAs a → T (has right a) ↔ Traces (numbered sizes) (policyOf R) α trace
+    pub left-trace : (a : TraceAnswer) → answer ≡ checkedAs a → T (has left a) ↔ Traces (numbered (jointSizes ts)) (policyOf L) α trace
+    pub right-trace : (a : TraceAnswer) → answer ≡ checkedAs a → T (has right a) ↔ Traces (numbered (jointSizes ts)) (policyOf R) α trace
 
 -- what following a trace through one policy asks: no cause up to 13 holds, N = count, and the first words of the work list 0
 pub record FollowReady (sizes : List ℕ) (L : NodeLists) (count α : ℕ) (trace work : List ℕ) : Type 0 where

@@ -3,6 +3,7 @@ ghost use mathlib.Core.Path.{_≡_};
 ghost use Prim.Native.Nat.{suc};
 ghost use lib.ListN.{length};
 ghost use Rattle.packet.specs.Lowest.{lowest, optionOf};
+ghost use Rattle.fields.specs.Tables.{tablesAtEntry};
 ghost use Rattle.policy.specs.AsLists.{asLists, policyAtEntry};
 ghost use Rattle.pair.specs.TraceCheck.{answerOf};
 ghost use Rattle.traces.specs.Checking.{badPacket, checkedAs, CheckedTrace, FollowReady, Followed, LoadedReady, LoadedFollowed};
@@ -126,7 +127,10 @@ fn named(left: bool, right: bool) -> TraceChecked
 // Which of the two policies have the trace from the entering packet: the causes up to 10, of 10 the work list alone, then 13.
 // The work list is as found where a cause up to 10 refuses, and else all 0.
 pub fn check(
-    sizes: &[u16],
+    left_names: &[u8],
+    left_sizes: &[u16],
+    right_names: &[u8],
+    right_sizes: &[u16],
     left_kind: &[u8],
     left_first: &[u16],
     left_second: &[u16],
@@ -137,11 +141,14 @@ pub fn check(
     trace: &[u16],
     work: &mut [u32],
 ) -> TraceChecked
-    ensures { λ r. ⌜ CheckedTrace (now (sizes .entry)) (policyAtEntry «left_kind» «left_first» «left_second») (policyAtEntry «right_kind» «right_first» «right_second») entering (now (trace .entry)) (now (work .entry)) r (now (work .exit)) ⌝ }
+    ensures { λ r. ⌜ CheckedTrace (tablesAtEntry «left_names» «left_sizes» «right_names» «right_sizes») (policyAtEntry «left_kind» «left_first» «left_second») (policyAtEntry «right_kind» «right_first» «right_second») entering (now (trace .entry)) (now (work .entry)) r (now (work .exit)) ⌝ }
 {
     let lists = lent_lists::work_list(work.len());
     let found = legality::front(
-        sizes,
+        left_names,
+        left_sizes,
+        right_names,
+        right_sizes,
         left_kind,
         left_first,
         left_second,
@@ -152,6 +159,8 @@ pub fn check(
     );
     let tested = found.tested;
     let count = found.packets;
+    let fields = found.count;
+    let sizes = found.sizes;
     match tested {
         Tested::Refused(r) => TraceChecked::Refused(r),
         Tested::Passed => {
@@ -160,7 +169,7 @@ pub fn check(
                 Tested::Refused(r) => TraceChecked::Refused(r),
                 Tested::Passed => {
                     let left = has_trace(
-                        sizes,
+                        &sizes[..fields],
                         count,
                         left_kind,
                         left_first,
@@ -170,7 +179,7 @@ pub fn check(
                         work,
                     );
                     let right = has_trace(
-                        sizes,
+                        &sizes[..fields],
                         count,
                         right_kind,
                         right_first,

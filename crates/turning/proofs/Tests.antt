@@ -5,21 +5,24 @@ use native.Mathlib.Omega.{arith}
 use mathlib.Core.Bool.{Bool}
 use mathlib.Core.List.{List, [], _∷_}
 use mathlib.Core.Option.{Option, none}
-use mathlib.Core.Path.{_≡_, refl, sym, ap, _∙_}
+use mathlib.Core.Path.{_≡_, refl, sym, ap, ap₂, _∙_, subst}
 use borrow.Author.Tests.{eq-eqb, ne-eqb, eqb-true, le-leb, lt-leb, leb-false, not-false}
-use lib.ListN.{length, getD}
-use Rattle.packet.specs.declared.Counted.{Counted}
+use lib.ListN.{length, getD, take}
+use lib.Seq.{length-take-le}
 use Rattle.packet.specs.declared.Refusal.{Refusal}
 use Rattle.packet.specs.declared.Tested.{Tested}
 use Rattle.packet.specs.declared.Tested.the-variants.{Passed, Refused}
 use Rattle.packet.specs.Lowest.{lowest}
 use Rattle.packet.specs.Refusals.{refusal, refusedAt, atPlace, firstOf}
-use Rattle.packet.specs.Sizes.{fieldsStage, productStage, product, CountOf, LegalSizes}
-use Rattle.packet.specs.Packets.{Declared}
+use Rattle.packet.specs.Sizes.{product, LegalSizes}
+use Rattle.packet.specs.Packets.{Declared, valuesOf, numberOf}
 use Rattle.packet.proofs.Lowest.{lowest-none}
 use Rattle.packet.proofs.Stages.{firstOf-last, firstOf-refused, firstOf-next, firstOf-passed, refusedAt-passed, atPlace-none}
+use Rattle.fields.specs.declared.Fields.{Fields}
+use Rattle.fields.specs.Tables.{Table, jointSizes}
+use Rattle.fields.specs.Inner.{FieldsOf}
 use Rattle.policy.specs.Order.{inOrder, causes, cause, policiesStage, stagesOf}
-use Rattle.policy.proofs.OrderLaws.{passing, sizes-legal, packets-counted}
+use Rattle.policy.proofs.OrderLaws.{passing, sizes-legal, fields-pass, after-fields}
 use Rattle.turning.specs.Turning.{lengthTest, numberStage, valuesTests, badValue, valuesStage, numberTests}
 
 -- ---- cause 13
@@ -62,31 +65,56 @@ module _ (sizes values : List ℕ) where
 
 -- ---- the tests as they were made
 
-module _ (sizes : List ℕ) {c : Counted} (counted : CountOf sizes c) {f t : Tested} (k : Tested) (fields : f ≡ fieldsStage sizes)
-    (made : t ≡ inOrder (record { fields = f; product = c .tested; texts = Passed; policies = Passed; lists = Passed; packets = k })) where
-  made-as : t ≡ inOrder (stagesOf sizes Passed [] Passed k)
-  unfolding stagesOf policiesStage causes cause firstOf
-  made-as = made ∙ rw (fields, counted .says) refl
+no-policies : (sizes : List ℕ) → Passed ≡ policiesStage sizes []
+unfolding policiesStage causes cause firstOf
+no-policies sizes = refl
 
-  pub values-made : (number len : ℕ) → k ≡ numberStage (length sizes) (c .packets) number len → t ≡ valuesTests sizes number len
-  unfolding valuesTests
-  values-made number len e =
-      made-as ∙ packets-counted sizes Passed [] Passed _ k (λ p. e ∙ ap (λ (n : ℕ). numberStage (length sizes) n number len) (counted .counts p))
+module _ (ts : List Table) {F : Fields} (loaded : FieldsOf ts F) where
+  -- the joint sizes are as many as were loaded
+  pub length-joint : F .tested ≡ Passed → F .count ≡ length (jointSizes ts)
+  length-joint p = sym (length-take-le (F .count) (F .sizes) (omega (arith, loaded .few, loaded .space))) ∙ ap length (loaded .sized p)
 
-  pub number-made : (values : List ℕ) → k ≡ valuesStage sizes values → t ≡ numberTests sizes values
-  unfolding numberTests
-  number-made values e = made-as ∙ ap (λ (k : Tested). inOrder (stagesOf sizes Passed [] Passed k)) e
+  module _ {t : Tested} (k : Tested) (made : t ≡ inOrder (record { fields = F .tested; product = Passed; texts = Passed; policies = Passed; lists = Passed; packets = k })) where
+    pub values-made : (number len : ℕ) → k ≡ numberStage (F .count) (F .packets) number len → t ≡ valuesTests ts number len
+    unfolding valuesTests
+    values-made number len e =
+        made
+        ∙ after-fields ts Passed [] Passed _ (loaded .tested) (λ p. no-policies (jointSizes ts))
+        (λ p. e ∙ ap₂ (λ (c n : ℕ). numberStage c n number len) (length-joint p) (loaded .counts p))
+
+    pub number-made : (values : List ℕ) → k ≡ valuesStage (take (F .count) (F .sizes)) values → t ≡ numberTests ts values
+    unfolding numberTests
+    number-made values e =
+        made
+        ∙ after-fields ts Passed [] Passed _ (loaded .tested) (λ p. no-policies (jointSizes ts))
+        (λ p. e ∙ ap (λ (s : List ℕ). valuesStage s values) (loaded .sized p))
 
 -- ---- what holds where they pass
 
-module _ (sizes : List ℕ) (number len : ℕ) where
+module _ (ts : List Table) {F : Fields} (loaded : FieldsOf ts F) where
   -- the sizes are legal, the list has a value for each field, and the number is below N
-  pub values-passed : valuesTests sizes number len ≡ Passed → LegalSizes sizes × (productStage sizes ≡ Passed) × (len ≡ length sizes) × (number < product sizes)
+  pub values-passed : (number len : ℕ) → valuesTests ts number len ≡ Passed
+      → LegalSizes (take (F .count) (F .sizes)) × (F .packets ≡ product (take (F .count) (F .sizes))) × (number < F .packets) × (len ≡ length (take (F .count) (F .sizes)))
   unfolding valuesTests numberStage
-  values-passed e =
+  values-passed number len e =
       let h = passing _ _ _ _ _ e in
       let q = firstOf-passed _ _ (h .packets-pass) in
-      (sizes-legal _ _ _ _ _ h, h .product, length-known _ _ (q .0), leb-false _ _ (atPlace-none 0 _ (refusedAt-passed 13 0 _ (firstOf-passed _ _ (q .1) .0))))
+      let p = loaded .tested ∙ fields-pass _ _ _ _ _ h in
+      let same = sym (loaded .sized p) in (
+        subst LegalSizes same (sizes-legal _ _ _ _ _ h),
+        loaded .counts p ∙ ap product same,
+        subst (λ (n : ℕ). number < n) (sym (loaded .counts p)) (leb-false _ _ (atPlace-none 0 _ (refusedAt-passed 13 0 _ (firstOf-passed _ _ (q .1) .0)))),
+        length-known _ _ (q .0) ∙ ap length same,
+      )
+
+  -- what is written are the packet's values
+  pub values-are : (number len : ℕ) → valuesTests ts number len ≡ Passed → valuesOf (take (F .count) (F .sizes)) number ≡ valuesOf (jointSizes ts) number
+  unfolding valuesTests
+  values-are number len e = ap (λ (s : List ℕ). valuesOf s number) (loaded .sized (loaded .tested ∙ fields-pass _ _ _ _ _ (passing _ _ _ _ _ e)))
+
+  pub number-is : (values : List ℕ) → numberTests ts values ≡ Passed → numberOf (take (F .count) (F .sizes)) values ≡ numberOf (jointSizes ts) values
+  unfolding numberTests
+  number-is values e = ap (λ (s : List ℕ). numberOf s values) (loaded .sized (loaded .tested ∙ fields-pass _ _ _ _ _ (passing _ _ _ _ _ e)))
 
 declared-by-values : (sizes values : List ℕ) → length values ≡ length sizes
     → ((i : ℕ) → i < length sizes → getD values i 0 < getD sizes i 0) → Declared sizes values
@@ -102,9 +130,13 @@ none-bad : (sizes values : List ℕ) → length values ≡ length sizes → lowe
 unfolding badValue
 none-bad sizes values e n = declared-by-values sizes values e (λ i h. leb-false (getD sizes i 0) (getD values i 0) (lowest-none (badValue sizes values) (length sizes) n i h))
 
-pub declared-passed : (sizes values : List ℕ) → numberTests sizes values ≡ Passed → LegalSizes sizes × Declared sizes values
+pub declared-passed : (ts : List Table) {F : Fields} → FieldsOf ts F → (values : List ℕ) → numberTests ts values ≡ Passed
+    → LegalSizes (take (F .count) (F .sizes)) × Declared (take (F .count) (F .sizes)) values
 unfolding numberTests valuesStage
-declared-passed sizes values e =
+declared-passed ts {F} loaded values e =
     let h = passing _ _ _ _ _ e in
     let q = firstOf-passed _ _ (h .packets-pass) in
-    (sizes-legal _ _ _ _ _ h, none-bad sizes values (length-known _ _ (q .0)) (refusedAt-passed 13 0 _ (firstOf-passed _ _ (q .1) .0)))
+    let same = sym (loaded .sized (loaded .tested ∙ fields-pass _ _ _ _ _ h)) in (
+      subst LegalSizes same (sizes-legal _ _ _ _ _ h),
+      subst (λ (s : List ℕ). Declared s values) same (none-bad (jointSizes ts) values (length-known _ _ (q .0)) (refusedAt-passed 13 0 _ (firstOf-passed _ _ (q .1) .0))),
+    )

@@ -1,4 +1,4 @@
--- Turning packets: causes 1 to 3, then 13 (document 01, "Packets" and "Causes, in the order tested").
+-- Turning packets: the causes of the tables and 3, then 13 (document 01, "Packets" and "Causes, in the order tested"; document 02, A.4).
 use Prim.Native.Nat.{ℕ}
 use mathlib.Core.Bool.{Bool, not}
 use mathlib.Core.List.{List, [], _∷_}
@@ -10,6 +10,7 @@ use Rattle.packet.specs.Lowest.{lowest}
 use Rattle.packet.specs.Refusals.{refusedAt, atPlace, atZero, firstOf}
 use Rattle.packet.specs.Sizes.{product}
 use Rattle.packet.specs.Packets.{valuesOf}
+use Rattle.fields.specs.Tables.{Table, jointSizes}
 use Rattle.policy.specs.Order.{inOrder, stagesOf}
 use Rattle.turning.specs.declared.Values.{Values}
 use Rattle.turning.specs.declared.Values.the-variants.{Written, Refused as ValuesRefused}
@@ -25,8 +26,8 @@ unfoldable pub numberStage : ℕ → ℕ → ℕ → ℕ → Tested
 numberStage k count number len = firstOf (lengthTest k len ∷ refusedAt 13 0 (atZero (leb count number)) ∷ [])
 
 -- the tests of a number into values
-unfoldable pub valuesTests : List ℕ → ℕ → ℕ → Tested
-valuesTests sizes number len = inOrder (stagesOf sizes Passed [] Passed (numberStage (length sizes) (product sizes) number len))
+unfoldable pub valuesTests : List Table → ℕ → ℕ → Tested
+valuesTests ts number len = inOrder (stagesOf ts Passed [] Passed (numberStage (length (jointSizes ts)) (product (jointSizes ts)) number len))
 
 -- the number and values of each answer: a refusal's are its own
 unfoldable pub valuesAnswer : Tested → Values
@@ -38,8 +39,8 @@ unfoldable pub keptUnless : Tested → List ℕ → List ℕ → List ℕ
 keptUnless Passed new old = new
 keptUnless (Refused r) new old = old
 
-unfoldable pub valuesLeft : List ℕ → ℕ → List ℕ → List ℕ
-valuesLeft sizes number old = keptUnless (valuesTests sizes number (length old)) (valuesOf sizes number) old
+unfoldable pub valuesLeft : List Table → ℕ → List ℕ → List ℕ
+valuesLeft ts number old = keptUnless (valuesTests ts number (length old)) (valuesOf (jointSizes ts) number) old
 
 -- the value of field i is out of range
 unfoldable pub badValue : List ℕ → List ℕ → ℕ → Bool
@@ -50,8 +51,8 @@ unfoldable pub valuesStage : List ℕ → List ℕ → Tested
 valuesStage sizes values = firstOf (lengthTest (length sizes) (length values) ∷ refusedAt 13 0 (lowest (badValue sizes values) (length sizes)) ∷ [])
 
 -- the tests of values into a number
-unfoldable pub numberTests : List ℕ → List ℕ → Tested
-numberTests sizes values = inOrder (stagesOf sizes Passed [] Passed (valuesStage sizes values))
+unfoldable pub numberTests : List Table → List ℕ → Tested
+numberTests ts values = inOrder (stagesOf ts Passed [] Passed (valuesStage (jointSizes ts) values))
 
 unfoldable pub numberAnswer : Tested → ℕ → Number
 numberAnswer Passed number = Packet number

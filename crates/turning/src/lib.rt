@@ -5,6 +5,7 @@ ghost use lib.ListN.{length};
 ghost use Rattle.packet.specs.Lowest.{lowest, optionOf};
 ghost use Rattle.packet.specs.Sizes.{LegalSizes, product};
 ghost use Rattle.packet.specs.Packets.{Declared, valuesOf, numberOf};
+ghost use Rattle.fields.specs.Tables.{tablesAtEntry, jointSizes};
 ghost use Rattle.turning.specs.Turning.{lengthTest, numberStage, valuesStage, valuesTests, valuesAnswer, valuesLeft, badValue, numberTests, numberAnswer};
 use packet::Place;
 use packet::Refusal;
@@ -76,18 +77,26 @@ fn write_values(sizes: &[u16], count: u16, number: u16, values: &mut [u16])
 }
 
 // The values of the packet's fields from its number, into the lent list.
-pub fn values_of(sizes: &[u16], number: u16, values: &mut [u16]) -> Values
-    ensures answer { λ r. ⌜ r ≡ valuesAnswer (valuesTests (now (sizes .entry)) number (length (now (values .entry)))) ⌝ }
-    ensures list { λ r. ⌜ now (values .exit) ≡ valuesLeft (now (sizes .entry)) number (now (values .entry)) ⌝ }
+pub fn values_of(
+    left_names: &[u8],
+    left_sizes: &[u16],
+    right_names: &[u8],
+    right_sizes: &[u16],
+    number: u16,
+    values: &mut [u16],
+) -> Values
+    ensures answer { λ r. ⌜ r ≡ valuesAnswer (valuesTests (tablesAtEntry «left_names» «left_sizes» «right_names» «right_sizes») number (length (now (values .entry)))) ⌝ }
+    ensures list { λ r. ⌜ now (values .exit) ≡ valuesLeft (tablesAtEntry «left_names» «left_sizes» «right_names» «right_sizes») number (now (values .entry)) ⌝ }
 {
-    let fields = packet::fields_stage(sizes);
-    let counted = packet::packet_count(sizes);
-    let product = counted.tested;
-    let count = counted.packets;
-    let packets = number_stage(sizes.len(), count, number, values.len());
+    let fields = fields::load(left_names, left_sizes, right_names, right_sizes);
+    let k = fields.count;
+    let sizes = fields.sizes;
+    let count = fields.packets;
+    let packets = number_stage(k, count, number, values.len());
+    let said = fields.tested;
     let tested = policy::order::in_order(Stages {
-        fields,
-        product,
+        fields: said,
+        product: Tested::Passed,
         texts: Tested::Passed,
         policies: Tested::Passed,
         lists: Tested::Passed,
@@ -96,7 +105,7 @@ pub fn values_of(sizes: &[u16], number: u16, values: &mut [u16]) -> Values
     match tested {
         Tested::Refused(r) => Values::Refused(r),
         Tested::Passed => {
-            write_values(sizes, count, number, values);
+            write_values(&sizes[..k], count, number, values);
             Values::Written
         }
     }
@@ -143,16 +152,23 @@ fn number_from(sizes: &[u16], values: &[u16]) -> u16
 }
 
 // The number of the packet with the values given.
-pub fn number_of(sizes: &[u16], values: &[u16]) -> Number
-    ensures { λ r. ⌜ r ≡ numberAnswer (numberTests (now (sizes .entry)) (now (values .entry))) (numberOf (now (sizes .entry)) (now (values .entry))) ⌝ }
+pub fn number_of(
+    left_names: &[u8],
+    left_sizes: &[u16],
+    right_names: &[u8],
+    right_sizes: &[u16],
+    values: &[u16],
+) -> Number
+    ensures { λ r. ⌜ r ≡ numberAnswer (numberTests (tablesAtEntry «left_names» «left_sizes» «right_names» «right_sizes») (now (values .entry))) (numberOf (jointSizes (tablesAtEntry «left_names» «left_sizes» «right_names» «right_sizes»)) (now (values .entry))) ⌝ }
 {
-    let fields = packet::fields_stage(sizes);
-    let counted = packet::packet_count(sizes);
-    let product = counted.tested;
-    let packets = values_stage(sizes, values);
+    let fields = fields::load(left_names, left_sizes, right_names, right_sizes);
+    let k = fields.count;
+    let sizes = fields.sizes;
+    let packets = values_stage(&sizes[..k], values);
+    let said = fields.tested;
     let tested = policy::order::in_order(Stages {
-        fields,
-        product,
+        fields: said,
+        product: Tested::Passed,
         texts: Tested::Passed,
         policies: Tested::Passed,
         lists: Tested::Passed,
@@ -160,6 +176,6 @@ pub fn number_of(sizes: &[u16], values: &[u16]) -> Number
     });
     match tested {
         Tested::Refused(r) => Number::Refused(r),
-        Tested::Passed => Number::Packet(number_from(sizes, values)),
+        Tested::Passed => Number::Packet(number_from(&sizes[..k], values)),
     }
 }

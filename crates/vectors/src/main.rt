@@ -3,7 +3,7 @@
 // and by the second implementation (reference/).
 //
 // A call is its number (0 values, 1 number, 2 policy, 3 read, 4 search, 5 evidence, 6 trace, 7 search on texts, 8 policies), then
-// what it takes, in the order of include/netkat.h. A list that the call may write is its length; each entry is 7 before the call. A
+// what it takes, in the order of include/netkat.h, its tables first. A list that the call may write is its length; each entry is 7 before the call. A
 // list that it only reads is the number of its parts, and for each part how often it stands there, at least once, how many
 // entries it has, at least one, and these. An entry of 64 bits is its four quarters, the highest first.
 use harness::Built;
@@ -225,17 +225,24 @@ fn show(answer: &[u64; 8]) {
     }
 }
 
-fn values(input: &[u8], from: usize) -> usize {
-    let mut sizes = [0u16; 32];
-    let z = fill16(input, from, &mut sizes);
-    let number = harness::scan(input, z.at);
+fn values(
+    input: &[u8],
+    from: usize,
+    left_names: &[u8],
+    left_sizes: &[u16],
+    right_names: &[u8],
+    right_sizes: &[u16],
+) -> usize {
+    let number = harness::scan(input, from);
     let v = harness::lent(input, number.at, 66000);
     let mut values = [7u16; 66000];
-    let zn = z.len;
     let vn = v.len;
     let mut answer = [7u64; 8];
     exports::netkat_values(
-        &sizes[..zn],
+        left_names,
+        left_sizes,
+        right_names,
+        right_sizes,
         (number.value % 65536) as u16,
         &mut values[..vn],
         &mut answer,
@@ -245,35 +252,53 @@ fn values(input: &[u8], from: usize) -> usize {
     v.at
 }
 
-fn number(input: &[u8], from: usize) -> usize {
-    let mut sizes = [0u16; 32];
-    let z = fill16(input, from, &mut sizes);
+fn number(
+    input: &[u8],
+    from: usize,
+    left_names: &[u8],
+    left_sizes: &[u16],
+    right_names: &[u8],
+    right_sizes: &[u16],
+) -> usize {
     let mut values = [0u16; 32];
-    let v = fill16(input, z.at, &mut values);
-    let zn = z.len;
+    let v = fill16(input, from, &mut values);
     let vn = v.len;
     let mut answer = [7u64; 8];
-    exports::netkat_number(&sizes[..zn], &values[..vn], &mut answer);
+    exports::netkat_number(
+        left_names,
+        left_sizes,
+        right_names,
+        right_sizes,
+        &values[..vn],
+        &mut answer,
+    );
     show(&answer);
     v.at
 }
 
-fn policy(input: &[u8], from: usize) -> usize {
-    let mut sizes = [0u16; 32];
-    let z = fill16(input, from, &mut sizes);
+fn policy(
+    input: &[u8],
+    from: usize,
+    left_names: &[u8],
+    left_sizes: &[u16],
+    right_names: &[u8],
+    right_sizes: &[u16],
+) -> usize {
     let mut kind = [0u8; 600];
-    let k = harness::build(input, z.at, &mut kind);
+    let k = harness::build(input, from, &mut kind);
     let mut first = [0u16; 600];
     let fi = fill16(input, k.at, &mut first);
     let mut second = [0u16; 600];
     let se = fill16(input, fi.at, &mut second);
-    let zn = z.len;
     let kn = k.len;
     let fin = fi.len;
     let sen = se.len;
     let mut answer = [7u64; 8];
     exports::netkat_policy(
-        &sizes[..zn],
+        left_names,
+        left_sizes,
+        right_names,
+        right_sizes,
         &kind[..kn],
         &first[..fin],
         &second[..sen],
@@ -283,9 +308,17 @@ fn policy(input: &[u8], from: usize) -> usize {
     se.at
 }
 
-fn read(input: &[u8], from: usize) -> usize {
+fn read(
+    input: &[u8],
+    from: usize,
+    left_names: &[u8],
+    left_sizes: &[u16],
+    right_names: &[u8],
+    right_sizes: &[u16],
+) -> usize {
+    let side = harness::scan(input, from);
     let mut text = [0u8; 8192];
-    let t = harness::build(input, from, &mut text);
+    let t = harness::build(input, side.at, &mut text);
     let k = harness::lent(input, t.at, 600);
     let mut kind = [7u8; 600];
     let fi = harness::lent(input, k.at, 66000);
@@ -298,6 +331,11 @@ fn read(input: &[u8], from: usize) -> usize {
     let sen = se.len;
     let mut answer = [7u64; 8];
     exports::netkat_read(
+        left_names,
+        left_sizes,
+        right_names,
+        right_sizes,
+        (side.value % 256) as u8,
         &text[..tn],
         &mut kind[..kn],
         &mut first[..fin],
@@ -314,7 +352,10 @@ fn read(input: &[u8], from: usize) -> usize {
 fn search(
     input: &[u8],
     from: usize,
-    sizes: &[u16],
+    left_names: &[u8],
+    left_sizes: &[u16],
+    right_names: &[u8],
+    right_sizes: &[u16],
     left_kind: &[u8],
     left_first: &[u16],
     left_second: &[u16],
@@ -342,7 +383,10 @@ fn search(
     let wn = w.len;
     let mut answer = [7u64; 8];
     exports::netkat_search(
-        sizes,
+        left_names,
+        left_sizes,
+        right_names,
+        right_sizes,
         left_kind,
         left_first,
         left_second,
@@ -370,7 +414,10 @@ fn search(
 fn evidence(
     input: &[u8],
     from: usize,
-    sizes: &[u16],
+    left_names: &[u8],
+    left_sizes: &[u16],
+    right_names: &[u8],
+    right_sizes: &[u16],
     left_kind: &[u8],
     left_first: &[u16],
     left_second: &[u16],
@@ -392,7 +439,10 @@ fn evidence(
     let wn = w.len;
     let mut answer = [7u64; 8];
     exports::netkat_evidence(
-        sizes,
+        left_names,
+        left_sizes,
+        right_names,
+        right_sizes,
         left_kind,
         left_first,
         left_second,
@@ -413,7 +463,10 @@ fn evidence(
 fn trace(
     input: &[u8],
     from: usize,
-    sizes: &[u16],
+    left_names: &[u8],
+    left_sizes: &[u16],
+    right_names: &[u8],
+    right_sizes: &[u16],
     left_kind: &[u8],
     left_first: &[u16],
     left_second: &[u16],
@@ -430,7 +483,10 @@ fn trace(
     let wn = w.len;
     let mut answer = [7u64; 8];
     exports::netkat_trace(
-        sizes,
+        left_names,
+        left_sizes,
+        right_names,
+        right_sizes,
         left_kind,
         left_first,
         left_second,
@@ -450,7 +506,10 @@ fn trace(
 fn texts_read(
     input: &[u8],
     from: usize,
-    sizes: &[u16],
+    left_names: &[u8],
+    left_sizes: &[u16],
+    right_names: &[u8],
+    right_sizes: &[u16],
     left_text: &[u8],
     right_text: &[u8],
 ) -> usize {
@@ -474,7 +533,10 @@ fn texts_read(
     let wn = w.len;
     let mut answer = [7u64; 8];
     exports::netkat_search_texts(
-        sizes,
+        left_names,
+        left_sizes,
+        right_names,
+        right_sizes,
         left_text,
         right_text,
         &mut packet[..pn],
@@ -495,20 +557,27 @@ fn texts_read(
     w.at
 }
 
-fn texts(input: &[u8], from: usize) -> usize {
-    let mut sizes = [0u16; 32];
-    let z = fill16(input, from, &mut sizes);
+fn texts(
+    input: &[u8],
+    from: usize,
+    left_names: &[u8],
+    left_sizes: &[u16],
+    right_names: &[u8],
+    right_sizes: &[u16],
+) -> usize {
     let mut left_text = [0u8; 8192];
-    let lt = harness::build(input, z.at, &mut left_text);
+    let lt = harness::build(input, from, &mut left_text);
     let mut right_text = [0u8; 8192];
     let rt = harness::build(input, lt.at, &mut right_text);
-    let zn = z.len;
     let ltn = lt.len;
     let rtn = rt.len;
     texts_read(
         input,
         rt.at,
-        &sizes[..zn],
+        left_names,
+        left_sizes,
+        right_names,
+        right_sizes,
         &left_text[..ltn],
         &right_text[..rtn],
     )
@@ -516,7 +585,10 @@ fn texts(input: &[u8], from: usize) -> usize {
 
 fn policies(
     from: usize,
-    sizes: &[u16],
+    left_names: &[u8],
+    left_sizes: &[u16],
+    right_names: &[u8],
+    right_sizes: &[u16],
     left_kind: &[u8],
     left_first: &[u16],
     left_second: &[u16],
@@ -526,7 +598,10 @@ fn policies(
 ) -> usize {
     let mut answer = [7u64; 8];
     exports::netkat_policies(
-        sizes,
+        left_names,
+        left_sizes,
+        right_names,
+        right_sizes,
         left_kind,
         left_first,
         left_second,
@@ -544,7 +619,10 @@ fn of_pair(
     call: u32,
     input: &[u8],
     from: usize,
-    sizes: &[u16],
+    left_names: &[u8],
+    left_sizes: &[u16],
+    right_names: &[u8],
+    right_sizes: &[u16],
     left_kind: &[u8],
     left_first: &[u16],
     left_second: &[u16],
@@ -556,7 +634,10 @@ fn of_pair(
         return search(
             input,
             from,
-            sizes,
+            left_names,
+            left_sizes,
+            right_names,
+            right_sizes,
             left_kind,
             left_first,
             left_second,
@@ -569,7 +650,10 @@ fn of_pair(
         return evidence(
             input,
             from,
-            sizes,
+            left_names,
+            left_sizes,
+            right_names,
+            right_sizes,
             left_kind,
             left_first,
             left_second,
@@ -581,7 +665,10 @@ fn of_pair(
     if call == 8 {
         return policies(
             from,
-            sizes,
+            left_names,
+            left_sizes,
+            right_names,
+            right_sizes,
             left_kind,
             left_first,
             left_second,
@@ -593,7 +680,10 @@ fn of_pair(
     trace(
         input,
         from,
-        sizes,
+        left_names,
+        left_sizes,
+        right_names,
+        right_sizes,
         left_kind,
         left_first,
         left_second,
@@ -603,11 +693,17 @@ fn of_pair(
     )
 }
 
-fn pair(call: u32, input: &[u8], from: usize) -> usize {
-    let mut sizes = [0u16; 32];
-    let z = fill16(input, from, &mut sizes);
+fn pair(
+    call: u32,
+    input: &[u8],
+    from: usize,
+    left_names: &[u8],
+    left_sizes: &[u16],
+    right_names: &[u8],
+    right_sizes: &[u16],
+) -> usize {
     let mut left_kind = [0u8; 600];
-    let lk = harness::build(input, z.at, &mut left_kind);
+    let lk = harness::build(input, from, &mut left_kind);
     let mut left_first = [0u16; 600];
     let lf = fill16(input, lk.at, &mut left_first);
     let mut left_second = [0u16; 600];
@@ -618,7 +714,6 @@ fn pair(call: u32, input: &[u8], from: usize) -> usize {
     let rf = fill16(input, rk.at, &mut right_first);
     let mut right_second = [0u16; 600];
     let rs = fill16(input, rf.at, &mut right_second);
-    let zn = z.len;
     let lkn = lk.len;
     let lfn = lf.len;
     let lsn = ls.len;
@@ -629,7 +724,10 @@ fn pair(call: u32, input: &[u8], from: usize) -> usize {
         call,
         input,
         rs.at,
-        &sizes[..zn],
+        left_names,
+        left_sizes,
+        right_names,
+        right_sizes,
         &left_kind[..lkn],
         &left_first[..lfn],
         &left_second[..lsn],
@@ -639,24 +737,100 @@ fn pair(call: u32, input: &[u8], from: usize) -> usize {
     )
 }
 
+fn with_tables(
+    call: u32,
+    input: &[u8],
+    from: usize,
+    left_names: &[u8],
+    left_sizes: &[u16],
+    right_names: &[u8],
+    right_sizes: &[u16],
+) -> usize {
+    if call == 0 {
+        return values(
+            input,
+            from,
+            left_names,
+            left_sizes,
+            right_names,
+            right_sizes,
+        );
+    }
+    if call == 1 {
+        return number(
+            input,
+            from,
+            left_names,
+            left_sizes,
+            right_names,
+            right_sizes,
+        );
+    }
+    if call == 2 {
+        return policy(
+            input,
+            from,
+            left_names,
+            left_sizes,
+            right_names,
+            right_sizes,
+        );
+    }
+    if call == 3 {
+        return read(
+            input,
+            from,
+            left_names,
+            left_sizes,
+            right_names,
+            right_sizes,
+        );
+    }
+    if call == 7 {
+        return texts(
+            input,
+            from,
+            left_names,
+            left_sizes,
+            right_names,
+            right_sizes,
+        );
+    }
+    pair(
+        call,
+        input,
+        from,
+        left_names,
+        left_sizes,
+        right_names,
+        right_sizes,
+    )
+}
+
+// A call has its tables first.
 fn one_call(input: &[u8], from: usize) -> usize {
     let call = harness::scan(input, from);
-    if call.value == 0 {
-        return values(input, call.at);
-    }
-    if call.value == 1 {
-        return number(input, call.at);
-    }
-    if call.value == 2 {
-        return policy(input, call.at);
-    }
-    if call.value == 3 {
-        return read(input, call.at);
-    }
-    if call.value == 7 {
-        return texts(input, call.at);
-    }
-    pair(call.value, input, call.at)
+    let mut left_names = [0u8; 66000];
+    let ln = harness::build(input, call.at, &mut left_names);
+    let mut left_sizes = [0u16; 4200];
+    let ls = fill16(input, ln.at, &mut left_sizes);
+    let mut right_names = [0u8; 66000];
+    let rn = harness::build(input, ls.at, &mut right_names);
+    let mut right_sizes = [0u16; 4200];
+    let rs = fill16(input, rn.at, &mut right_sizes);
+    let lnn = ln.len;
+    let lsn = ls.len;
+    let rnn = rn.len;
+    let rsn = rs.len;
+    with_tables(
+        call.value,
+        input,
+        rs.at,
+        &left_names[..lnn],
+        &left_sizes[..lsn],
+        &right_names[..rnn],
+        &right_sizes[..rsn],
+    )
 }
 
 fn run(input: &[u8]) {

@@ -19,11 +19,9 @@ use netkat_reference::case::Case;
 use netkat_reference::generate::heavy::{self, Pair};
 use netkat_reference::generate::lent::fill;
 use netkat_reference::generate::{case, fixed, Extent};
-use netkat_reference::policy::MOST_NODES;
 use netkat_reference::program;
 use netkat_reference::random::Random;
 use netkat_reference::search::{Lists, LEAST_WORK, MOST_ROWS};
-use netkat_reference::text;
 
 /// Disagreements that are printed.
 const MOST_SHOWN: usize = 20;
@@ -187,10 +185,10 @@ fn heavy_cases() -> Vec<Case> {
             input: pair.input().into_bytes(),
             output: Vec::new(),
         });
-        cases.extend(searched(&pair));
+        cases.push(searched(&pair));
     }
     for pair in heavy::wide() {
-        cases.extend(searched(&pair).and_then(table));
+        cases.extend(table(searched(&pair)));
     }
     for (at, case) in cases.iter_mut().enumerate() {
         fill(case, at);
@@ -199,14 +197,13 @@ fn heavy_cases() -> Vec<Case> {
 }
 
 /// The search of a pair.
-fn searched(pair: &Pair) -> Option<Case> {
-    let nodes = |text: &str| text::nodes(text.as_bytes(), MOST_NODES).ok();
-    Some(Case::Search {
-        sizes: pair.sizes.clone(),
-        left: nodes(&pair.left)?,
-        right: nodes(&pair.right)?,
+fn searched(pair: &Pair) -> Case {
+    Case::Search {
+        tables: pair.tables(),
+        left: fixed::nodes_of(&pair.left),
+        right: fixed::nodes_of(&pair.right),
         lists: Lists::new(MOST_ROWS, MOST_ROWS, LEAST_WORK),
-    })
+    }
 }
 
 /// The check of the table that a search leaves, if its policies are equal.
@@ -217,7 +214,7 @@ fn table(mut search: Case) -> Option<Case> {
     };
     match search {
         Case::Search {
-            sizes,
+            tables,
             left,
             right,
             mut lists,
@@ -227,7 +224,7 @@ fn table(mut search: Case) -> Option<Case> {
             lists.right.truncate(rows);
             (lists.parent, lists.trace) = (Vec::new(), Vec::new());
             Some(Case::Evidence {
-                sizes,
+                tables,
                 left,
                 right,
                 lists,

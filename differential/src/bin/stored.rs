@@ -22,22 +22,27 @@ use netkat::lists::Numbers as Answer;
 use netkat_reference::case::Case;
 use netkat_reference::evidence::Record;
 use netkat_reference::generate::{case, fixed, Extent};
+use netkat_reference::names::{OwnedTable, OwnedTables};
 use netkat_reference::policy::OwnedLists;
 use netkat_reference::random::Random;
 use netkat_reference::search::Lists;
 
 /// Random cases that are tried.
-const TRIED: u64 = 3850;
+const TRIED: u64 = 2500;
 /// Longest random case that is kept.
-const LONGEST: usize = 1500;
+const LONGEST: usize = 1200;
 /// The program reads its input in blocks of this length; no case goes over a block's end, and the second part begins with one.
 const BLOCK: usize = 65_536;
 /// The line before the second part.
 const SECOND: &str = "calls of the second implementation\n";
+/// Equal entries in a row that are stored as one.
+const RUN: usize = 5;
 /// Each entry of a list that a call may write, before the call.
 const BEFORE: u8 = 7;
 /// Longest lists that are stored; the program has room for them.
-const MOST_SIZES: usize = 32;
+const MOST_CELLS: usize = 66_000;
+const MOST_SIZES: usize = 4_200;
+const MOST_VALUES: usize = 32;
 const MOST_NODES: usize = 600;
 const MOST_TEXT: usize = 8192;
 const MOST_ROWS: usize = 66_000;
@@ -147,6 +152,27 @@ impl Written for u64 {
     }
 }
 
+/// How often each part of a list stands there, and its entries: so many equal entries in a row are a part of their own.
+fn parts<T: Entry>(list: &[T]) -> Vec<(usize, &[T])> {
+    let mut parts = Vec::new();
+    let (mut plain, mut at) = (0, 0);
+    while at < list.len() {
+        let run = list[at..]
+            .iter()
+            .take_while(|entry| **entry == list[at])
+            .count();
+        if run >= RUN {
+            parts.push((1, &list[plain..at]));
+            parts.push((run, &list[at..=at]));
+            plain = at + run;
+        }
+        at += run;
+    }
+    parts.push((1, &list[plain..]));
+    parts.retain(|(_, part)| !part.is_empty());
+    parts
+}
+
 /// A case as numbers; none if a list is longer than is stored.
 struct Numbers(String);
 
@@ -155,25 +181,29 @@ impl Numbers {
         let _ = write!(self.0, "{number} ");
     }
 
-    /// A list that is only read, in at most two parts: the last entry is written once.
+    /// A list that is only read, in its parts.
     fn list<T: Entry>(&mut self, list: &[T], most: usize) -> Option<()> {
         if list.len() > most {
             return None;
         }
-        let last = match list.last() {
-            None => 0,
-            Some(last) => list.iter().rposition(|x| x != last).map_or(0, |at| at + 1),
-        };
-        let (first, again) = list.split_at(last);
-        let parts = [(1, first), (again.len(), &again[..again.len().min(1)])];
-        let parts = parts.iter().filter(|(_, part)| !part.is_empty());
-        self.number(parts.clone().count() as u32);
+        let parts = parts(list);
+        self.number(parts.len() as u32);
         for (times, part) in parts {
-            self.number(*times as u32);
+            self.number(times as u32);
             self.number(part.len() as u32);
             part.iter().for_each(|entry| entry.print(self));
         }
         Some(())
+    }
+
+    fn table(&mut self, table: &OwnedTable) -> Option<()> {
+        self.list(&table.cells, MOST_CELLS)?;
+        self.list(&table.sizes, MOST_SIZES)
+    }
+
+    fn tables(&mut self, tables: &OwnedTables) -> Option<()> {
+        self.table(&tables.left)?;
+        self.table(&tables.right)
     }
 
     /// A list that may be written: its length.
@@ -201,12 +231,12 @@ impl Numbers {
     fn pair(
         &mut self,
         call: u32,
-        sizes: &[u16],
+        tables: &OwnedTables,
         left: &OwnedLists,
         right: &OwnedLists,
     ) -> Option<()> {
         self.number(call);
-        self.list(sizes, MOST_SIZES)?;
+        self.tables(tables)?;
         self.nodes(left)?;
         self.nodes(right)
     }
@@ -215,86 +245,97 @@ impl Numbers {
     fn case(&mut self, case: &mut Case) -> Option<()> {
         match case {
             Case::Values {
-                sizes,
+                tables,
                 number,
                 values,
             } => {
                 self.number(0);
-                self.list(sizes, MOST_SIZES)?;
+                self.tables(tables)?;
                 self.number((*number).into());
-                self.lent(values, MOST_SIZES)
+                self.lent(values, MOST_VALUES)
             }
-            Case::Number { sizes, values } => {
+            Case::Number { tables, values } => {
                 self.number(1);
-                self.list(sizes, MOST_SIZES)?;
-                self.list(values, MOST_SIZES)
+                self.tables(tables)?;
+                self.list(values, MOST_VALUES)
             }
-            Case::Policy { sizes, policy } => {
+            Case::Policy { tables, policy } => {
                 self.number(2);
-                self.list(sizes, MOST_SIZES)?;
+                self.tables(tables)?;
                 self.nodes(policy)
             }
-            Case::Policies { sizes, left, right } => self.pair(8, sizes, left, right),
-            Case::Read { text, nodes } => {
+            Case::Policies {
+                tables,
+                left,
+                right,
+            } => self.pair(8, tables, left, right),
+            Case::Read {
+                tables,
+                side,
+                text,
+                nodes,
+            } => {
                 self.number(3);
+                self.tables(tables)?;
+                self.number((*side).into());
                 self.list(text, MOST_TEXT)?;
                 self.lent(&mut nodes.kind, MOST_NODES)?;
                 self.lent(&mut nodes.first, MOST_NODES)?;
                 self.lent(&mut nodes.second, MOST_NODES)
             }
             Case::Search {
-                sizes,
+                tables,
                 left,
                 right,
                 lists,
             } => {
-                self.pair(4, sizes, left, right)?;
+                self.pair(4, tables, left, right)?;
                 self.all_lent(lists)
             }
             Case::Evidence {
-                sizes,
+                tables,
                 left,
                 right,
                 lists,
             } => {
-                self.pair(5, sizes, left, right)?;
+                self.pair(5, tables, left, right)?;
                 self.list(&lists.packet, MOST_ROWS)?;
                 self.list(&lists.left, MOST_ROWS)?;
                 self.list(&lists.right, MOST_ROWS)?;
                 self.lent(&mut lists.work, MOST_WORK)
             }
             Case::Records {
-                sizes,
+                tables,
                 left,
                 right,
                 rows,
                 work,
             } => {
-                self.pair(9, sizes, left, right)?;
+                self.pair(9, tables, left, right)?;
                 self.list(rows, MOST_ROWS)?;
                 self.lent(work, MOST_WORK)
             }
             Case::Trace {
-                sizes,
+                tables,
                 left,
                 right,
                 entering,
                 trace,
                 work,
             } => {
-                self.pair(6, sizes, left, right)?;
+                self.pair(6, tables, left, right)?;
                 self.number((*entering).into());
                 self.list(trace, MOST_ROWS)?;
                 self.lent(work, MOST_WORK)
             }
             Case::Texts {
-                sizes,
+                tables,
                 left,
                 right,
                 lists,
             } => {
                 self.number(7);
-                self.list(sizes, MOST_SIZES)?;
+                self.tables(tables)?;
                 self.list(left, MOST_TEXT)?;
                 self.list(right, MOST_TEXT)?;
                 self.all_lent(lists)
@@ -326,6 +367,20 @@ impl Given<'_> {
         Some(vec![T::BEFORE; self.number()? as usize])
     }
 
+    fn table(&mut self) -> Option<OwnedTable> {
+        Some(OwnedTable {
+            cells: self.list()?,
+            sizes: self.list()?,
+        })
+    }
+
+    fn tables(&mut self) -> Option<OwnedTables> {
+        Some(OwnedTables {
+            left: self.table()?,
+            right: self.table()?,
+        })
+    }
+
     fn nodes(&mut self) -> Option<OwnedLists> {
         Some(OwnedLists {
             kind: self.list()?,
@@ -348,19 +403,21 @@ impl Given<'_> {
     fn case(&mut self) -> Option<Case> {
         let case = match self.number()? {
             0 => Case::Values {
-                sizes: self.list()?,
+                tables: self.tables()?,
                 number: u16::parse(self)?,
                 values: self.lent()?,
             },
             1 => Case::Number {
-                sizes: self.list()?,
+                tables: self.tables()?,
                 values: self.list()?,
             },
             2 => Case::Policy {
-                sizes: self.list()?,
+                tables: self.tables()?,
                 policy: self.nodes()?,
             },
             3 => Case::Read {
+                tables: self.tables()?,
+                side: u8::parse(self)?,
                 text: self.list()?,
                 nodes: OwnedLists {
                     kind: self.lent()?,
@@ -369,13 +426,13 @@ impl Given<'_> {
                 },
             },
             4 => Case::Search {
-                sizes: self.list()?,
+                tables: self.tables()?,
                 left: self.nodes()?,
                 right: self.nodes()?,
                 lists: self.all_lent()?,
             },
             5 => Case::Evidence {
-                sizes: self.list()?,
+                tables: self.tables()?,
                 left: self.nodes()?,
                 right: self.nodes()?,
                 lists: Lists {
@@ -388,7 +445,7 @@ impl Given<'_> {
                 },
             },
             6 => Case::Trace {
-                sizes: self.list()?,
+                tables: self.tables()?,
                 left: self.nodes()?,
                 right: self.nodes()?,
                 entering: u16::parse(self)?,
@@ -396,18 +453,18 @@ impl Given<'_> {
                 work: self.lent()?,
             },
             7 => Case::Texts {
-                sizes: self.list()?,
+                tables: self.tables()?,
                 left: self.list()?,
                 right: self.list()?,
                 lists: self.all_lent()?,
             },
             8 => Case::Policies {
-                sizes: self.list()?,
+                tables: self.tables()?,
                 left: self.nodes()?,
                 right: self.nodes()?,
             },
             9 => Case::Records {
-                sizes: self.list()?,
+                tables: self.tables()?,
                 left: self.nodes()?,
                 right: self.nodes()?,
                 rows: self.list()?,

@@ -2,12 +2,14 @@
 
 use super::damage;
 use super::lent::entry;
+use super::named::{self, named, Named};
 use super::run_out;
 use super::tree::{self, Tree};
 use crate::answer::{Refusal, Verdict};
 use crate::automaton::{Automaton, State, Step, START};
 use crate::case::Case;
 use crate::evidence::Record;
+use crate::names::OwnedTables;
 use crate::packets::{set, Packets};
 use crate::policy::{self, OwnedLists, MOST_DUPS, MOST_NODES};
 use crate::random::Random;
@@ -74,24 +76,22 @@ pub(super) fn legal_sizes(random: &mut Random, extent: Extent) -> Vec<u16> {
     random.pick(if large { LARGE } else { SMALL }).to_vec()
 }
 
-/// Sizes, a few of them damaged. Policies are made over the legal ones.
-fn sizes(random: &mut Random, legal: &[u16]) -> Vec<u16> {
-    if random.one_in(25) {
-        damage::sizes(random, legal)
+/// Tables, a few of them damaged. Policies are made over the legal ones.
+fn tables(random: &mut Random, legal: &Named, one_damaged_in: usize) -> OwnedTables {
+    if random.one_in(one_damaged_in) {
+        damage::tables(random, legal)
     } else {
-        legal.to_vec()
+        legal.tables.clone()
     }
 }
 
+/// Of so many calls on policies or texts, one has damaged tables.
+const SELDOM: usize = 12;
+
 fn values(random: &mut Random) -> Case {
     let legal = legal_sizes(random, Extent::Large);
-    let sizes = match random.below(4) {
-        0 => damage::sizes(random, &legal),
-        _ => legal,
-    };
-    let packets = sizes
-        .iter()
-        .fold(1usize, |count, &size| count.saturating_mul(size.into()));
+    let named = named(random, &legal);
+    let packets: usize = legal.iter().map(|&size| usize::from(size)).product();
     let number = match random.below(4) {
         0 => random.bits() as u16,
         1 => packets as u16,
@@ -99,11 +99,11 @@ fn values(random: &mut Random) -> Case {
     };
     let length = match random.below(8) {
         0 => random.below(11),
-        _ => sizes.len(),
+        _ => legal.len(),
     };
     let values = (0..length).map(|_| random.bits() as u16).collect();
     Case::Values {
-        sizes,
+        tables: tables(random, &named, 3),
         number,
         values,
     }
@@ -123,11 +123,9 @@ fn number(random: &mut Random) -> Case {
         3 => values.truncate(place),
         _ => {}
     }
-    let sizes = match random.below(5) {
-        0 => damage::sizes(random, &legal),
-        _ => legal,
-    };
-    Case::Number { sizes, values }
+    let named = named(random, &legal);
+    let tables = tables(random, &named, 3);
+    Case::Number { tables, values }
 }
 
 /// A random tree of a size that the extent allows.
@@ -227,13 +225,14 @@ fn policy_case(random: &mut Random, extent: Extent) -> Case {
     if !random.one_in(4) {
         policy = damage::nodes(random, &legal, &policy);
     }
-    let sizes = sizes(random, &legal);
-    Case::Policy { sizes, policy }
+    let named = named(random, &legal);
+    let tables = tables(random, &named, SELDOM);
+    Case::Policy { tables, policy }
 }
 
 /// A text of a tree, perhaps damaged.
-fn text(random: &mut Random, policy: &Tree, one_damaged_in: usize) -> Vec<u8> {
-    let text = tree::text(random, policy);
+fn text(random: &mut Random, names: &[String], policy: &Tree, one_damaged_in: usize) -> Vec<u8> {
+    let text = tree::text(random, names, policy);
     if random.one_in(one_damaged_in) {
         damage::text(random, &text)
     } else {
@@ -243,8 +242,11 @@ fn text(random: &mut Random, policy: &Tree, one_damaged_in: usize) -> Vec<u8> {
 
 fn read(random: &mut Random) -> Case {
     let sizes = legal_sizes(random, Extent::Large);
-    let tree = random_tree(random, &sizes, Extent::Small);
-    let text = text(random, &tree, 2);
+    let named = named(random, &sizes);
+    let spoken = named.spoken(random);
+    let tree = random_tree(random, &named.sizes_of(&spoken), Extent::Small);
+    let tree = named::over(&spoken, &tree);
+    let text = text(random, &named.names, &tree, 2);
     let needed = tree.size();
     let mut length = || match random.below(8) {
         0 => needed,
@@ -262,7 +264,12 @@ fn read(random: &mut Random) -> Case {
         first: narrow(&entries(random, lengths[1])),
         second: narrow(&entries(random, lengths[2])),
     };
-    Case::Read { text, nodes }
+    Case::Read {
+        tables: tables(random, &named, 8),
+        side: random.pick(&[0, 1, 1, 1, 2, 2, 2, 3, 255]),
+        text,
+        nodes,
+    }
 }
 
 /// What stands in a lent list before: another number at each place, with some at random at the head.
@@ -308,7 +315,9 @@ pub(super) fn needs(sizes: &[u16], left: &OwnedLists, right: &OwnedLists, extent
     };
     let mut lists = Lists::new(room, room, LEAST_WORK);
     // No row has two empty states, so what is not 0 was written.
-    let answer = search(sizes, left.lists(), right.lists(), lists.lend());
+    let tables = OwnedTables::numbered(sizes);
+    let (one, other) = (left.lists(), right.lists());
+    let answer = search(tables.lend(), one, other, lists.lend());
     let rows = lists
         .left
         .iter()
@@ -397,45 +406,60 @@ fn search_case(random: &mut Random, extent: Extent) -> Case {
     let needs = needs(&legal, &left, &right, extent);
     let lists = lent(random, &needs);
     let (left, right) = damaged_pair(random, &legal, left, right);
+    let named = named(random, &legal);
     Case::Search {
-        sizes: sizes(random, &legal),
+        tables: tables(random, &named, SELDOM),
         left,
         right,
         lists,
     }
+}
+
+/// Tables and two trees over the fields that texts are made over.
+fn spoken_pair(random: &mut Random, extent: Extent) -> (Named, Tree, Tree) {
+    let legal = legal_sizes(random, extent);
+    let named = named(random, &legal);
+    let spoken = named.spoken(random);
+    let (left, right) = pair(random, &named.sizes_of(&spoken), extent);
+    let (left, right) = (named::over(&spoken, &left), named::over(&spoken, &right));
+    (named, left, right)
 }
 
 fn texts(random: &mut Random, extent: Extent) -> Case {
-    let legal = legal_sizes(random, extent);
-    let (left, right) = pair(random, &legal, extent);
-    let needs = needs(&legal, &left.lists(), &right.lists(), extent);
+    let (named, left, right) = spoken_pair(random, extent);
+    let needs = needs(&named.sizes, &left.lists(), &right.lists(), extent);
     let lists = lent(random, &needs);
-    let (left, right) = text_pair(random, &legal, &left, &right);
+    let (left, right) = text_pair(random, &named, &left, &right);
     Case::Texts {
-        sizes: other_sizes(random, &legal, extent),
+        tables: other_tables(random, &named),
         left,
         right,
         lists,
     }
 }
 
-/// Sizes for texts, now and then other legal ones, so that fields or values may be out of range.
-fn other_sizes(random: &mut Random, legal: &[u16], extent: Extent) -> Vec<u16> {
-    if random.one_in(10) {
-        legal_sizes(random, extent)
-    } else {
-        sizes(random, legal)
+/// Tables for texts, now and then with other sizes, so that values may be out of range.
+fn other_tables(random: &mut Random, named: &Named) -> OwnedTables {
+    let mut tables = tables(random, named, SELDOM);
+    if random.one_in(12) {
+        tables.left.sizes.fill(1);
+        tables.right.sizes.fill(1);
     }
+    tables
 }
 
 /// Texts of two trees; each may be damaged, have too many dups or nearly so, or negate what is no test.
-fn text_pair(random: &mut Random, sizes: &[u16], left: &Tree, right: &Tree) -> (Vec<u8>, Vec<u8>) {
+fn text_pair(random: &mut Random, named: &Named, left: &Tree, right: &Tree) -> (Vec<u8>, Vec<u8>) {
+    let names = &named.names;
     let dups = vec!["dup"; MOST_DUPS + random.below(2)]
         .join(";")
         .into_bytes();
-    let negated = damage::negated(random, sizes);
-    let negated = tree::text(random, &negated);
-    let (left, right) = (text(random, left, 10), text(random, right, 10));
+    let negated = damage::negated(random, &named.sizes);
+    let negated = tree::text(random, names, &negated);
+    let (left, right) = (
+        text(random, names, left, 10),
+        text(random, names, right, 10),
+    );
     match random.below(60) {
         0 => (dups, right),
         1 => (left, dups),
@@ -487,8 +511,9 @@ fn evidence(random: &mut Random, extent: Extent) -> Case {
     }
     lists.work = work(random);
     let (left, right) = damaged_pair(random, &legal, left, right);
+    let named = named(random, &legal);
     Case::Evidence {
-        sizes: sizes(random, &legal),
+        tables: tables(random, &named, SELDOM),
         left,
         right,
         lists,
@@ -522,8 +547,9 @@ fn records(
     }
     let work = work(random);
     let (left, right) = damaged_pair(random, legal, left, right);
+    let named = named(random, legal);
     Case::Records {
-        sizes: sizes(random, legal),
+        tables: tables(random, &named, SELDOM),
         left,
         right,
         rows: records,
@@ -639,8 +665,9 @@ fn trace(random: &mut Random, extent: Extent) -> Case {
         _ => {}
     }
     let (left, right) = damaged_pair(random, &legal, left, right);
+    let named = named(random, &legal);
     Case::Trace {
-        sizes: sizes(random, &legal),
+        tables: tables(random, &named, SELDOM),
         left,
         right,
         entering,
@@ -650,20 +677,19 @@ fn trace(random: &mut Random, extent: Extent) -> Case {
 }
 
 fn program(random: &mut Random, extent: Extent) -> Case {
-    let legal = legal_sizes(random, extent);
-    let (left, right) = pair(random, &legal, extent);
-    let printed: Vec<String> = other_sizes(random, &legal, extent)
-        .iter()
-        .map(|size| size.to_string())
-        .collect();
-    let (left, right) = text_pair(random, &legal, &left, &right);
-    let mut lines = vec![printed.join(",").into_bytes(), left, right];
-    match random.below(24) {
-        0 => lines[0] = sizes_line(random),
-        1 => drop(lines.pop()),
-        2 => lines.push(Vec::new()),
-        3 => lines[random.below(3)].push(b'\r'),
-        4 => lines.insert(random.below(4), b"id".to_vec()),
+    let (named, left, right) = spoken_pair(random, extent);
+    let tables = other_tables(random, &named);
+    let (left, right) = text_pair(random, &named, &left, &right);
+    let one = named::line(&tables.left);
+    let mut lines = vec![one, named::line(&tables.right), left, right];
+    match random.below(20) {
+        0 => lines[0] = table_line(random),
+        1 => lines[1] = table_line(random),
+        2 => lines[random.below(2)].extend_from_slice(&table_line(random)),
+        3 => drop(lines.pop()),
+        4 => lines.push(Vec::new()),
+        5 => lines[random.below(4)].push(b'\r'),
+        6 => lines.insert(random.below(5), b"id".to_vec()),
         _ => {}
     }
     let mut input = Vec::new();
@@ -693,35 +719,62 @@ fn widen(random: &mut Random, input: &mut Vec<u8>) {
         0 => 4_096 * random.between(1, 8) + random.below(3) - 1,
         _ => random.between(4_097, 32_768),
     };
-    let first_end = input.iter().position(|&byte| byte == b'\n');
-    let at = first_end.map_or(0, |end| end + 1);
+    let mut ends = (0..input.len()).filter(|&at| input[at] == b'\n');
+    let at = ends.nth(1).map_or(0, |end| end + 1);
     let blanks = length.saturating_sub(input.len());
     input.splice(at..at, vec![b' '; blanks]);
 }
 
-/// A sizes line, mostly malformed.
-fn sizes_line(random: &mut Random) -> Vec<u8> {
+/// A line of a table, mostly malformed or with a name that is none.
+fn table_line(random: &mut Random) -> Vec<u8> {
     let lines = [
         "",
         ",",
-        "2,",
-        ",2",
-        "2,,2",
-        " 2",
-        "2 ",
-        "02",
-        "65536",
-        "65535",
-        "0",
-        "f0",
-        "-1",
-        "2;2",
-        "1,1,1,1,1,1,1,1,1",
-        "5,205",
-        "1025",
-        "99999999999999999999",
-        "+1",
-        "2\t",
+        "a",
+        "a=",
+        "=1",
+        "=",
+        "a==1",
+        "a=1=1",
+        "a=1,",
+        ",a=1",
+        "a=1,,b=1",
+        "a=1;b=1",
+        "a=01",
+        "a=00",
+        "a=1 ",
+        " a=1",
+        "a =1",
+        "a= 1",
+        "a=+1",
+        "a=-1",
+        "a=1.0",
+        "a=65535",
+        "a=65536",
+        "a=99999999999999999999",
+        "a=0",
+        "A=1",
+        "0=1",
+        "a=b",
+        "dup=1",
+        "id=1",
+        "drop=1",
+        "a=1,a=1",
+        "a=1,a=2",
+        "a=1,b=1,c=1,d=1,e=1,f=1,g=1,h=1,i=1",
+        "abcdefghijklmno=1",
+        "abcdefghijklmnop=1",
+        "a=5,b=205",
+        "a=1025",
+        "a\t=1",
+        "a=1\t",
+        "a\0=1",
+        "\0=1",
     ];
+    if random.one_in(6) {
+        let length = random.pick(&[255, 256, 257, 258, 271, 512, 513, 1_000, 30_000]);
+        let name = random.pick(&["a", "ab", "f0"]).repeat(length);
+        return format!("{}=1", &name[..length]).into_bytes();
+    }
     random.pick(&lines).as_bytes().to_vec()
 }

@@ -1,6 +1,8 @@
 //! Illegal inputs: one part of a legal one changed, or nothing legal about it.
 
+use super::named::{named, Named};
 use super::tree::{not, sequence, star, sum, tests, tree, Tree};
+use crate::names::{OwnedTable, OwnedTables, CELL};
 use crate::policy::{kind, Act, OwnedLists};
 use crate::random::Random;
 
@@ -26,6 +28,106 @@ pub fn sizes(random: &mut Random, legal: &[u16]) -> Vec<u16> {
         }
     }
     sizes
+}
+
+/// Tables meant for one of the causes 4 with side 0, 20, 21, 1, 2 and 3, or for two of them. A change may hit none: what is
+/// refused is for the call to say.
+pub fn tables(random: &mut Random, legal: &Named) -> OwnedTables {
+    let (mut tables, changes) = match random.below(2) {
+        0 => {
+            let sizes = sizes(random, &legal.sizes);
+            (named(random, &sizes).tables, random.pick(&[0, 0, 1]))
+        }
+        _ => (legal.tables.clone(), random.between(1, 2)),
+    };
+    for _ in 0..changes {
+        let table = match random.below(2) {
+            0 => &mut tables.left,
+            _ => &mut tables.right,
+        };
+        change(random, table);
+    }
+    tables
+}
+
+/// Names that are none, some of them too long for a cell.
+const NO_NAMES: &[&str] = &[
+    "",
+    "drop",
+    "id",
+    "dup",
+    "0",
+    "0a",
+    "9",
+    "A",
+    "aB",
+    "a b",
+    " a",
+    "a ",
+    "a_b",
+    "a-1",
+    "a=",
+    "a\0",
+    "\0",
+    "a{",
+    "`a",
+    "a/",
+    "a:",
+    "\u{e9}",
+    "abcdefghijklmnop",
+    "abcdefghijklmnO",
+    "abcdefghijklmnopqrstuvwxyz",
+];
+
+/// Bytes next to those that names are made of, and some that they are made of.
+const NAME_BYTES: &[u8] = b"`az{/09:@AZ[_ \0\x7f\x80\xe1\xff";
+
+/// One change of a table.
+fn change(random: &mut Random, table: &mut OwnedTable) {
+    let names = table.sizes.len();
+    let at = random.below(names.max(1));
+    match random.below(14) {
+        0 => table.cells.push(b'a'),
+        1 => drop(table.cells.pop()),
+        2 => table.sizes.push(1),
+        3 => drop(table.sizes.pop()),
+        4 => table.cells.truncate(table.cells.len().saturating_sub(CELL)),
+        5 => *table = OwnedTable::default(),
+        6 => lengthen(random, table),
+        7 => {
+            lengthen(random, table);
+            table.push(random.pick(NO_NAMES).as_bytes(), 1);
+        }
+        8 => table.push(random.pick(NO_NAMES).as_bytes(), 1),
+        9 => table.cells.splice(0..0, [0; CELL]).for_each(drop),
+        10 if names > 0 => table.sizes[at] = 0,
+        11 if names > 0 => table.sizes[at] = table.sizes[at].wrapping_add(1),
+        _ => change_cell(random, table, at),
+    }
+}
+
+/// Some names more, often so many that there are over eight.
+fn lengthen(random: &mut Random, table: &mut OwnedTable) {
+    for at in 0..random.pick(&[1, 2, 6, 8, 9, 12, 30]) {
+        table.push(format!("g{at}").as_bytes(), 1);
+    }
+}
+
+/// One cell's length or one of its bytes changed, or the cell made the same as another.
+fn change_cell(random: &mut Random, table: &mut OwnedTable, at: usize) {
+    let count = table.cells.len() / CELL;
+    if count == 0 {
+        return;
+    }
+    let start = at.min(count - 1) * CELL;
+    match random.below(3) {
+        0 => table.cells[start] = random.pick(&[0, 1, 2, 14, 15, 16, 17, 128, 255]),
+        1 => table.cells[start + random.between(1, 4)] = random.pick(NAME_BYTES),
+        _ => {
+            let other = random.below(count) * CELL;
+            table.cells.copy_within(other..other + CELL, start);
+        }
+    }
 }
 
 /// Node lists meant for one of the causes 4 to 9 and 19. The change may hit an earlier cause or none: what is refused is for
@@ -164,6 +266,8 @@ pub fn text(random: &mut Random, legal: &[u8]) -> Vec<u8> {
 /// Words good and bad.
 const WORDS: &[&str] = &[
     "f0",
+    "sw",
+    "aa",
     "f7",
     "f8",
     "f",

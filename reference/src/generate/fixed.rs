@@ -1,11 +1,14 @@
 //! Cases that are always worth running: the pairs and edges that the requirements name, and each refusal.
 
+use super::fixed_names;
 use super::heavy;
 use super::lent::fill;
+use crate::answer::Side;
 use crate::automaton::State;
 use crate::case::Case;
 use crate::evidence::Record;
-use crate::policy::{kind, OwnedLists, MOST_DUPS};
+use crate::names::{Fields, OwnedTables, MOST_FIELDS};
+use crate::policy::{kind, OwnedLists, MOST_DUPS, MOST_NODES};
 use crate::search::{Lists, LEAST_WORK, MOST_ROWS};
 use crate::text;
 
@@ -29,7 +32,9 @@ pub fn cases() -> Vec<Case> {
     cases.extend(record_tables());
     cases.extend(traces());
     cases.extend(large_tables());
+    cases.extend(fixed_names::cases());
     cases.extend(inputs().into_iter().map(program));
+    cases.extend(fixed_names::inputs().into_iter().map(program));
     for (at, case) in cases.iter_mut().enumerate() {
         fill(case, at);
     }
@@ -38,12 +43,12 @@ pub fn cases() -> Vec<Case> {
 
 fn turning() -> Vec<Case> {
     let values = |sizes: &[u16], number, length| Case::Values {
-        sizes: sizes.to_vec(),
+        tables: OwnedTables::numbered(sizes),
         number,
         values: vec![0; length],
     };
     let number = |sizes: &[u16], values: &[u16]| Case::Number {
-        sizes: sizes.to_vec(),
+        tables: OwnedTables::numbered(sizes),
         values: values.to_vec(),
     };
     vec![
@@ -79,9 +84,16 @@ fn nodes(given: &[(u8, u16, u16)]) -> OwnedLists {
     lists
 }
 
-/// The nodes of a legal text; none of another.
-fn nodes_of(text: &str) -> OwnedLists {
-    text::nodes(text.as_bytes(), 512).unwrap_or_default()
+/// The fields f0 to f7.
+pub fn eight_fields() -> OwnedTables {
+    OwnedTables::numbered(&[2; MOST_FIELDS])
+}
+
+/// The nodes of a legal text over f0 to f7; none of another.
+pub fn nodes_of(text: &str) -> OwnedLists {
+    let fields = Fields::new(eight_fields().lend());
+    let nodes = |fields| text::nodes(&fields, Side::Left, text.as_bytes(), MOST_NODES);
+    fields.and_then(nodes).unwrap_or_default()
 }
 
 /// Nodes of a kind with one child on a leaf, so many nodes in all.
@@ -152,12 +164,12 @@ fn policies() -> Vec<Case> {
         nodes_of("!f0=0"),
     ];
     let policy = |policy| Case::Policy {
-        sizes: vec![2, 3],
+        tables: OwnedTables::numbered(&[2, 3]),
         policy,
     };
     // each beside the next, on either side
     let pairs = lists.windows(2).map(|two| Case::Policies {
-        sizes: vec![2, 3],
+        tables: OwnedTables::numbered(&[2, 3]),
         left: two[0].clone(),
         right: two[1].clone(),
     });
@@ -173,6 +185,8 @@ fn read(text: &str, room: usize) -> Case {
         second: vec![0; room + 2],
     };
     Case::Read {
+        tables: eight_fields(),
+        side: 1,
         text: text.as_bytes().to_vec(),
         nodes,
     }
@@ -413,7 +427,7 @@ fn lent(pair: &Pair) -> Lists {
 fn search_nodes(pair: &Pair, lists: Lists) -> Case {
     let (sizes, left, right, ..) = pair;
     Case::Search {
-        sizes: sizes.clone(),
+        tables: OwnedTables::numbered(sizes),
         left: nodes_of(left),
         right: nodes_of(right),
         lists,
@@ -423,7 +437,7 @@ fn search_nodes(pair: &Pair, lists: Lists) -> Case {
 fn search_texts(pair: &Pair, lists: Lists) -> Case {
     let (sizes, left, right, ..) = pair;
     Case::Texts {
-        sizes: sizes.clone(),
+        tables: OwnedTables::numbered(sizes),
         left: left.as_bytes().to_vec(),
         right: right.as_bytes().to_vec(),
         lists,
@@ -529,7 +543,7 @@ fn table(left: &str, right: &str, rows: &[Row], work: usize) -> Case {
         lists.right.push(right);
     }
     Case::Evidence {
-        sizes: vec![2],
+        tables: OwnedTables::numbered(&[2]),
         left: nodes_of(left),
         right: nodes_of(right),
         lists,
@@ -618,7 +632,7 @@ fn records(left: &str, right: &str, rows: &[Row], parent: fn(usize) -> u16, work
         parent: parent(number),
     };
     Case::Records {
-        sizes: vec![2],
+        tables: OwnedTables::numbered(&[2]),
         left: nodes_of(left),
         right: nodes_of(right),
         rows: rows.iter().enumerate().map(record).collect(),
@@ -676,7 +690,7 @@ fn traces() -> Vec<Case> {
     let trace = |left: &str, right: &str| {
         let (left, right) = (nodes_of(left), nodes_of(right));
         given.map(|(entering, trace, work)| Case::Trace {
-            sizes: vec![2],
+            tables: OwnedTables::numbered(&[2]),
             left: left.clone(),
             right: right.clone(),
             entering,
@@ -700,63 +714,67 @@ fn program(input: String) -> Case {
 
 fn inputs() -> Vec<String> {
     let mut inputs: Vec<String> = [
-        "2\nf0=0;dup\ndup;f0=0\n",
-        "2\r\nf0=0;dup\r\ndup;f0=0\r\n",
-        "2\r\nf0=0;dup\ndup;f0=0",
-        "1\ndup\ndup;dup\n",
-        "3\nf0=0+f0=1\nid",
+        "f0=2\nf0=2\nf0=0;dup\ndup;f0=0\n",
+        "f0=2\r\nf0=2\r\nf0=0;dup\r\ndup;f0=0\r\n",
+        "f0=2\r\nf0=2\r\nf0=0;dup\ndup;f0=0",
+        "f0=1\nf0=1\ndup\ndup;dup\n",
+        "f0=3\nf0=3\nf0=0+f0=1\nid",
         "",
         "\n",
-        "2\nid\n",
-        "2\nid\n\n",
-        "2\nid\n\r\n",
-        "2\nid\nid\n\n",
-        "2\nid\nid\n\r",
-        "2\nid\nid\r",
-        "2\nid\r\r\nid",
-        "2\r\r\nid\nid",
-        "\nid\nid",
-        "2,\nid\nid",
-        "2, 2\nid\nid",
-        "02\nid\nid",
-        "65536\nid\nid",
-        "65535\n?\nid",
-        "0\n?\nid",
-        "1,1,1,1,1,1,1,1,0\n?\nid",
-        "5,205\n?\nid",
-        "32,32\nf0=31\nf0=31;f1<-31",
-        "2\n?\n?",
-        "2\nid\n id ?",
-        "2\nid;f0=2\nf0=2",
-        "2\nid\nid;f1=0",
-        "2\ndup;!f0=0\n!f0=0;dup\n",
-        "2,2\n!(f0=0;f1=0)\nf0!=0+f1!=0",
-        "3\n!f0=0\nf0=1",
-        "2\n!(f0=0*)\nid",
-        "2\nid\n!!dup",
-        "2\n!(f0=0+dup)\n!dup",
-        "2\nid\nf0 ! = 0",
-        "2\n!!=0\n!",
-        "2\n!\nid",
+        "f0=2\nf0=2\nid\n",
+        "f0=2\nf0=2\nid\n\n",
+        "f0=2\nf0=2\nid\n\r\n",
+        "f0=2\nf0=2\nid\nid\n\n",
+        "f0=2\nf0=2\nid\nid\n\r",
+        "f0=2\nf0=2\nid\nid\r",
+        "f0=2\nf0=2\nid\r\r\nid",
+        "f0=2\r\r\nf0=2\nid\nid",
+        "f0=2\n\nid\nid",
+        "2\n2\nid\nid",
+        "f0=2, f1=2\nf0=2\nid\nid",
+        "f0=02\nf0=02\nid\nid",
+        "f0=65536\nf0=65536\nid\nid",
+        "f0=65535\nf0=65535\n?\nid",
+        "f0=0\nf0=0\n?\nid",
+        "f0=1,f1=1,f2=1,f3=1,f4=1,f5=1,f6=1,f7=1,f8=0\nf0=1,f1=1,f2=1,f3=1,f4=1,f5=1,f6=1,f7=1,f8=0\n?\nid",
+        "f0=5,f1=205\nf0=5,f1=205\n?\nid",
+        "f0=32,f1=32\nf0=32,f1=32\nf0=31\nf0=31;f1<-31",
+        "f0=2\nf0=2\n?\n?",
+        "f0=2\nf0=2\nid\n id ?",
+        "f0=2\nf0=2\nid;f0=2\nf0=2",
+        "f0=2\nf0=2\nid\nid;f1=0",
+        "f0=2\nf0=2\ndup;!f0=0\n!f0=0;dup\n",
+        "f0=2,f1=2\nf0=2,f1=2\n!(f0=0;f1=0)\nf0!=0+f1!=0",
+        "f0=3\nf0=3\n!f0=0\nf0=1",
+        "f0=2\nf0=2\n!(f0=0*)\nid",
+        "f0=2\nf0=2\nid\n!!dup",
+        "f0=2\nf0=2\n!(f0=0+dup)\n!dup",
+        "f0=2\nf0=2\nid\nf0 ! = 0",
+        "f0=2\nf0=2\n!!=0\n!",
+        "f0=2\nf0=2\n!\nid",
     ]
     .map(String::from)
     .to_vec();
-    inputs.push(format!("2\nid\n{}", nested(65)));
-    inputs.push(format!("2\nid\nid{}", "*".repeat(512)));
-    inputs.push(format!("2\n{}\n{}", dups(MOST_DUPS, "+"), dups(62, "+")));
-    inputs.push(format!("2\n{}\nid", dups(MOST_DUPS + 1, "+")));
-    inputs.push(format!("2\n{}\n!dup", dups(MOST_DUPS + 1, "+")));
+    inputs.push(format!("f0=2\nf0=2\nid\n{}", nested(65)));
+    inputs.push(format!("f0=2\nf0=2\nid\nid{}", "*".repeat(512)));
+    inputs.push(format!(
+        "f0=2\nf0=2\n{}\n{}",
+        dups(MOST_DUPS, "+"),
+        dups(62, "+")
+    ));
+    inputs.push(format!("f0=2\nf0=2\n{}\nid", dups(MOST_DUPS + 1, "+")));
+    inputs.push(format!("f0=2\nf0=2\n{}\n!dup", dups(MOST_DUPS + 1, "+")));
     inputs.push(heavy::long_lines().input());
-    inputs.push(format!("2\n{0}id\n{0}drop", negations(511)));
-    inputs.push(format!("2\nid\n{}id", negations(513)));
-    inputs.push(format!("2\n{}id\nid", negations(32_760)));
-    inputs.push(format!("1024\n{0}\n{0}", dups(3, ";")));
-    inputs.push(format!("1024\n{0}\n{0}", dups(4, ";")));
+    inputs.push(format!("f0=2\nf0=2\n{0}id\n{0}drop", negations(511)));
+    inputs.push(format!("f0=2\nf0=2\nid\n{}id", negations(513)));
+    inputs.push(format!("f0=2\nf0=2\n{}id\nid", negations(32_753)));
+    inputs.push(format!("f0=1024\nf0=1024\n{0}\n{0}", dups(3, ";")));
+    inputs.push(format!("f0=1024\nf0=1024\n{0}\n{0}", dups(4, ";")));
     // a text that ends next to the end of a block of 4,096 bytes
-    for width in [4_084, 4_085, 4_086, 8_181] {
-        inputs.push(format!("2\n{:>width$}\ndup;f0=0", "f0=0;dup"));
+    for width in [4_076, 4_077, 4_078, 8_173] {
+        inputs.push(format!("f0=2\nf0=2\n{:>width$}\ndup;f0=0", "f0=0;dup"));
     }
-    inputs.push(format!("{:<32768}", "2\nid\nid"));
-    inputs.push(format!("{:<32769}", "2\nid\nid"));
+    inputs.push(format!("{:<32768}", "f0=2\nf0=2\nid\nid"));
+    inputs.push(format!("{:<32769}", "f0=2\nf0=2\nid\nid"));
     inputs
 }

@@ -1,8 +1,9 @@
 //! Pairs that cost a search much, for benchmarks.
 
 use super::network::{ring, tree};
+use crate::names::OwnedTables;
 
-/// A pair of texts with its sizes.
+/// A pair of texts over the fields f0, f1 and so on, with their sizes.
 #[derive(Clone, Debug)]
 pub struct Pair {
     /// What it puts weight on.
@@ -16,10 +17,16 @@ pub struct Pair {
 }
 
 impl Pair {
+    /// Its tables, with all names in both.
+    pub fn tables(&self) -> OwnedTables {
+        OwnedTables::numbered(&self.sizes)
+    }
+
     /// The program's input that asks of the pair.
     pub fn input(&self) -> String {
-        let sizes = self.sizes.iter().map(u16::to_string);
-        format!("{}\n{}\n{}\n", joined(",", sizes), self.left, self.right)
+        let sizes = self.sizes.iter().enumerate();
+        let table = joined(",", sizes.map(|(field, size)| format!("f{field}={size}")));
+        format!("{table}\n{table}\n{}\n{}\n", self.left, self.right)
     }
 }
 

@@ -1,6 +1,7 @@
 //! Searches whose rows run out, or nearly so: policies that record much, so that their rows lie deep, with few rows lent.
 
 use super::cases::{is_legal, legal_sizes, lists_of, needs, numbered, Extent};
+use super::named::named;
 use super::tree::{self, sequence, star, sum, Tree};
 use crate::case::Case;
 use crate::packets::Packets;
@@ -23,16 +24,19 @@ pub fn case(random: &mut Random, extent: Extent) -> Case {
     let rows = rows_lent(random, packets, needed);
     let trace = random.below(4) * random.below(30);
     let lists = lists_of(random, [rows; 4], trace);
-    if random.one_in(3) {
+    let named = named(random, &sizes);
+    // either text may speak of every field
+    let all_shared = named.shared.len() == sizes.len();
+    if all_shared && random.one_in(2) {
         return Case::Texts {
-            sizes,
-            left: tree::text(random, &left),
-            right: tree::text(random, &right),
+            left: tree::text(random, &named.names, &left),
+            right: tree::text(random, &named.names, &right),
+            tables: named.tables,
             lists,
         };
     }
     Case::Search {
-        sizes,
+        tables: named.tables,
         left: numbered(random, &left),
         right: numbered(random, &right),
         lists,

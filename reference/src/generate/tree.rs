@@ -430,10 +430,11 @@ pub fn renumbered(random: &mut Random, lists: NodeLists) -> OwnedLists {
     result
 }
 
-/// A text of the tree, with blanks and needless parentheses here and there.
-pub fn text(random: &mut Random, policy: &Tree) -> Vec<u8> {
+/// A text of the tree over fields of these names, with blanks and needless parentheses here and there.
+pub fn text(random: &mut Random, names: &[String], policy: &Tree) -> Vec<u8> {
     let mut writer = Writer {
         text: Vec::new(),
+        names,
         blanks: random.one_in(2),
         open: 0,
         random,
@@ -454,6 +455,7 @@ enum Level {
 
 struct Writer<'a> {
     text: Vec<u8>,
+    names: &'a [String],
     blanks: bool,
     open: usize,
     random: &'a mut Random,
@@ -492,7 +494,8 @@ impl Writer<'_> {
             Id => self.token("id"),
             Dup => self.token("dup"),
             Field(act, field, value) => {
-                self.token(&format!("f{field}"));
+                let names = self.names;
+                self.token(&names[usize::from(*field)]);
                 self.token(match act {
                     Act::Equals => "=",
                     Act::Differs => "!=",
@@ -525,6 +528,8 @@ impl Writer<'_> {
 #[cfg(test)]
 mod tests {
     use super::*;
+    use crate::answer::Side;
+    use crate::names::{Fields, OwnedTables};
     use crate::policy::check;
     use crate::text::nodes;
 
@@ -532,15 +537,20 @@ mod tests {
     fn trees_lists_and_texts_agree() {
         let mut random = Random::new(1);
         let sizes = [2, 3];
+        let tables = OwnedTables::numbered(&sizes);
+        let fields = Fields::new(tables.lend()).expect("legal tables");
+        let names = ["f0", "f1"].map(String::from);
         for _ in 0..2000 {
             let wanted = random.between(1, 40);
             let policy = tree(&mut random, &sizes, wanted, 63);
             let lists = policy.lists();
             assert_eq!(lists.kind.len(), policy.size());
-            assert_eq!(check(&sizes, lists.lists()), Ok(policy.dups()));
-            assert_eq!(nodes(&text(&mut random, &policy), 512), Ok(lists.clone()));
+            assert_eq!(check(tables.lend(), lists.lists()), Ok(policy.dups()));
+            let text = text(&mut random, &names, &policy);
+            let read = nodes(&fields, Side::Left, &text, 512);
+            assert_eq!(read, Ok(lists.clone()));
             let other = renumbered(&mut random, lists.lists());
-            assert_eq!(check(&sizes, other.lists()), Ok(policy.dups()));
+            assert_eq!(check(tables.lend(), other.lists()), Ok(policy.dups()));
         }
     }
 
@@ -548,6 +558,7 @@ mod tests {
     fn what_is_made_of_legal_policies_is_legal() {
         let mut random = Random::new(2);
         let sizes = [2, 3];
+        let tables = OwnedTables::numbered(&sizes);
         let mut negated = 0;
         for _ in 0..2000 {
             let wanted = random.between(1, 30);
@@ -558,7 +569,7 @@ mod tests {
             ] {
                 let lists = made.lists();
                 negated += usize::from(lists.kind.contains(&kind::NOT));
-                assert_eq!(check(&sizes, lists.lists()), Ok(made.dups()));
+                assert_eq!(check(tables.lend(), lists.lists()), Ok(made.dups()));
             }
         }
         assert!(negated > 1000, "{negated}");

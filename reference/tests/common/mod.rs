@@ -2,7 +2,8 @@
 
 #![allow(dead_code)]
 
-use netkat_reference::answer::{Refusal, Verdict};
+use netkat_reference::answer::{Refusal, Side, Verdict};
+use netkat_reference::names::{Fields, OwnedTables};
 use netkat_reference::policy::OwnedLists;
 use netkat_reference::search::{search_texts, Lists, LEAST_WORK};
 use netkat_reference::text;
@@ -31,7 +32,12 @@ impl Outcome {
 /// Searches two texts with as many rows as there may be, all lists 0.
 pub fn search(sizes: &[u16], left: &str, right: &str) -> Outcome {
     let mut lists = Lists::new(65_535, 65_535, LEAST_WORK);
-    let answer = search_texts(sizes, left.as_bytes(), right.as_bytes(), lists.lend());
+    let answer = search_texts(
+        tables(sizes).lend(),
+        left.as_bytes(),
+        right.as_bytes(),
+        lists.lend(),
+    );
     Outcome { answer, lists }
 }
 
@@ -43,11 +49,28 @@ pub fn search_with(sizes: &[u16], left: &str, right: &str, rows: usize, trace: u
     lists.right.fill(9);
     lists.parent.fill(9);
     lists.trace.fill(9);
-    let answer = search_texts(sizes, left.as_bytes(), right.as_bytes(), lists.lend());
+    let answer = search_texts(
+        tables(sizes).lend(),
+        left.as_bytes(),
+        right.as_bytes(),
+        lists.lend(),
+    );
     Outcome { answer, lists }
 }
 
-/// The nodes of a legal text.
+/// The names f0, f1 and so on in both tables, with these sizes.
+pub fn tables(sizes: &[u16]) -> OwnedTables {
+    OwnedTables::numbered(sizes)
+}
+
+/// Reads a text over f0 to f7 into lists of 512.
+pub fn read(text: &str) -> Result<OwnedLists, Refusal> {
+    let eight = tables(&[1; 8]);
+    let fields = Fields::new(eight.lend()).expect("legal tables");
+    text::nodes(&fields, Side::Left, text.as_bytes(), 512)
+}
+
+/// The nodes of a legal text over f0 to f7.
 pub fn nodes(text: &str) -> OwnedLists {
-    text::nodes(text.as_bytes(), 512).expect("a legal text")
+    read(text).expect("a legal text")
 }

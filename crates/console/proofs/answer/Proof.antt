@@ -1,5 +1,5 @@
 -- `answer` meets its contract.
-use Rattle.input.proofs.AskedLaws.{asks-too-long, asks-not-three}
+use Rattle.input.proofs.AskedLaws.{asks-too-long, asks-not-four}
 use Rattle.console.proofs.Printing.{answer-fits, answers-malformed}
 use native.Mathlib.Omega.{arith}
 use borrow.Author.Needs.{needs}
@@ -12,8 +12,8 @@ malformed-requires c κs = search needs
 returns : tie.Need-returns
 returns c = let a = answers-malformed (asks-too-long _ (c .before .before .if1 .taken)) (c .malformed .ensures) in (a, (omega (arith, answer-fits a (c .malformed .kept .0)), omega (arith, (c .malformed .kept .0))))
 
-three-lines-requires : tie.Need-three-lines-requires
-three-lines-requires c κs = search needs
+four-lines-requires : tie.Need-four-lines-requires
+four-lines-requires c κs = search needs
 
 asked-requires : tie.Need-asked-requires
 asked-requires c κs = search needs
@@ -25,7 +25,7 @@ malformed-requires-2 : tie.Need-malformed-requires-2
 malformed-requires-2 c κs = search needs
 
 returns-3 : tie.Need-returns-3
-returns-3 c = let a = answers-malformed (asks-not-three (c .before .before .before .three-lines .ensures) (c .before .before .if2 .left) (c .before .before .before .before .if1 .left)) (c .malformed2 .ensures) in (a, (omega (arith, answer-fits a (c .malformed2 .kept .0)), omega (arith, (c .malformed2 .kept .0))))
+returns-3 c = let a = answers-malformed (asks-not-four (c .before .before .before .four-lines .ensures) (c .before .before .if2 .left) (c .before .before .before .before .if1 .left)) (c .malformed2 .ensures) in (a, (omega (arith, answer-fits a (c .malformed2 .kept .0)), omega (arith, (c .malformed2 .kept .0))))
 
 pub answer-spec : {M : Type 1} → statement M
 answer-spec =
@@ -33,7 +33,7 @@ answer-spec =
     (tie.spec
     malformed-requires
     returns
-    three-lines-requires
+    four-lines-requires
     asked-requires
     returns-2
     malformed-requires-2

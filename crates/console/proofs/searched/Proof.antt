@@ -41,7 +41,7 @@ slice-aggregate-show-4 c = search needs
 
 show-requires : tie.Need-show-requires
 unfolding programLent
-show-requires c κs = (c .before .before .before .before .before .before .before .before .before .before .before .before .before .before .before .before .before .before .before .before .before .before .pre, shows (c .before .before .before .before .before .before .before .before .before .before .before .search .ensures))
+show-requires c κs = (c .before .before .before .before .before .before .before .before .before .before .before .before .before .before .before .before .before .before .before .before .before .before .before .before .before .pre, shows (c .before .before .before .before .before .before .before .before .before .before .before .search .ensures))
 
 same-length : tie.Need-same-length
 same-length c = search needs

@@ -1,18 +1,16 @@
 -- `engine_cases::step`: a legal policy and a packet below N are what a step asks. Assumes nothing.
 use Prim.Native.Nat.{ℕ}
 use native.Mathlib.Omega.{arith}
-use mathlib.Core.Path.{sym, _∙_}
 use lib.Dec.{lit≤}
 use lib.ListN.{length-replicate, getD-replicate}
 use Rattle.packet_set.specs.InnerMembers.{emptySet}
-use Rattle.legality.proofs.AnswerLaws.{legal-answer}
 use Rattle.spans.proofs.Sets.{no-packet}
 use borrow.Author.Needs.{needs}
 use Rattle.engine_cases.proofs.step.Statement.{statement}
 use Rattle.engine_cases.proofs.step.Tie as tie
 
-policy-legality-requires : tie.Need-policy-legality-requires
-policy-legality-requires c κs = search needs
+tested-requires : tie.Need-tested-requires
+tested-requires c κs = search needs
 
 enum-told : tie.Need-enum-told
 enum-told c = search needs
@@ -42,7 +40,7 @@ returns-2 : tie.Need-returns-2
 returns-2 c = search needs
 
 load-requires : tie.Need-load-requires
-load-requires c κs = let legal = legal-answer _ _ _ (sym (c .before .before .before .before .before .before .policy-legality .ensures) ∙ c .before .before .before .before .enum-told .given .1) in
+load-requires c κs = let legal = c .before .before .before .before .before .before .tested .ensures (c .before .before .before .before .enum-told .given .1) in
     (legal .0, legal .1, c .before .before .before .packet-count .ensures .counts (legal .2), length-replicate {A = ℕ} 576 0, length-replicate {A = ℕ} 8224 0)
 
 slice-aggregate-step : tie.Need-slice-aggregate-step
@@ -50,7 +48,7 @@ slice-aggregate-step c = search needs
 
 step-requires : tie.Need-step-requires
 unfolding emptySet
-step-requires c κs = let legal = legal-answer _ _ _ (sym (c .before .before .before .before .before .before .before .before .before .before .before .before .policy-legality .ensures) ∙ c .before .before .before .before .before .before .before .before .before .before .enum-told .given .1) in
+step-requires c κs = let legal = c .before .before .before .before .before .before .before .before .before .before .before .before .tested .ensures (c .before .before .before .before .before .before .before .before .before .before .enum-told .given .1) in
     let n = c .before .before .before .before .before .before .before .before .before .packet-count .ensures .counts (legal .2) in
     record {
       lists = _;
@@ -89,7 +87,7 @@ pub step-spec : {M : Type 1} → statement M
 step-spec =
     tie.close
     (tie.spec
-    policy-legality-requires
+    tested-requires
     enum-told
     enum-told-2
     slice-aggregate-write-all

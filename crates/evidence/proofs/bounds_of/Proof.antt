@@ -19,11 +19,11 @@ enum-told-2 c = search needs
 wide-requires : tie.Need-wide-requires
 wide-requires c κs = search needs
 
-array-read-t17 : tie.Need-array-read-t17
-array-read-t17 c = search needs
-
 array-read-t20 : tie.Need-array-read-t20
 array-read-t20 c = search needs
+
+array-read-t23 : tie.Need-array-read-t23
+array-read-t23 c = search needs
 
 returns : tie.Need-returns
 returns c = bounds-none _ _ _ _ (c .before .before .before .evidence-lists .ensures) (c .before .before .front .ensures) _ (c .enum-told .given .1)
@@ -40,7 +40,7 @@ bounds-of-spec =
     enum-told
     enum-told-2
     wide-requires
-    array-read-t17
     array-read-t20
+    array-read-t23
     returns
     returns-2)

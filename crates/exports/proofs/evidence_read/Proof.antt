@@ -5,7 +5,7 @@ use Rattle.exports.proofs.evidence_read.Statement.{statement}
 use Rattle.exports.proofs.evidence_read.Tie as tie
 
 check-read-requires : tie.Need-check-read-requires
-check-read-requires c κs = c .before .before .before .before .before .before .before .before .before .before .before .before .pre
+check-read-requires c κs = c .before .before .before .before .before .before .before .before .before .before .before .before .before .before .before .pre
 
 of-evidence-requires : tie.Need-of-evidence-requires
 of-evidence-requires c κs = tt

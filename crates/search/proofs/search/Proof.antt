@@ -1,6 +1,8 @@
 -- `search` meets its contract. Assumes nothing.
-use Rattle.search.proofs.Answering.{tests-refuse, tests-pass, accepts, refuses, promised}
 use borrow.Author.Needs.{needs}
+use mathlib.Core.Path.{sym}
+use lib.Seq.{length-take-le}
+use Rattle.search.proofs.Answering.{tests-refuse, tests-pass, accepts, refuses, promised}
 use Rattle.search.proofs.search.Statement.{statement}
 use Rattle.search.proofs.search.Tie as tie
 
@@ -16,11 +18,17 @@ enum-known-tested c = search needs
 enum-told : tie.Need-enum-told
 enum-told c = search needs
 
+array-share-prefix-sizes : tie.Need-array-share-prefix-sizes
+array-share-prefix-sizes c = search needs
+
+slice-aggregate-search-accepted : tie.Need-slice-aggregate-search-accepted
+slice-aggregate-search-accepted c = sym (length-take-le _ _ (c .before .before .before .before .front .ensures .few))
+
 search-accepted-requires : tie.Need-search-accepted-requires
-search-accepted-requires c κs = let h = tests-pass _ _ _ _ (c .before .before .before .before .before .before .before .before .before .search-lists .ensures) (c .before .before .before .before .before .before .before .before .front .ensures) (c .before .before .before .before .before .before .enum-told .given .1) in accepts (h .0) _ (h .1)
+search-accepted-requires c κs = let h = tests-pass _ _ _ _ (c .before .before .before .before .before .before .before .before .before .before .before .search-lists .ensures) (c .before .before .before .before .before .before .before .before .before .before .front .ensures) (c .before .before .before .before .before .before .before .enum-told .given .1) in accepts _ (h .0) _ (h .1) (h .2)
 
 returns : tie.Need-returns
-returns c = refuses _ (tests-refuse _ _ _ _ (c .before .before .before .before .search-lists .ensures) (c .before .before .before .front .ensures) _ (c .before .tested .given .1))
+returns c = refuses _ (tests-refuse _ _ _ _ (c .before .before .before .before .before .search-lists .ensures) (c .before .before .before .before .front .ensures) _ (c .before .tested .given .1))
 
 same-length : tie.Need-same-length
 same-length c = search needs
@@ -41,7 +49,7 @@ same-length-6 : tie.Need-same-length-6
 same-length-6 c = search needs
 
 returns-2 : tie.Need-returns-2
-returns-2 c = promised (tests-pass _ _ _ _ (c .before .before .before .before .before .before .before .before .before .before .before .before .before .before .before .before .before .before .before .before .before .before .search-lists .ensures) (c .before .before .before .before .before .before .before .before .before .before .before .before .before .before .before .before .before .before .before .before .before .front .ensures) (c .before .before .before .before .before .before .before .before .before .before .before .before .before .before .before .before .before .before .before .enum-told .given .1) .0) (c .before .before .before .before .before .before .before .before .before .before .before .before .search-accepted .ensures)
+returns-2 c = let h = tests-pass _ _ _ _ (c .before .before .before .before .before .before .before .before .before .before .before .before .before .before .before .before .before .before .before .before .before .before .before .before .search-lists .ensures) (c .before .before .before .before .before .before .before .before .before .before .before .before .before .before .before .before .before .before .before .before .before .before .before .front .ensures) (c .before .before .before .before .before .before .before .before .before .before .before .before .before .before .before .before .before .before .before .before .enum-told .given .1) in promised (h .0) (h .2) (c .before .before .before .before .before .before .before .before .before .before .before .before .search-accepted .ensures)
 
 pub search-spec : {M : Type 1} → statement M
 search-spec =
@@ -51,6 +59,8 @@ search-spec =
     front-requires
     enum-known-tested
     enum-told
+    array-share-prefix-sizes
+    slice-aggregate-search-accepted
     search-accepted-requires
     returns
     same-length

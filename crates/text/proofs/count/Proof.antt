@@ -17,10 +17,10 @@ sum-requires : tie.Need-sum-requires
 sum-requires c κs = search needs
 
 ended-requires : tie.Need-ended-requires
-ended-requires c κs = λ o. c .before .before .before .sum .ensures .got o .within
+ended-requires c κs = (c .before .before .before .before .before .before .before .before .before .pre, λ o. c .before .before .before .sum .ensures .got o .within)
 
 returns : tie.Need-returns
-returns c = counted _ (c .before .before .before .before .sum .ensures) (c .ended .ensures)
+returns c = counted _ _ (c .before .before .before .before .sum .ensures) (c .ended .ensures)
 
 pub count-spec : {M : Type 1} → statement M
 count-spec =

@@ -1,6 +1,5 @@
 -- `join` meets its contract.
 use borrow.Author.Needs.{needs}
-use mathlib.Core.List.{[]}
 use native.Mathlib.Omega.{arith}
 use Rattle.text.proofs.StepLaws.{joined-made, joined-failed}
 use Rattle.text.proofs.join.Statement.{statement}
@@ -25,10 +24,10 @@ same-length-3 : tie.Need-same-length-3
 same-length-3 c = search needs
 
 returns : tie.Need-returns
-returns c = joined-made [] _ (c .before .before .before .before .before .before .before .before .before .before .if1 .taken) (c .before .before .before .before .before .before .put-parent .ensures)
+returns c = joined-made _ (c .before .before .before .before .before .before .before .before .before .before .if1 .taken) (c .before .before .before .before .before .before .put-parent .ensures)
 
 returns-2 : tie.Need-returns-2
-returns-2 c = joined-failed [] _ (c .if1 .left)
+returns-2 c = joined-failed _ (c .if1 .left)
 
 pub join-spec : {M : Type 1} → statement M
 join-spec =

@@ -1,6 +1,5 @@
 -- `negate` meets its contract.
 use Prim.Native.Nat.{_-_}
-use mathlib.Core.List.{[]}
 use mathlib.Core.Path.{refl}
 use native.Mathlib.Omega.{arith}
 use Rattle.text.specs.Inner.{putNegations}
@@ -50,10 +49,10 @@ same-length-3 : tie.Need-same-length-3 Inv-loop μ-loop
 same-length-3 c = c .before .loop .inv .seconds
 
 returns : tie.Need-returns Inv-loop μ-loop
-returns c = negated-made [] _ (c .before .before .if1 .taken) (negating-all (c .before .loop .inv) (c .loop-test .left))
+returns c = negated-made _ (c .before .before .if1 .taken) (negating-all (c .before .loop .inv) (c .loop-test .left))
 
 returns-2 : tie.Need-returns-2 Inv-loop μ-loop
-returns-2 c = negated-failed [] _ (c .if1 .left)
+returns-2 c = negated-failed _ (c .if1 .left)
 
 pub negate-spec : {M : Type 1} → statement M
 negate-spec =

@@ -4,7 +4,8 @@ use Prim.Native.Nat.{_≤_, _-_}
 use mathlib.Core.Path.{_≡_, refl, sym, _∙_, ap}
 use native.Mathlib.Omega.{arith}
 use lib.ListN.{length}
-use Rattle.grammar.specs.Tokens.{tokens, tokensFrom, fieldNames}
+use Rattle.fields.specs.Names.{namesIn}
+use Rattle.grammar.specs.Tokens.{tokens, tokensFrom}
 use Rattle.grammar.specs.Answer.{badPlace}
 use Rattle.text.proofs.StepLaws.{kind-at, kind-not}
 use Rattle.grammar.proofs.AnswerLaws.{bad-end, bad-here, bad-on, stage-passes, stage-refuses}
@@ -12,32 +13,32 @@ use Rattle.text.proofs.token_stage.Statement.{statement}
 use Rattle.text.proofs.token_stage.Tie as tie
 
 abbrev Inv-loop : tie.InvT-loop
-Inv-loop text at₀ at = (at ≤ length text) × (badPlace (tokens fieldNames text) ≡ badPlace (tokensFrom fieldNames text at))
+Inv-loop names text at₀ at = (at ≤ length text) × (badPlace (tokens (namesIn names) text) ≡ badPlace (tokensFrom (namesIn names) text at))
 
 abbrev μ-loop : tie.MeasureT-loop
-μ-loop text at₀ at = length text - at
+μ-loop names text at₀ at = length text - at
 
 loop-holds : tie.Need-loop-holds Inv-loop μ-loop
 unfolding tokens
 loop-holds c = (search needs, refl)
 
 token-from-requires : tie.Need-token-from-requires Inv-loop μ-loop
-token-from-requires c κs = c .loop .inv .0
+token-from-requires c κs = (c .before .before .before .pre, c .loop .inv .0)
 
 returns : tie.Need-returns Inv-loop μ-loop
-returns c = stage-passes 14 _ (c .before .before .before .loop .inv .1 ∙ bad-end _ (kind-at _ 0 (c .before .before .token-from .ensures) (c .if1 .taken)))
+returns c = stage-passes 14 _ (c .before .before .before .loop .inv .1 ∙ bad-end _ (kind-at _ _ 0 (c .before .before .token-from .ensures) (c .if1 .taken)))
 
 refuse-requires : tie.Need-refuse-requires Inv-loop μ-loop
 refuse-requires c κs = search needs
 
 returns-2 : tie.Need-returns-2 Inv-loop μ-loop
-returns-2 c = stage-refuses 14 _ _ _ _ (c .before .before .before .before .before .before .loop .inv .1 ∙ bad-here _ _ (kind-at _ 0 (c .before .before .before .before .before .token-from .ensures) (c .before .if2 .taken))) (c .before .before .before .before .before .token-from .ensures .start-is) (c .refuse .ensures)
+returns-2 c = stage-refuses 14 _ _ _ _ (c .before .before .before .before .before .before .loop .inv .1 ∙ bad-here _ _ (kind-at _ _ 0 (c .before .before .before .before .before .token-from .ensures) (c .before .if2 .taken))) (c .before .before .before .before .before .token-from .ensures .start-is) (c .refuse .ensures)
 
 loop-less : tie.Need-loop-less Inv-loop μ-loop
 loop-less c = let l = c .before .before .before .before .token-from .ensures .onward (c .before .before .if1 .left) in omega (arith, c .before .before .before .before .token-from .ensures .low, c .before .before .before .before .token-from .ensures .within)
 
 loop-again : tie.Need-loop-again Inv-loop μ-loop
-loop-again c = (c .before .before .before .before .token-from .ensures .within, c .before .before .before .before .before .loop .inv .1 ∙ bad-on _ (kind-not _ 0 (c .before .before .before .before .token-from .ensures) (c .if2 .left)) ∙ ap badPlace (sym (c .before .before .before .before .token-from .ensures .rest)))
+loop-again c = (c .before .before .before .before .token-from .ensures .within, c .before .before .before .before .before .loop .inv .1 ∙ bad-on _ (kind-not _ _ 0 (c .before .before .before .before .token-from .ensures) (c .if2 .left)) ∙ ap badPlace (sym (c .before .before .before .before .token-from .ensures .rest)))
 
 pub token-stage-spec : {M : Type 1} → statement M
 token-stage-spec =

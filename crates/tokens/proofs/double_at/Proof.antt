@@ -14,7 +14,7 @@ lone-requires : tie.Need-lone-requires
 lone-requires c κs = search needs
 
 returns : tie.Need-returns
-returns c = front-last (c .before .before .before .before .args .text .now) (c .before .before .before .before .args .at) (c .before .before .before .before .pre .0) (c .before .before .before .before .pre .1) (c .lone .result) (c .before .before .before .before .pre .2) (c .before .if1 .taken) (c .lone .ensures)
+returns c = λ names. front-last names (c .before .before .before .before .args .text .now) (c .before .before .before .before .args .at) (c .before .before .before .before .pre .0) (c .before .before .before .before .pre .1) (c .lone .result) (c .before .before .before .before .pre .2) (c .before .if1 .taken) (c .lone .ensures)
 
 shared-slice-read-double : tie.Need-shared-slice-read-double
 shared-slice-read-double c = search needs
@@ -26,13 +26,13 @@ lone-requires-2 : tie.Need-lone-requires-2
 lone-requires-2 c κs = search needs
 
 returns-2 : tie.Need-returns-2
-returns-2 c = front-none (c .before .before .before .before .before .before .before .args .text .now) (c .before .before .before .before .before .before .before .args .at) (c .before .before .before .before .before .before .before .pre .0) (c .before .before .before .before .before .before .before .pre .1) (c .before .before .double .result) (c .lone2 .result) (c .before .before .before .before .before .before .before .pre .2) (c .before .before .double .ensures) (c .before .if2 .taken) (c .lone2 .ensures)
+returns-2 c = λ names. front-none names (c .before .before .before .before .before .before .before .args .text .now) (c .before .before .before .before .before .before .before .args .at) (c .before .before .before .before .before .before .before .pre .0) (c .before .before .before .before .before .before .before .pre .1) (c .before .before .double .result) (c .lone2 .result) (c .before .before .before .before .before .before .before .pre .2) (c .before .before .double .ensures) (c .before .if2 .taken) (c .lone2 .ensures)
 
 add-t8 : tie.Need-add-t8
 add-t8 c = search needs
 
 returns-3 : tie.Need-returns-3
-returns-3 c = front-double (c .before .before .before .before .before .before .args .text .now) (c .before .before .before .before .before .before .args .at) (c .before .before .before .before .before .before .pre .0) (c .before .before .before .before .before .before .pre .1) (c .before .double .result) (c .before .before .before .before .before .before .pre .2) (c .before .before .before .if1 .left) (c .before .double .ensures) (c .if2 .left)
+returns-3 c = λ names. front-double names (c .before .before .before .before .before .before .args .text .now) (c .before .before .before .before .before .before .args .at) (c .before .before .before .before .before .before .pre .0) (c .before .before .before .before .before .before .pre .1) (c .before .double .result) (c .before .before .before .before .before .before .pre .2) (c .before .before .before .if1 .left) (c .before .double .ensures) (c .if2 .left)
 
 pub double-at-spec : {M : Type 1} → statement M
 double-at-spec =

@@ -29,16 +29,16 @@ add-t8 : tie.Need-add-t8
 add-t8 c = search needs
 
 returns-2 : tie.Need-returns-2
-returns-2 c = let b : getD (c .before .before .before .before .before .before .args .text .now) (c .before .before .before .before .before .before .args .at) 0 < 256 = omega (arith, c .before .before .before .before .shared-slice-known2 .given (c .before .before .before .before .before .before .args .at)) in
-    subst (λ (k : ℕ). FrontAt (c .before .before .before .before .before .before .args .text .now) (c .before .before .before .before .before .before .args .at) (record { kind = k; value = cond (eqb k 5) 2 0; start = c .before .before .before .before .before .before .args .at; next = c .before .before .before .before .before .before .args .at + 1 })) (c .if2 .taken)
-    (front-single (c .before .before .before .before .before .before .args .text .now) (c .before .before .before .before .before .before .args .at) (c .before .before .before .before .before .before .pre .1) (c .before .before .before .before .before .before .pre .2) (c .before .before .class-of .result) b (c .before .before .before .before .before .before .pre .3) (c .before .before .class-of .ensures) (c .before .if1 .left))
+returns-2 c = λ names. let b : getD (c .before .before .before .before .before .before .args .text .now) (c .before .before .before .before .before .before .args .at) 0 < 256 = omega (arith, c .before .before .before .before .shared-slice-known2 .given (c .before .before .before .before .before .before .args .at)) in
+    subst (λ (k : ℕ). FrontAt names (c .before .before .before .before .before .before .args .text .now) (c .before .before .before .before .before .before .args .at) (record { kind = k; value = cond (eqb k 5) 2 0; start = c .before .before .before .before .before .before .args .at; next = c .before .before .before .before .before .before .args .at + 1 })) (c .if2 .taken)
+    (front-single names (c .before .before .before .before .before .before .args .text .now) (c .before .before .before .before .before .before .args .at) (c .before .before .before .before .before .before .pre .1) (c .before .before .before .before .before .before .pre .2) (c .before .before .class-of .result) b (c .before .before .before .before .before .before .pre .3) (c .before .before .class-of .ensures) (c .before .if1 .left))
 
 add-t9 : tie.Need-add-t9
 add-t9 c = search needs
 
 returns-3 : tie.Need-returns-3
-returns-3 c = let b : getD (c .before .before .before .before .before .before .args .text .now) (c .before .before .before .before .before .before .args .at) 0 < 256 = omega (arith, c .before .before .before .before .shared-slice-known2 .given (c .before .before .before .before .before .before .args .at)) in
-    rw (ne-eqb _ _ (c .if2 .left)) at (front-single (c .before .before .before .before .before .before .args .text .now) (c .before .before .before .before .before .before .args .at) (c .before .before .before .before .before .before .pre .1) (c .before .before .before .before .before .before .pre .2) (c .before .before .class-of .result) b (c .before .before .before .before .before .before .pre .3) (c .before .before .class-of .ensures) (c .before .if1 .left))
+returns-3 c = λ names. let b : getD (c .before .before .before .before .before .before .args .text .now) (c .before .before .before .before .before .before .args .at) 0 < 256 = omega (arith, c .before .before .before .before .shared-slice-known2 .given (c .before .before .before .before .before .before .args .at)) in
+    rw (ne-eqb _ _ (c .if2 .left)) at (front-single names (c .before .before .before .before .before .before .args .text .now) (c .before .before .before .before .before .before .args .at) (c .before .before .before .before .before .before .pre .1) (c .before .before .before .before .before .before .pre .2) (c .before .before .class-of .result) b (c .before .before .before .before .before .before .pre .3) (c .before .before .class-of .ensures) (c .before .if1 .left))
 
 pub mark-at-spec : {M : Type 1} → statement M
 mark-at-spec =

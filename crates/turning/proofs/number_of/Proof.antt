@@ -1,20 +1,26 @@
 -- `turning::number_of` meets its contract: the tests as they were made.
 -- Assumes nothing.
+use borrow.Author.Needs.{needs}
+use native.Mathlib.Omega.{arith}
 use Prim.Native.Nat.{ℕ}
 use mathlib.Core.Path.{ap, ap₂, sym, _∙_}
+use lib.Seq.{length-take-le}
 use Rattle.packet.specs.declared.Tested.{Tested}
 use Rattle.packet.specs.Packets.{numberOf}
+use Rattle.fields.specs.Tables.{tables, jointSizes}
 use Rattle.turning.specs.Turning.{numberAnswer}
-use Rattle.turning.proofs.Tests.{number-made, declared-passed}
-use borrow.Author.Needs.{needs}
+use Rattle.turning.proofs.Tests.{number-made, declared-passed, number-is}
 use Rattle.turning.proofs.number_of.Statement.{statement}
 use Rattle.turning.proofs.number_of.Tie as tie
 
-fields-stage-requires : tie.Need-fields-stage-requires
-fields-stage-requires c κs = search needs
+load-requires : tie.Need-load-requires
+load-requires c κs = search needs
 
-packet-count-requires : tie.Need-packet-count-requires
-packet-count-requires c κs = search needs
+array-share-prefix-sizes : tie.Need-array-share-prefix-sizes
+array-share-prefix-sizes c = search needs
+
+slice-aggregate-values-stage : tie.Need-slice-aggregate-values-stage
+slice-aggregate-values-stage c = sym (length-take-le _ _ (omega (arith, c .before .before .load .ensures .few, c .before .before .load .ensures .space)))
 
 values-stage-requires : tie.Need-values-stage-requires
 values-stage-requires c κs = search needs
@@ -28,27 +34,36 @@ enum-known-tested c = search needs
 enum-told : tie.Need-enum-told
 enum-told c = search needs
 
+array-share-prefix-sizes-2 : tie.Need-array-share-prefix-sizes-2
+array-share-prefix-sizes-2 c = search needs
+
+slice-aggregate-number-from : tie.Need-slice-aggregate-number-from
+slice-aggregate-number-from c = sym (length-take-le _ _ (omega (arith, c .before .before .before .before .before .before .before .load .ensures .few, c .before .before .before .before .before .before .before .load .ensures .space)))
+
 number-from-requires : tie.Need-number-from-requires
-number-from-requires c κs = declared-passed _ _ (sym (number-made _ (c .before .before .before .before .packet-count .ensures) _ (c .before .before .before .before .before .fields-stage .ensures) (c .before .before .in-order .ensures) _ (c .before .before .before .values-stage .ensures)) ∙ c .enum-told .given .1)
+number-from-requires c κs = declared-passed _ (c .before .before .before .before .before .before .before .load .ensures) _ (sym (number-made _ (c .before .before .before .before .before .before .before .load .ensures) _ (c .before .before .before .in-order .ensures) _ (c .before .before .before .before .values-stage .ensures)) ∙ c .before .enum-told .given .1)
 
 returns : tie.Need-returns
 unfolding numberAnswer
-returns c = sym (ap (λ (t : Tested). numberAnswer t (numberOf (c .before .before .before .before .before .before .before .before .before .args .sizes .now) (c .before .before .before .before .before .before .before .before .before .args .values .now))) (sym (number-made _ (c .before .before .before .before .before .packet-count .ensures) _ (c .before .before .before .before .before .before .fields-stage .ensures) (c .before .before .before .in-order .ensures) _ (c .before .before .before .before .values-stage .ensures)) ∙ c .before .tested .given .1))
+returns c = sym (ap (λ (t : Tested). numberAnswer t (numberOf (jointSizes (tables (c .before .before .before .before .before .before .before .before .before .before .before .before .before .args .left-names .now) (c .before .before .before .before .before .before .before .before .before .before .before .before .before .args .left-sizes .now) (c .before .before .before .before .before .before .before .before .before .before .before .before .before .args .right-names .now) (c .before .before .before .before .before .before .before .before .before .before .before .before .before .args .right-sizes .now))) (c .before .before .before .before .before .before .before .before .before .before .before .before .before .args .values .now))) (sym (number-made _ (c .before .before .before .before .before .before .before .load .ensures) _ (c .before .before .before .in-order .ensures) _ (c .before .before .before .before .values-stage .ensures)) ∙ c .before .tested .given .1))
 
 returns-2 : tie.Need-returns-2
 unfolding numberAnswer
-returns-2 c = sym (ap₂ (λ (t : Tested) (n : ℕ). numberAnswer t n) (sym (number-made _ (c .before .before .before .before .before .packet-count .ensures) _ (c .before .before .before .before .before .before .fields-stage .ensures) (c .before .before .before .in-order .ensures) _ (c .before .before .before .before .values-stage .ensures)) ∙ c .before .enum-told .given .1) (sym (c .number-from .ensures)))
+returns-2 c = let tests = sym (number-made _ (c .before .before .before .before .before .before .before .before .load .ensures) _ (c .before .before .before .before .in-order .ensures) _ (c .before .before .before .before .before .values-stage .ensures)) ∙ c .before .before .enum-told .given .1 in sym (ap₂ (λ (t : Tested) (n : ℕ). numberAnswer t n) tests (sym (c .number-from .ensures ∙ number-is _ (c .before .before .before .before .before .before .before .before .load .ensures) _ tests)))
 
 pub number-of-spec : {M : Type 1} → statement M
 number-of-spec =
     tie.close
     (tie.spec
-    fields-stage-requires
-    packet-count-requires
+    load-requires
+    array-share-prefix-sizes
+    slice-aggregate-values-stage
     values-stage-requires
     in-order-requires
     enum-known-tested
     enum-told
+    array-share-prefix-sizes-2
+    slice-aggregate-number-from
     number-from-requires
     returns
     returns-2)

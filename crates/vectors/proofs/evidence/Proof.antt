@@ -2,6 +2,7 @@
 use mathlib.Core.Path.{refl, sym}
 use lib.Seq.{length-take-le}
 use Rattle.vectors.proofs.Made.{within, counted}
+use borrow.Author.Needs.{needs}
 use Rattle.vectors.proofs.evidence.Statement.{statement}
 use Rattle.vectors.proofs.evidence.Tie as tie
 

@@ -1,6 +1,7 @@
 -- `vectors::number`: the lists that it lends are within the lists read or made. Assumes nothing.
 use mathlib.Core.Path.{refl, sym}
 use lib.Seq.{length-take-le}
+use borrow.Author.Needs.{needs}
 use Rattle.vectors.proofs.number.Statement.{statement}
 use Rattle.vectors.proofs.number.Tie as tie
 
@@ -10,23 +11,11 @@ slice-aggregate-fill16 c = refl
 fill16-requires : tie.Need-fill16-requires
 fill16-requires c κs = tt
 
-slice-aggregate-fill16-2 : tie.Need-slice-aggregate-fill16-2
-slice-aggregate-fill16-2 c = refl
-
-fill16-requires-2 : tie.Need-fill16-requires-2
-fill16-requires-2 c κs = tt
-
-array-share-prefix-sizes : tie.Need-array-share-prefix-sizes
-array-share-prefix-sizes c = c .before .before .before .before .fill16 .ensures
+array-share-prefix-values : tie.Need-array-share-prefix-values
+array-share-prefix-values c = c .before .fill16 .ensures
 
 slice-aggregate-netkat-number : tie.Need-slice-aggregate-netkat-number
-slice-aggregate-netkat-number c = sym (length-take-le _ _ (c .before .before .before .before .before .fill16 .ensures))
-
-array-share-prefix-values : tie.Need-array-share-prefix-values
-array-share-prefix-values c = c .before .before .fill162 .ensures
-
-slice-aggregate-netkat-number-2 : tie.Need-slice-aggregate-netkat-number-2
-slice-aggregate-netkat-number-2 c = sym (length-take-le _ _ (c .before .before .before .fill162 .ensures))
+slice-aggregate-netkat-number c = sym (length-take-le _ _ (c .before .before .fill16 .ensures))
 
 netkat-number-requires : tie.Need-netkat-number-requires
 netkat-number-requires c κs = tt
@@ -43,12 +32,8 @@ number-spec =
     (tie.spec
     slice-aggregate-fill16
     fill16-requires
-    slice-aggregate-fill16-2
-    fill16-requires-2
-    array-share-prefix-sizes
-    slice-aggregate-netkat-number
     array-share-prefix-values
-    slice-aggregate-netkat-number-2
+    slice-aggregate-netkat-number
     netkat-number-requires
     show-requires
     returns)

@@ -1,5 +1,6 @@
 -- `vectors::search`: the lists that it lends are within the lists read or made. Assumes nothing.
 use Rattle.vectors.proofs.Made.{within, counted}
+use borrow.Author.Needs.{needs}
 use Rattle.vectors.proofs.search.Statement.{statement}
 use Rattle.vectors.proofs.search.Tie as tie
 

@@ -1,5 +1,6 @@
 -- `vectors::texts_read`: the lists that it lends are within the lists read or made. Assumes nothing.
 use Rattle.vectors.proofs.Made.{within, counted}
+use borrow.Author.Needs.{needs}
 use Rattle.vectors.proofs.texts_read.Statement.{statement}
 use Rattle.vectors.proofs.texts_read.Tie as tie
 

@@ -8,7 +8,7 @@ use native.Mathlib.Numerals.{add-one}
 use borrow.Author.Tests.{not-true, not-false}
 use lib.ListN.{length, getD, drop, drop-of-length-le}
 use lib.Seq.{drop-cons}
-use Rattle.grammar.specs.Bytes.{isDigit}
+use Rattle.fields.specs.Bytes.{isDigit}
 use Rattle.tokens.specs.Inner.{numberFrom}
 use Rattle.tokens.proofs.WordLaws.{number-none, number-more, number-not, number-large, digit-high}
 use Rattle.tokens.proofs.words.number_from.Statement.{statement}

@@ -1,0 +1,8 @@
+pub mod NameLaws
+pub mod TableLaws
+pub mod HeldLaws
+pub mod CauseLaws
+pub mod LoadLaws
+pub mod WordLaws
+pub mod JointLaws
+pub mod Examples
