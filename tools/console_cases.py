@@ -148,7 +148,7 @@ LONG = [
     [fields("2"), "id\nid", (32751, " "), "\r\n"], [fields("2"), "id\nid", (32754, " ")], [(32768, "\n")], [(32769, "2")], [(40000, "2")],
     [fields("0"), "id\nid", (32754, " ")],
     # a table to the end of the longest input: the second name repeats the first; an entry more is malformed; and one byte too long
-    [(8189, "a=1,"), "a=1\n\nid\nid"], [(8188, "a=1,"), "a=1,\n\nid\nid"], [(8190, "a=1,"), "a=1\n\nid\n"], ["a=1\n", (8188, "a=1,"), "a=1\nid\nid"],
+    [(10917, "=1,"), "=1\na=1\nid\nid"], [(8189, "a=1,"), "a=1\n\nid\nid"], [(8188, "a=1,"), "a=1,\n\nid\nid"], [(8190, "a=1,"), "a=1\n\nid\n"], ["a=1\n", (8188, "a=1,"), "a=1\nid\nid"],
     [(32757, "a"), "=1\n\nid\nid"], [(32758, "a"), "=1\n\nid\nid"], [(16377, "=,"), "\n\nid\nid"],
     # depth, dups and nodes
     [fields("2"), (64, "("), "id", (64, ")"), "\nid"], [fields("2"), (65, "("), "id", (65, ")"), "\nid"], [fields("2"), "id\n", (65, "(")],

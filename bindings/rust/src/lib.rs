@@ -352,14 +352,14 @@ impl Checker {
         }
     }
 
-    /// The values of a packet's fields. Refused by 13.
+    /// The values of a packet's fields. Refused by 13, and where the tables are.
     pub fn values(&self, number: u16) -> Result<Vec<u16>, Refusal> {
         let mut values = vec![0; self.fields()?];
         accepted(lists::values(self.tables.lists(), number, &mut values))?;
         Ok(values)
     }
 
-    /// The number of the packet with these values. Refused by 13.
+    /// The number of the packet with these values. Refused by 13, and where the tables are.
     pub fn number(&self, values: &[u16]) -> Result<u16, Refusal> {
         Ok(accepted(lists::number(self.tables.lists(), values))?[1] as u16)
     }

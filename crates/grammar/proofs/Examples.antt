@@ -19,8 +19,8 @@ use Rattle.grammar.specs.Reading.{Outcome, tree, nothing, joinSequence, 
 use Rattle.grammar.specs.Answer.{badPlace, openAfter, deepPlace, stopPlace, treeRead, tooMany, answerAfter, outcome, textTree, tested, answerTo}
 
 -- f0 to f7
-unfoldable fieldNames : List (List ℕ)
-fieldNames =
+unfoldable exampleNames : List (List ℕ)
+exampleNames =
     (102 ∷ 48 ∷ [])
     ∷ (102 ∷ 49 ∷ [])
     ∷ (102 ∷ 50 ∷ [])
@@ -45,12 +45,12 @@ unfolding readingWith badPlace openAfter deepPlace stopPlace treeRead tooMany an
 answerWith names text room = answerTo names text room
 
 unfoldable readingOf : List ℕ → Outcome
-unfolding readingWith fieldNames
-readingOf text = readingWith fieldNames text
+unfolding readingWith exampleNames
+readingOf text = readingWith exampleNames text
 
 unfoldable answerOf : List ℕ → ℕ → Answer
-unfolding answerWith fieldNames
-answerOf text room = answerWith fieldNames text room
+unfolding answerWith exampleNames
+answerOf text room = answerWith exampleNames text room
 
 -- f0=0;dup
 p2 : readingOf (102 ∷ 48 ∷ 61 ∷ 48 ∷ 59 ∷ 100 ∷ 117 ∷ 112 ∷ []) ≡ tree (seq (Tree.field (Equals 0 0)) (dup 0))

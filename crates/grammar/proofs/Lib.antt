@@ -3,3 +3,4 @@ pub mod ReadLaws
 pub mod AnswerLaws
 pub mod GrammarLaws
 pub mod NodeLaws
+pub mod FieldWords

@@ -1,5 +1,5 @@
 -- The order of causes (document 01, "Causes, in the order tested"), in two lists: the stages of a call, and the causes of a policy. Those
--- of one text, 14 to 17, are the reader's (`grammar` `tested`).
+-- of the tables are a list in `fields` (`tablesStage`), those of one text, 14 to 17, the reader's (`grammar` `tested`).
 use Prim.Native.Nat.{ℕ, suc, pred}
 use mathlib.Core.Bool.{Bool, true, false}
 use mathlib.Core.List.{List, [], _∷_, map}
@@ -15,8 +15,9 @@ use Rattle.policy.specs.declared.order.Stages.{Stages}
 use Rattle.policy.specs.NodeLists.{NodeLists, nodeCount}
 use Rattle.policy.specs.Legality.{badLengths, badKind, badEntries, badChild, notOnce, badNegation, tooManyDups}
 
--- The stages of a call, in the order tested: a stage that comes elsewhere is a line that moves, here and in `in_order`. 18 comes before them
--- all, 11 and 12 after. The search on two texts reads them only where the stages before `texts` pass.
+-- The stages of a call, in the order tested: a stage that comes elsewhere is a line that moves, here and in `in_order`; 3 is found together with
+-- the causes of the tables (`fields::load`). 18 comes before them all, 11 and 12 after. The search on two texts reads them only where the stages
+-- before `texts` pass.
 unfoldable pub order : Stages → List Tested
 order stages =
     stages .fields  -- 4 of side 0, 20, 21, 1, 2
