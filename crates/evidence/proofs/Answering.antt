@@ -20,7 +20,7 @@ use Rattle.fields.specs.Tables.{Table, jointSizes}
 use Rattle.policy.specs.NodeLists.{NodeLists, policyOf}
 use Rattle.policy.specs.Order.{pairTests}
 use Rattle.policy.specs.Meaning.{SameTracesBelow}
-use Rattle.legality.specs.declared.PairTested.{PairTested}
+use Rattle.legality.specs.declared.CallTested.{CallTested}
 use Rattle.legality.specs.Answers.{FrontOf}
 use Rattle.system.specs.System.{System}
 use Rattle.system.specs.RowOrder.{Entry, finished, turn, run, full, equal as allHandled, held}
@@ -213,7 +213,7 @@ module _ (ts : List Table) (L R : NodeLists) where
         is = f ∙ ap (λ (u : Tested). evidenceOf u (evidenceAnswer (jointSizes ts) (policies L R) packets lefts rights)) (sym e)
 
     -- the tests as they were made
-    module _ {said : Tested} (lists : said ≡ listsStage (length packets ∷ length lefts ∷ length rights ∷ []) (length work)) {q : PairTested} (front : FrontOf ts L R said q) where
+    module _ {said : Tested} (lists : said ≡ listsStage (length packets ∷ length lefts ∷ length rights ∷ []) (length work)) {q : CallTested} (front : FrontOf ts 1 L R said q) where
       tests-are : q .tested ≡ evidenceTests ts L R packets lefts rights (length work)
       unfolding evidenceTests
       tests-are = front-tests ts L R _ lists front

@@ -14,7 +14,7 @@ use Rattle.packet.specs.declared.Tested.the-variants.{Passed, Refused}
 use Rattle.fields.specs.Tables.{Table, jointSizes}
 use Rattle.policy.specs.NodeLists.{NodeLists}
 use Rattle.policy.specs.Order.{pairTests}
-use Rattle.legality.specs.declared.PairTested.{PairTested}
+use Rattle.legality.specs.declared.CallTested.{CallTested}
 use Rattle.legality.specs.Answers.{FrontOf}
 use Rattle.lent_lists.specs.LentLists.{listsStage}
 use Rattle.lent_lists.proofs.Testing.{front-tests, tests-passed, pair-lent, lent-pair}
@@ -28,7 +28,7 @@ use Rattle.evidence.proofs.Answering.{lists-pass, lists-passed, refused
 
 -- ---- the bounds
 
-module _ (ts : List Table) (L R : NodeLists) (rows : ℕ) {said : Tested} (lists : said ≡ listsStage (rows ∷ rows ∷ rows ∷ []) 16384) {q : PairTested} (front : FrontOf ts L R said q) where
+module _ (ts : List Table) (L R : NodeLists) (rows : ℕ) {said : Tested} (lists : said ≡ listsStage (rows ∷ rows ∷ rows ∷ []) 16384) {q : CallTested} (front : FrontOf ts 1 L R said q) where
   -- what passes with a work list that is long enough passes but for the records' number
   bounds-pass : pairTests ts L R ≡ Passed → rows ≤ 65535 → q .tested ≡ Passed
   bounds-pass p few = front-tests ts L R _ lists front ∙ pair-lent ts L R _ p (lists-pass rows 16384 few (omega arith))
@@ -55,7 +55,7 @@ module _ (ts : List Table) (L R : NodeLists) (rows : ℕ) {said : Tested} (lists
 -- ---- the check
 
 module _ (ts : List Table) (L R : NodeLists) (packets lefts rights : List ℕ) (rows : ℕ) (work : List ℕ)
-    {said : Tested} (lists : said ≡ listsStage (rows ∷ rows ∷ rows ∷ []) (length work)) {q : PairTested} (front : FrontOf ts L R said q) where
+    {said : Tested} (lists : said ≡ listsStage (rows ∷ rows ∷ rows ∷ []) (length work)) {q : CallTested} (front : FrontOf ts 1 L R said q) where
   -- the same of columns of that length
   of-columns : (P Q S : List ℕ) → length P ≡ rows → length Q ≡ rows → length S ≡ rows → said ≡ listsStage (length P ∷ length Q ∷ length S ∷ []) (length work)
   of-columns P Q S a b c = lists ∙ sym (rw (a, b, c) refl)

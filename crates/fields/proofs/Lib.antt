@@ -2,7 +2,6 @@ pub mod NameLaws
 pub mod TableLaws
 pub mod HeldLaws
 pub mod CauseLaws
-pub mod LoadLaws
 pub mod WordLaws
 pub mod JointLaws
 pub mod Examples

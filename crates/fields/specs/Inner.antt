@@ -8,9 +8,8 @@ use lib.ListN.{length, set, take, drop}
 use Rattle.packet.specs.declared.Tested.{Tested}
 use Rattle.packet.specs.declared.Tested.the-variants.{Passed}
 use Rattle.packet.specs.Refusals.{refusedAt, atZero, firstOf}
-use Rattle.packet.specs.Sizes.{product, fieldsStage, productStage}
+use Rattle.packet.specs.Sizes.{fieldsStage}
 use Rattle.fields.specs.declared.Joint as Answered
-use Rattle.fields.specs.declared.Fields as Loaded
 use Rattle.fields.specs.Names.{isNamed, cellName, namesFrom, namesIn}
 use Rattle.fields.specs.Tables.{Table, Field, anyTable, isEmpty, namesStage, sizesStage, withField, withFields, fieldsOf, jointNames, jointSizes, tablesStage}
 
@@ -82,18 +81,3 @@ Joined ts = AnswerOf ts (fieldsStage (jointSizes ts))
 
 abbrev pub JointOf : List Table → Answered.Joint → Type 0
 JointOf ts = AnswerOf ts (tablesStage ts)
-
--- ---- the fields as a call loads them
-
--- the causes of the tables, then 3
-unfoldable pub fieldsTests : List Table → Tested
-fieldsTests ts = firstOf (tablesStage ts ∷ productStage (jointSizes ts) ∷ [])
-
-pub record FieldsOf (ts : List Table) (r : Loaded.Fields) : Type 0 where
-  pub tested : r .tested ≡ fieldsTests ts
-  pub few : r .count ≤ 8
-  pub room : 128 ≡ length (r .names)
-  pub space : 8 ≡ length (r .sizes)
-  pub named : r .tested ≡ Passed → namesIn (take (r .count * 16) (r .names)) ≡ jointNames ts
-  pub sized : r .tested ≡ Passed → take (r .count) (r .sizes) ≡ jointSizes ts
-  pub counts : r .tested ≡ Passed → r .packets ≡ product (jointSizes ts)

@@ -13,7 +13,7 @@ ghost use Rattle.packet.specs.Refusals.{refusal, refusedAt, atZero};
 ghost use Rattle.packet.specs.declared.Tested.the-variants.{Refused};
 ghost use Rattle.fields.specs.Names.{fieldNamed, namesIn, cellName};
 ghost use Rattle.fields.specs.Tables.{table, tables, tablesAtEntry, anyTable, another, otherSize};
-ghost use Rattle.fields.specs.Inner.{keptCell, keptNames, FieldPut, FieldAdded, TableAdded, namesAndSizes, Joined, JointOf, FieldsOf};
+ghost use Rattle.fields.specs.Inner.{keptCell, keptNames, FieldPut, FieldAdded, TableAdded, namesAndSizes, Joined, JointOf};
 use packet::Place;
 use packet::Refusal;
 use packet::Tested;
@@ -24,15 +24,6 @@ pub struct Joint {
     pub count: usize,
     pub names: [u8; 128],
     pub sizes: [u16; 8],
-}
-
-// The joint fields as a call loads them: what the causes of the tables and 3 say, beside the fields and N, which count where they pass.
-pub struct Fields {
-    pub tested: Tested,
-    pub count: usize,
-    pub names: [u8; 128],
-    pub sizes: [u16; 8],
-    pub packets: u16,
 }
 
 // Whether cells of so many bytes are not 16 for each size.
@@ -279,31 +270,5 @@ pub fn keep_named(cells: &mut [u8], table: &[u8])
     while f < count {
         keep_if_named(cells, f * 16, table);
         f += 1;
-    }
-}
-
-// Inner: the joint fields of a left and a right table, with N.
-pub fn load(
-    left_names: &[u8],
-    left_sizes: &[u16],
-    right_names: &[u8],
-    right_sizes: &[u16],
-) -> Fields
-    ensures { λ r. ⌜ FieldsOf (tablesAtEntry «left_names» «left_sizes» «right_names» «right_sizes») r ⌝ }
-{
-    let joint = join(left_names, left_sizes, right_names, right_sizes);
-    let count = joint.count;
-    let names = joint.names;
-    let sizes = joint.sizes;
-    let counted = packet::packet_count(&sizes[..count]);
-    let said = joint.tested;
-    let product = counted.tested;
-    let tested = packet::first_of(said, product);
-    Fields {
-        tested,
-        count,
-        names,
-        sizes,
-        packets: counted.packets,
     }
 }

@@ -7,33 +7,34 @@ use mathlib.Core.Path.{_≡_, refl, sym, ap, ap₂, _∙_}
 use native.Mathlib.Omega.{arith}
 use lib.ListN.{length, take}
 use borrow.Author.Tests.{ne-eqb, lt-ltb, le-ltb}
-use Rattle.packet.specs.Lowest.{lowest, optionOf}
-use Rattle.packet.specs.Refusals.{refusal, refusedAt, atZero, firstOf}
-use Rattle.packet.specs.Sizes.{fieldsStage, productStage, LegalSizes}
+use Rattle.packet.specs.Lowest.{orAt, lowest, optionOf}
+use Rattle.packet.specs.Refusals.{refusal, refusedAt, atPlace, atZero, firstOf}
+use Rattle.packet.specs.Sizes.{product, fieldsStage, productStage, CountOf, LegalSizes}
+use Rattle.packet.specs.declared.Counted.{Counted}
 use Rattle.packet.specs.declared.Refusal.{Refusal}
 use Rattle.packet.specs.declared.Tested.{Tested}
 use Rattle.packet.specs.declared.Tested.the-variants.{Passed, Refused}
 use Rattle.packet.proofs.Legal.{passed-legal}
 use Rattle.packet.proofs.Lowest.{lowest-none}
 use Rattle.packet.proofs.Stages.{firstOf-last, firstOf-refused, firstOf-next, firstOf-nested, firstOf-passed, refusedAt-passed, atPlace-none, refused≢passed}
-use Rattle.fields.specs.declared.Fields.{Fields}
-use Rattle.fields.specs.Tables.{Table, jointSizes}
-use Rattle.fields.specs.Inner.{FieldsOf}
+use Rattle.fields.specs.declared.Joint.{Joint}
+use Rattle.fields.specs.Tables.{Table, jointSizes, tablesStage}
+use Rattle.fields.specs.Inner.{JointOf}
 use Rattle.legality.specs.declared.PolicyAnswer.the-variants.{Legal as LegalPolicy, Refused as PolicyRefused}
 use Rattle.legality.specs.declared.PairAnswer.the-variants.{Legal as LegalPair, Refused as PairRefused}
 use Rattle.legality.specs.declared.PolicyTested.{PolicyTested}
-use Rattle.legality.specs.declared.PairTested.{PairTested}
+use Rattle.legality.specs.declared.CallTested.{CallTested}
 use Rattle.tree_causes.specs.declared.DupCount.{DupCount}
 use Rattle.policy.specs.AsLists.{asLists}
 use Rattle.policy.specs.InnerEach.{Each}
-use Rattle.policy.specs.NodeLists.{NodeLists, nodeCount, dupsBelow}
-use Rattle.policy.specs.Legality.{badLengths, badKind, badEntries, badChild, notOnce, badNegation, Legal}
+use Rattle.policy.specs.NodeLists.{NodeLists, nodeCount, nodeOf, nodeAt, children, one, isDup, dupsBelow}
+use Rattle.policy.specs.Legality.{badLengths, badKind, used, wrongEntries, badEntries, someNotBelow, badChild, notOnce, negatesOther, badNegation, tooManyDups, Legal}
 use Rattle.policy.specs.Order.{inOrder, Cause, causes, Sided, sided, cause, policiesStage, stagesOf, pairOf, policyTests, pairTests, oneOr, placeAmong, causePlace}
 use Rattle.node_causes.specs.Lengths.{SameLengths}
 use Rattle.tree_causes.specs.Counting.{CountableChildren, DupCountOf}
-use Rattle.legality.specs.Answers.{policyAnswer, pairAnswer, policyLegality, pairLegality, nodesStage, treeStage, TestedAs, PolicyTestedAs, earlierIf, earlier, earlierOf, FrontOf}
+use Rattle.legality.specs.Answers.{policyAnswer, pairAnswer, policyLegality, pairLegality, nodesStage, treeStage, TestedAs, PolicyTestedAs, earlierIf, earlier, earlierOf, dropNodes, FrontOf}
 use Rattle.policy.proofs.LegalityLaws.{Lengths, lengths, stage-passes}
-use Rattle.policy.proofs.OrderLaws.{passing, fields-pass, after-fields}
+use Rattle.policy.proofs.OrderLaws.{Passing, passing, after-tables}
 
 -- ---- orders of tests within orders
 
@@ -281,56 +282,91 @@ module _ (kind first second : List ℕ) (side : ℕ) {o g n i t : Tested} {x y :
 
 -- ---- the calls
 
--- the tests of one policy as they were made
-module _ (ts : List Table) (L : NodeLists) {F : Fields} (loaded : FieldsOf ts F) {q : PolicyTested} (policy : PolicyTestedAs (take (F .count) (F .sizes)) 0 L q) {t : Tested}
-    (made : t ≡ inOrder (record { fields = F .tested; product = Passed; texts = Passed; policies = q .tested; lists = Passed; packets = Passed })) where
-  made-as : t ≡ policyTests ts L
-  unfolding policyTests
-  made-as = made ∙ after-fields ts Passed _ Passed Passed (loaded .tested) (λ p. policy .tested ∙ ap (λ (s : List ℕ). policiesStage s (sided 0 L ∷ [])) (loaded .sized p)) (λ p. refl)
-
-  pub policy-refused : (r : Refusal) → t ≡ Refused r → PolicyRefused r ≡ policyLegality ts L
-  unfolding policyLegality policyAnswer
-  policy-refused r e = sym (ap (λ (u : Tested). policyAnswer u (dupsBelow L (nodeCount L))) (sym made-as ∙ e))
-
-  pub policy-passed : t ≡ Passed → LegalPolicy (q .dups) ≡ policyLegality ts L
-  unfolding policyLegality policyAnswer policyTests
-  policy-passed e =
-      let h = passing _ _ _ _ _ (sym made-as ∙ e) in
-      let same = loaded .sized (loaded .tested ∙ fields-pass _ _ _ _ _ h) in
-      sym (ap₂ policyAnswer (sym made-as ∙ e) (sym (policy .counts (ap (λ (s : List ℕ). policiesStage s (sided 0 L ∷ [])) same ∙ h .policies-pass))))
-
--- the tests of two policies as they were made
-module _ (ts : List Table) (L R : NodeLists) (lists : Tested) {F : Fields} (loaded : FieldsOf ts F) {a b : PolicyTested}
-    (left : PolicyTestedAs (take (F .count) (F .sizes)) 1 L a) (right : PolicyTestedAs (take (F .count) (F .sizes)) 2 R b)
+-- the tests as they were made
+module _ (ts : List Table) (side : ℕ) (L R : NodeLists) (lists : Tested) {J : Joint} (joint : JointOf ts J) {c : Counted} (counted : CountOf (take (J .count) (J .sizes)) c)
+    {a b : PolicyTested} (left : PolicyTestedAs (take (J .count) (J .sizes)) side L a) (right : PolicyTestedAs (take (J .count) (J .sizes)) 2 R b)
     {p t : Tested} (both : p ≡ earlierOf (a .tested) (b .tested))
-    (made : t ≡ inOrder (record { fields = F .tested; product = Passed; texts = Passed; policies = p; lists = lists; packets = Passed })) where
-  two-tested : p ≡ policiesStage (take (F .count) (F .sizes)) (pairOf L R)
-  two-tested = both ∙ ap₂ earlierOf (left .tested) (right .tested) ∙ sym (stage-two (take (F .count) (F .sizes)) 1 2 L R)
+    (made : t ≡ inOrder (record { fields = J .tested; product = c .tested; texts = Passed; policies = p; lists = lists; packets = Passed })) where
+  abbrev policies : List Sided
+  policies = sided side L ∷ sided 2 R ∷ []
 
-  front-made : t ≡ inOrder (stagesOf ts Passed (pairOf L R) lists Passed)
-  front-made = made ∙ after-fields ts Passed _ lists Passed (loaded .tested) (λ p. two-tested ∙ ap (λ (s : List ℕ). policiesStage s (pairOf L R)) (loaded .sized p)) (λ p. refl)
+  two-tested : p ≡ policiesStage (take (J .count) (J .sizes)) policies
+  two-tested = both ∙ ap₂ earlierOf (left .tested) (right .tested) ∙ sym (stage-two (take (J .count) (J .sizes)) side 2 L R)
 
-  fields-passed : t ≡ Passed → F .tested ≡ Passed
-  fields-passed e = loaded .tested ∙ fields-pass _ _ _ _ _ (passing _ _ _ _ _ (sym front-made ∙ e))
+  front-made : t ≡ inOrder (stagesOf ts Passed policies lists Passed)
+  front-made =
+      made
+      ∙ after-tables ts Passed policies lists Passed (joint .tested) (λ e. counted .says ∙ ap productStage (joint .sized e))
+      (λ e. two-tested ∙ ap (λ (s : List ℕ). policiesStage s policies) (joint .sized e))
 
-  pub is-front : FrontOf ts L R lists (record { tested = t; count = F .count; sizes = F .sizes; packets = F .packets; «left_dups» = a .dups; «right_dups» = b .dups })
+  module _ (e : t ≡ Passed) where
+    all-pass : Passing ts Passed policies lists Passed
+    all-pass = passing _ _ _ _ _ (sym front-made ∙ e)
+
+    sizes-are : take (J .count) (J .sizes) ≡ jointSizes ts
+    sizes-are = joint .sized (joint .tested ∙ all-pass .fields)
+
+    each-passed : (policiesStage (take (J .count) (J .sizes)) (sided side L ∷ []) ≡ Passed) × (policiesStage (take (J .count) (J .sizes)) (sided 2 R ∷ []) ≡ Passed)
+    each-passed =
+        both-passed _ _
+        (sym (stage-two (take (J .count) (J .sizes)) side 2 L R) ∙ ap (λ (s : List ℕ). policiesStage s policies) sizes-are ∙ all-pass .policies-pass)
+
+  pub is-front : FrontOf ts side L R lists (record { tested = t; count = J .count; sizes = J .sizes; packets = c .packets; «left_dups» = a .dups; «right_dups» = b .dups })
   is-front = record {
     tested = front-made;
-    few = omega (arith, loaded .few, loaded .space);
-    joint = λ e. loaded .sized (fields-passed e);
-    packets = λ e. loaded .counts (fields-passed e);
+    few = omega (arith, joint .few, joint .space);
+    joint = sizes-are;
+    packets = λ e. counted .counts (ap productStage (sizes-are e) ∙ all-pass e .product) ∙ ap product (sizes-are e);
     left-dups = λ e. left .counts (each-passed e .0);
     right-dups = λ e. right .counts (each-passed e .1);
   }
-    where
-      each-passed : t ≡ Passed → (policiesStage (take (F .count) (F .sizes)) (sided 1 L ∷ []) ≡ Passed) × (policiesStage (take (F .count) (F .sizes)) (sided 2 R ∷ []) ≡ Passed)
-      each-passed e =
-          both-passed _ _
-          (sym (stage-two (take (F .count) (F .sizes)) 1 2 L R)
-          ∙ ap (λ (s : List ℕ). policiesStage s (pairOf L R)) (loaded .sized (fields-passed e))
-          ∙ passing _ _ _ _ _ (sym front-made ∙ e) .policies-pass)
 
-module _ (ts : List Table) (L R : NodeLists) {q : PairTested} (f : FrontOf ts L R Passed q) {t : Tested} (is : t ≡ q .tested) where
+-- ---- drop for a policy that a call lacks
+
+drop-passes : (sizes : List ℕ) (side : ℕ) → policiesStage sizes (sided side dropNodes ∷ []) ≡ Passed
+unfolding policiesStage causes cause sided firstOf refusedAt atPlace lowest badLengths badKind badEntries wrongEntries used badChild someNotBelow children nodeAt nodeOf nodeCount notOnce badNegation tooManyDups orAt negatesOther dupsBelow one isDup
+drop-passes sizes side = refl
+
+earlier-passed : (t : Tested) → earlierOf t Passed ≡ t
+unfolding earlierOf
+earlier-passed Passed = refl
+earlier-passed (Refused r) = refl
+
+with-drop : (sizes : List ℕ) (side : ℕ) (L : NodeLists) → policiesStage sizes (sided side L ∷ sided 2 dropNodes ∷ []) ≡ policiesStage sizes (sided side L ∷ [])
+with-drop sizes side L = stage-two sizes side 2 L dropNodes ∙ ap (earlierOf (policiesStage sizes (sided side L ∷ []))) (drop-passes sizes 2) ∙ earlier-passed _
+
+no-policies : (sizes : List ℕ) → Passed ≡ policiesStage sizes []
+unfolding policiesStage causes cause firstOf
+no-policies sizes = refl
+
+module _ (ts : List Table) (texts lists packets : Tested) where
+  same-policies : (ps qs : List Sided) → policiesStage (jointSizes ts) ps ≡ policiesStage (jointSizes ts) qs
+      → inOrder (stagesOf ts texts ps lists packets) ≡ inOrder (stagesOf ts texts qs lists packets)
+  unfolding stagesOf
+  same-policies ps qs e = ap (λ (p : Tested). inOrder (record { fields = tablesStage ts; product = productStage (jointSizes ts); texts = texts; policies = p; lists = lists; packets = packets })) e
+
+  pub one-policy-only : (side : ℕ) (L : NodeLists) → inOrder (stagesOf ts texts (sided side L ∷ sided 2 dropNodes ∷ []) lists packets) ≡ inOrder (stagesOf ts texts (sided side L ∷ []) lists packets)
+  one-policy-only side L = same-policies _ _ (with-drop (jointSizes ts) side L)
+
+  pub no-policy : (side : ℕ) → inOrder (stagesOf ts texts (sided side dropNodes ∷ sided 2 dropNodes ∷ []) lists packets) ≡ inOrder (stagesOf ts texts [] lists packets)
+  no-policy side = same-policies _ _ (with-drop (jointSizes ts) side dropNodes ∙ drop-passes (jointSizes ts) side ∙ no-policies (jointSizes ts))
+
+-- ---- the answers
+
+module _ (ts : List Table) (L : NodeLists) {q : CallTested} (f : FrontOf ts 0 L dropNodes Passed q) {t : Tested} (is : t ≡ q .tested) where
+  policy-tests : t ≡ policyTests ts L
+  unfolding policyTests
+  policy-tests = is ∙ f .tested ∙ one-policy-only ts Passed Passed Passed 0 L
+
+  pub policy-refused : (r : Refusal) → t ≡ Refused r → PolicyRefused r ≡ policyLegality ts L
+  unfolding policyLegality policyAnswer
+  policy-refused r e = sym (ap (λ (u : Tested). policyAnswer u (dupsBelow L (nodeCount L))) (sym policy-tests ∙ e))
+
+  pub policy-passed : t ≡ Passed → LegalPolicy (q .«left_dups») ≡ policyLegality ts L
+  unfolding policyLegality policyAnswer
+  policy-passed e = ap LegalPolicy (f .left-dups (sym is ∙ e)) ∙ sym (ap (λ (u : Tested). policyAnswer u (dupsBelow L (nodeCount L))) (sym policy-tests ∙ e))
+
+module _ (ts : List Table) (L R : NodeLists) {q : CallTested} (f : FrontOf ts 1 L R Passed q) {t : Tested} (is : t ≡ q .tested) where
   tests-are : t ≡ pairTests ts L R
   unfolding pairTests
   tests-are = is ∙ f .tested

@@ -17,10 +17,11 @@ use Rattle.legality.specs.declared.PolicyAnswer.the-variants.{Legal as L
 use Rattle.legality.specs.declared.PairAnswer.{PairAnswer}
 use Rattle.legality.specs.declared.PairAnswer.the-variants.{Legal as LegalPair, Refused as PairRefused}
 use Rattle.legality.specs.declared.PolicyTested.{PolicyTested}
-use Rattle.legality.specs.declared.PairTested.{PairTested}
+use Rattle.legality.specs.declared.CallTested.{CallTested}
+use Rattle.policy.specs.AsLists.{asLists}
 use Rattle.policy.specs.NodeLists.{NodeLists, nodeCount, dupsBelow}
 use Rattle.policy.specs.Legality.{badKind, badEntries, badChild, notOnce, badNegation, tooManyDups}
-use Rattle.policy.specs.Order.{inOrder, sided, policiesStage, stagesOf, pairOf, policyTests, pairTests, causePlace}
+use Rattle.policy.specs.Order.{inOrder, sided, policiesStage, stagesOf, policyTests, pairTests, causePlace}
 
 -- each answer's number and values: a refusal's are its own, a legal policy has its number of dups
 unfoldable pub policyAnswer : Tested → ℕ → PolicyAnswer
@@ -80,10 +81,14 @@ earlierOf Passed u = u
 earlierOf (Refused p) Passed = Refused p
 earlierOf (Refused p) (Refused q) = Refused (earlier p q)
 
--- What a call on two policies is told: the first cause, `lists` being what stage "lists" says; the joint sizes, N and the dups of each where
--- none holds.
-pub record FrontOf (ts : List Table) (L R : NodeLists) (lists : Tested) (r : PairTested) : Type 0 where
-  pub tested : r .tested ≡ inOrder (stagesOf ts Passed (pairOf L R) lists Passed)
+-- the nodes of ⊥
+abbrev pub dropNodes : NodeLists
+dropNodes = asLists (0 ∷ []) (0 ∷ []) (0 ∷ [])
+
+-- What a call is told: the first cause, `side` being what the left policy's refusals name and `lists` what stage "lists" says; the joint sizes, N
+-- and the dups of each policy where none holds.
+pub record FrontOf (ts : List Table) (side : ℕ) (L R : NodeLists) (lists : Tested) (r : CallTested) : Type 0 where
+  pub tested : r .tested ≡ inOrder (stagesOf ts Passed (sided side L ∷ sided 2 R ∷ []) lists Passed)
   pub few : r .count ≤ length (r .sizes)
   pub joint : r .tested ≡ Passed → take (r .count) (r .sizes) ≡ jointSizes ts
   pub packets : r .tested ≡ Passed → r .packets ≡ product (jointSizes ts)

@@ -30,8 +30,8 @@ pub struct PolicyTested {
     pub dups: u8,
 }
 
-// What the causes of a call on two policies say, beside the joint sizes, N and the dups of each, which count where they pass.
-pub struct PairTested {
+// What the causes of a call say, beside the joint sizes, N and the dups of each policy, which count where they pass.
+pub struct CallTested {
     pub tested: Tested,
     pub count: usize,
     pub sizes: [u16; 8],
@@ -95,38 +95,6 @@ pub fn policy_stage(
     }
 }
 
-// Whether the lists are a legal policy over the joint fields of the tables, side 0.
-pub fn policy_legality(
-    left_names: &[u8],
-    left_sizes: &[u16],
-    right_names: &[u8],
-    right_sizes: &[u16],
-    kind: &[u8],
-    first: &[u16],
-    second: &[u16],
-) -> PolicyAnswer
-    ensures { λ r. ⌜ r ≡ policyLegality (tablesAtEntry «left_names» «left_sizes» «right_names» «right_sizes») (policyAtEntry kind first second) ⌝ }
-{
-    let fields = fields::load(left_names, left_sizes, right_names, right_sizes);
-    let count = fields.count;
-    let sizes = fields.sizes;
-    let policy = policy_stage(&sizes[..count], 0, kind, first, second);
-    let said = fields.tested;
-    let policies = policy.tested;
-    let tested = policy::order::in_order(Stages {
-        fields: said,
-        product: Tested::Passed,
-        texts: Tested::Passed,
-        policies,
-        lists: Tested::Passed,
-        packets: Tested::Passed,
-    });
-    match tested {
-        Tested::Refused(r) => PolicyAnswer::Refused(r),
-        Tested::Passed => PolicyAnswer::Legal(policy.dups),
-    }
-}
-
 // The place of a policy's cause in the list, from 1 on.
 fn cause_place(number: u8) -> u8
     ensures { λ r. ⌜ r ≡ causePlace number ⌝ }
@@ -161,13 +129,14 @@ fn earlier(left: Tested, right: Tested) -> Tested
     }
 }
 
-// Inner: the causes of a call on two policies in their order, `lists` being what stage "lists" says. Every such call goes
-// through here.
+// Inner: the causes of a call in their order, `side` being what the left policy's refusals name and `lists` what stage "lists" says. Every call
+// but the reader goes through here: one with fewer policies hands over drop, which is legal, and one with packets tests them after.
 pub fn front(
     left_names: &[u8],
     left_sizes: &[u16],
     right_names: &[u8],
     right_sizes: &[u16],
+    side: u8,
     left_kind: &[u8],
     left_first: &[u16],
     left_second: &[u16],
@@ -175,33 +144,70 @@ pub fn front(
     right_first: &[u16],
     right_second: &[u16],
     lists: Tested,
-) -> PairTested
-    ensures { λ r. ⌜ FrontOf (tablesAtEntry «left_names» «left_sizes» «right_names» «right_sizes») (policyAtEntry «left_kind» «left_first» «left_second») (policyAtEntry «right_kind» «right_first» «right_second») lists r ⌝ }
+) -> CallTested
+    ensures { λ r. ⌜ FrontOf (tablesAtEntry «left_names» «left_sizes» «right_names» «right_sizes») side (policyAtEntry «left_kind» «left_first» «left_second») (policyAtEntry «right_kind» «right_first» «right_second») lists r ⌝ }
 {
-    let fields = fields::load(left_names, left_sizes, right_names, right_sizes);
-    let count = fields.count;
-    let sizes = fields.sizes;
-    let left = policy_stage(&sizes[..count], 1, left_kind, left_first, left_second);
+    let joint = fields::join(left_names, left_sizes, right_names, right_sizes);
+    let count = joint.count;
+    let sizes = joint.sizes;
+    let counted = packet::packet_count(&sizes[..count]);
+    let left = policy_stage(&sizes[..count], side, left_kind, left_first, left_second);
     let right = policy_stage(&sizes[..count], 2, right_kind, right_first, right_second);
-    let said = fields.tested;
+    let fields = joint.tested;
+    let product = counted.tested;
     let left_says = left.tested;
     let right_says = right.tested;
     let policies = earlier(left_says, right_says);
     let tested = policy::order::in_order(Stages {
-        fields: said,
-        product: Tested::Passed,
+        fields,
+        product,
         texts: Tested::Passed,
         policies,
         lists,
         packets: Tested::Passed,
     });
-    PairTested {
+    CallTested {
         tested,
         count,
         sizes,
-        packets: fields.packets,
+        packets: counted.packets,
         left_dups: left.dups,
         right_dups: right.dups,
+    }
+}
+
+// Whether the lists are a legal policy over the joint fields of the tables, side 0.
+pub fn policy_legality(
+    left_names: &[u8],
+    left_sizes: &[u16],
+    right_names: &[u8],
+    right_sizes: &[u16],
+    kind: &[u8],
+    first: &[u16],
+    second: &[u16],
+) -> PolicyAnswer
+    ensures { λ r. ⌜ r ≡ policyLegality (tablesAtEntry «left_names» «left_sizes» «right_names» «right_sizes») (policyAtEntry kind first second) ⌝ }
+{
+    let drop = [0u8; 1];
+    let unused = [0u16; 1];
+    let found = front(
+        left_names,
+        left_sizes,
+        right_names,
+        right_sizes,
+        0,
+        kind,
+        first,
+        second,
+        &drop,
+        &unused,
+        &unused,
+        Tested::Passed,
+    );
+    let tested = found.tested;
+    match tested {
+        Tested::Refused(r) => PolicyAnswer::Refused(r),
+        Tested::Passed => PolicyAnswer::Legal(found.left_dups),
     }
 }
 
@@ -225,6 +231,7 @@ pub fn pair_legality(
         left_sizes,
         right_names,
         right_sizes,
+        1,
         left_kind,
         left_first,
         left_second,

@@ -12,7 +12,7 @@ use Rattle.packet.specs.Sizes.{LegalSizes}
 use Rattle.packet.proofs.Stages.{refusedAt-passed, atPlace-none}
 use Rattle.fields.specs.Tables.{Table, jointSizes}
 use Rattle.policy.specs.Order.{inOrder, sided, stagesOf, pairOf, pairTests}
-use Rattle.legality.specs.declared.PairTested.{PairTested}
+use Rattle.legality.specs.declared.CallTested.{CallTested}
 use Rattle.legality.specs.Answers.{FrontOf}
 use Rattle.policy.specs.InnerEach.{Each}
 use Rattle.policy.specs.Legality.{Legal}
@@ -33,7 +33,7 @@ lists-stage work e t = t ∙ ap (λ (w : Bool). refusedAt 10 0 (atZero (w || ltb
 
 module _ (ts : List Table) (L R : NodeLists) (lists : Tested) where
   -- the tests as they were made
-  pub front-tests : {said : Tested} {q : PairTested} → said ≡ lists → FrontOf ts L R said q → q .tested ≡ lentTests ts L R lists
+  pub front-tests : {said : Tested} {q : CallTested} → said ≡ lists → FrontOf ts 1 L R said q → q .tested ≡ lentTests ts L R lists
   unfolding lentTests
   front-tests e f = f .tested ∙ ap (λ (l : Tested). inOrder (stagesOf ts Passed (pairOf L R) l Passed)) e
 

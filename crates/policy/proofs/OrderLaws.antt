@@ -8,9 +8,8 @@ use Rattle.packet.specs.declared.Tested.the-variants.{Passed, Refused}
 use Rattle.packet.specs.Refusals.{firstOf}
 use Rattle.packet.specs.Sizes.{productStage, LegalSizes}
 use Rattle.packet.proofs.Legal.{passed-legal}
-use Rattle.packet.proofs.Stages.{firstOf-last, firstOf-next, firstOf-refused, refused≢passed}
+use Rattle.packet.proofs.Stages.{firstOf-refused, refused≢passed}
 use Rattle.fields.specs.Tables.{Table, jointSizes, tablesStage}
-use Rattle.fields.specs.Inner.{fieldsTests}
 use Rattle.fields.proofs.TableLaws.{tables-legal}
 use Rattle.policy.specs.InnerEach.{Each}
 use Rattle.policy.specs.Legality.{Legal}
@@ -38,6 +37,19 @@ after-passed [] us e = refl
 after-passed (Passed ∷ ts) us e = after-passed ts us e
 after-passed (Refused q ∷ ts) us e = absurd (refused≢passed e)
 
+-- What follows a test matters only where it passes.
+pub after-first : {t u : Tested} (vs ws : List Tested) → t ≡ u → (t ≡ Passed → firstOf vs ≡ firstOf ws) → firstOf (t ∷ vs) ≡ firstOf (u ∷ ws)
+unfolding firstOf
+after-first {t} {u} vs ws e same = ap (λ (x : Tested). firstOf (x ∷ vs)) e ∙ go u e
+  where
+    go : (x : Tested) → t ≡ x → firstOf (x ∷ vs) ≡ firstOf (x ∷ ws)
+    go Passed p = same p
+    go (Refused r) p = refl
+
+-- the stages before the texts
+abbrev pub beforeTexts : List Table → Tested
+beforeTexts ts = firstOf (tablesStage ts ∷ productStage (jointSizes ts) ∷ [])
+
 module _ (ts : List Table) (texts : Tested) (policies : List Sided) (lists packets : Tested) where
   -- what holds where a call's tests pass
   pub record Passing : Type 0 where
@@ -60,11 +72,6 @@ module _ (ts : List Table) (texts : Tested) (policies : List Sided) (lists packe
     pub sizes-legal : LegalSizes (jointSizes ts)
     sizes-legal = passed-legal (jointSizes ts) (tables-legal ts (h .fields)) (h .product)
 
-    -- the causes that a call has found when it has loaded the fields
-    pub fields-pass : fieldsTests ts ≡ Passed
-    unfolding fieldsTests
-    fields-pass = firstOf-next _ _ (h .fields) ∙ firstOf-last _ ∙ h .product
-
     pub policies-legal : Each (λ p. Legal (jointSizes ts) (p .lists)) policies
     policies-legal = stage-passes (jointSizes ts) policies .0 (h .policies-pass)
 
@@ -73,29 +80,19 @@ module _ (ts : List Table) (texts : Tested) (policies : List Sided) (lists packe
   unfolding inOrder order stagesOf
   packets-last = last-said (tablesStage ts ∷ productStage (jointSizes ts) ∷ texts ∷ policiesStage (jointSizes ts) policies ∷ lists ∷ []) packets
 
-  -- The causes of the tables and 3 come first, so the rest may be tested with the fields as they were loaded.
-  pub after-fields : {u p k : Tested} → u ≡ fieldsTests ts → (u ≡ Passed → p ≡ policiesStage (jointSizes ts) policies) → (u ≡ Passed → k ≡ packets)
-      → inOrder (record { fields = u; product = Passed; texts = texts; policies = p; lists = lists; packets = k }) ≡ inOrder (stagesOf ts texts policies lists packets)
-  unfolding inOrder order stagesOf fieldsTests firstOf
-  after-fields {u} {p} {k} e same-p same-k = go u refl
-    where
-      rest : List Tested
-      rest = texts ∷ policiesStage (jointSizes ts) policies ∷ lists ∷ packets ∷ []
+  -- The causes of the tables come first, so the rest may be tested with the fields as they were joined.
+  pub after-tables : {t p q : Tested} → t ≡ tablesStage ts → (t ≡ Passed → p ≡ productStage (jointSizes ts)) → (t ≡ Passed → q ≡ policiesStage (jointSizes ts) policies)
+      → inOrder (record { fields = t; product = p; texts = texts; policies = q; lists = lists; packets = packets }) ≡ inOrder (stagesOf ts texts policies lists packets)
+  unfolding inOrder order stagesOf
+  after-tables e same-p same-q = after-first _ _ e (λ h. ap₂ (λ (p q : Tested). firstOf (p ∷ texts ∷ q ∷ lists ∷ packets ∷ [])) (same-p h) (same-q h))
 
-      go : (v : Tested) → u ≡ v → firstOf (u ∷ Passed ∷ texts ∷ p ∷ lists ∷ k ∷ []) ≡ firstOf (tablesStage ts ∷ productStage (jointSizes ts) ∷ rest)
-      go Passed q =
-          ap (λ (v : Tested). firstOf (v ∷ Passed ∷ texts ∷ p ∷ lists ∷ k ∷ [])) q
-          ∙ ap₂ (λ (p k : Tested). firstOf (texts ∷ p ∷ lists ∷ k ∷ [])) (same-p q) (same-k q)
-          ∙ sym (after-passed (tablesStage ts ∷ productStage (jointSizes ts) ∷ []) rest (sym e ∙ q))
-      go (Refused r) q = ap (λ (v : Tested). firstOf (v ∷ Passed ∷ texts ∷ p ∷ lists ∷ k ∷ [])) q ∙ (sym (refused-by (tablesStage ts ∷ productStage (jointSizes ts) ∷ []) rest (sym e ∙ q)))
+  -- they and 3 come before the texts, and these before the rest
+  pub early-refused : {r : Refusal} → beforeTexts ts ≡ Refused r → inOrder (stagesOf ts texts policies lists packets) ≡ Refused r
+  unfolding inOrder order stagesOf
+  early-refused e = refused-by (tablesStage ts ∷ productStage (jointSizes ts) ∷ []) _ e
 
-  -- they come before the texts, and these before the rest
-  pub fields-refused : {r : Refusal} → fieldsTests ts ≡ Refused r → inOrder (stagesOf ts texts policies lists packets) ≡ Refused r
-  unfolding inOrder order stagesOf fieldsTests
-  fields-refused e = refused-by (tablesStage ts ∷ productStage (jointSizes ts) ∷ []) _ e
-
-  pub texts-refused : {r : Refusal} → fieldsTests ts ≡ Passed → texts ≡ Refused r → inOrder (stagesOf ts texts policies lists packets) ≡ Refused r
-  unfolding inOrder order stagesOf fieldsTests
+  pub texts-refused : {r : Refusal} → beforeTexts ts ≡ Passed → texts ≡ Refused r → inOrder (stagesOf ts texts policies lists packets) ≡ Refused r
+  unfolding inOrder order stagesOf
   texts-refused {r} e f =
       after-passed (tablesStage ts ∷ productStage (jointSizes ts) ∷ []) (texts ∷ policiesStage (jointSizes ts) policies ∷ lists ∷ packets ∷ []) e
       ∙ firstOf-refused _ _ r f

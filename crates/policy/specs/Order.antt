@@ -15,9 +15,8 @@ use Rattle.policy.specs.declared.order.Stages.{Stages}
 use Rattle.policy.specs.NodeLists.{NodeLists, nodeCount}
 use Rattle.policy.specs.Legality.{badLengths, badKind, badEntries, badChild, notOnce, badNegation, tooManyDups}
 
--- The stages of a call, in the order tested: a stage that comes elsewhere is a line that moves, here and in `in_order`; 3 is found together with
--- the causes of the tables (`fields::load`). 18 comes before them all, 11 and 12 after. The search on two texts reads them only where the stages
--- before `texts` pass.
+-- The stages of a call, in the order tested: a stage that comes elsewhere is a line that moves, here and in `in_order`. 18 comes before them all,
+-- 11 and 12 after. The search on two texts reads them only where the stages before `texts` pass.
 unfoldable pub order : Stages → List Tested
 order stages =
     stages .fields  -- 4 of side 0, 20, 21, 1, 2

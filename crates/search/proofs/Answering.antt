@@ -10,7 +10,7 @@ use Rattle.packet.specs.declared.Tested.{Tested}
 use Rattle.packet.specs.declared.Tested.the-variants.{Passed, Refused as Stopped}
 use Rattle.packet.specs.Refusals.{refusal}
 use Rattle.packet.specs.Sizes.{product}
-use Rattle.legality.specs.declared.PairTested.{PairTested}
+use Rattle.legality.specs.declared.CallTested.{CallTested}
 use Rattle.legality.specs.Answers.{FrontOf}
 use Rattle.fields.specs.Tables.{Table, jointSizes}
 use Rattle.policy.specs.NodeLists.{NodeLists}
@@ -99,7 +99,7 @@ refused-full e = let z : _≡_ {A = ℕ} 0 1 = cc in zero≢one z
 -- ---- the tests
 
 -- the tests as they were made
-module _ (ts : List Table) (L R : NodeLists) (x : SearchLists) {said : Tested} (is : said ≡ listsStage (length (x .packets) ∷ length (x .lefts) ∷ length (x .rights) ∷ length (x .parents) ∷ []) (length (x .work))) {q : PairTested} (f : FrontOf ts L R said q) where
+module _ (ts : List Table) (L R : NodeLists) (x : SearchLists) {said : Tested} (is : said ≡ listsStage (length (x .packets) ∷ length (x .lefts) ∷ length (x .rights) ∷ length (x .parents) ∷ []) (length (x .work))) {q : CallTested} (f : FrontOf ts 1 L R said q) where
   tests-are : q .tested ≡ searchTests ts L R x
   unfolding searchTests
   tests-are = front-tests ts L R _ is f

@@ -283,6 +283,7 @@ pub fn search(
         left_sizes,
         right_names,
         right_sizes,
+        1,
         left_kind,
         left_first,
         left_second,

@@ -5,13 +5,16 @@ use mathlib.Core.List.{List, [], _∷_}
 use mathlib.Core.Logic.{_↔_}
 use mathlib.Core.Path.{_≡_, refl, sym, _∙_, ap, subst}
 use lib.ListN.{length, take}
+use Rattle.packet.specs.declared.Counted.{Counted}
 use Rattle.packet.specs.declared.Refusal.{Refusal}
 use Rattle.packet.specs.declared.Tested.{Tested}
 use Rattle.packet.specs.declared.Tested.the-variants.{Passed, Refused as Stopped}
 use Rattle.packet.specs.Refusals.{firstOf}
+use Rattle.packet.specs.Sizes.{productStage, CountOf}
 use Rattle.packet.proofs.Stages.{firstOf-next, firstOf-last, firstOf-refused, firstOf-passed}
+use Rattle.fields.specs.declared.Joint.{Joint}
 use Rattle.fields.specs.Tables.{Table, jointSizes}
-use Rattle.fields.specs.Inner.{fieldsTests}
+use Rattle.fields.specs.Inner.{JointOf}
 use Rattle.policy.specs.Order.{inOrder, stagesOf, pairOf}
 use Rattle.policy.proofs.OrderLaws as order
 use Rattle.policy.specs.Meaning.{Traces, numbered, SameTraces, SameShortTraces, SameTracesBelow, SameShortTracesBelow}
@@ -131,13 +134,13 @@ module _ (leftTable rightTable : Table) (left-text right-text : List ℕ) (x : S
   abbrev textTests : Tested
   textTests = firstOf (textStage lnames left-text ∷ textStage rnames right-text ∷ [])
 
-  pub fields-refused : {r : Refusal} → fieldsTests ts ≡ Stopped r → TextsSearched leftTable rightTable left-text right-text x (Refused r) x
+  pub early-refused : {r : Refusal} → order.beforeTexts ts ≡ Stopped r → TextsSearched leftTable rightTable left-text right-text x (Refused r) x
   unfolding textsTests
-  fields-refused e = refused-by (order.fields-refused ts _ _ _ _ e)
+  early-refused e = refused-by (order.early-refused ts _ _ _ _ e)
 
-  pub fields-passed : {v : Verdict} {y : SearchLists} → fieldsTests ts ≡ Passed → Ran textTests ts (textNodes lnames left-text) (textNodes rnames right-text) x v y → TextsSearched leftTable rightTable left-text right-text x v y
+  early-passed : {v : Verdict} {y : SearchLists} → order.beforeTexts ts ≡ Passed → Ran textTests ts (textNodes lnames left-text) (textNodes rnames right-text) x v y → TextsSearched leftTable rightTable left-text right-text x v y
   unfolding textsTests searchTests lentTests searchVerdict searchLeaves textsVerdict textsLeaves
-  fields-passed {v} {y} e ran = go textTests refl
+  early-passed {v} {y} e ran = go textTests refl
     where
       searched : textTests ≡ Passed → Searched ts (textNodes lnames left-text) (textNodes rnames right-text) x v y → TextsSearched leftTable rightTable left-text right-text x v y
       searched q s =
@@ -165,10 +168,15 @@ module _ (leftTable rightTable : Table) (left-text right-text : List ℕ) (x : S
           (refused-by (order.texts-refused ts _ _ _ _ e q)))
 
   -- the names as they were loaded for each side
-  pub words-passed : {ln′ rn′ : List (List ℕ)} → ln′ ≡ lnames → rn′ ≡ rnames → {v : Verdict} {y : SearchLists} → fieldsTests ts ≡ Passed
+  pub words-passed : {ln′ rn′ : List (List ℕ)} → ln′ ≡ lnames → rn′ ≡ rnames → {v : Verdict} {y : SearchLists} → order.beforeTexts ts ≡ Passed
       → Ran (firstOf (textStage ln′ left-text ∷ textStage rn′ right-text ∷ [])) ts (textNodes ln′ left-text) (textNodes rn′ right-text) x v y
       → TextsSearched leftTable rightTable left-text right-text x v y
   words-passed {ln′} {rn′} p q {v} {y} e ran =
-      fields-passed e
+      early-passed e
       (subst (λ (ns : List (List ℕ)). Ran (firstOf (textStage lnames left-text ∷ textStage ns right-text ∷ [])) ts (textNodes lnames left-text) (textNodes ns right-text) x v y) q
       (subst (λ (ns : List (List ℕ)). Ran (firstOf (textStage ns left-text ∷ textStage rn′ right-text ∷ [])) ts (textNodes ns left-text) (textNodes rn′ right-text) x v y) p ran))
+
+-- what comes before the texts, as it was tested
+pub early-tests : (ts : List Table) {J : Joint} → JointOf ts J → {c : Counted} → CountOf (take (J .count) (J .sizes)) c → {t : Tested} → t ≡ firstOf (J .tested ∷ c .tested ∷ [])
+    → t ≡ order.beforeTexts ts
+early-tests ts joint counted made = made ∙ order.after-first _ _ (joint .tested) (λ p. ap (λ (t : Tested). firstOf (t ∷ [])) (counted .says ∙ ap productStage (joint .sized p)))

@@ -123,13 +123,16 @@ pub fn search(
 ) -> Verdict
     ensures { λ r. ⌜ TextsSearched (table (now («left_names» .entry)) (now («left_sizes» .entry))) (table (now («right_names» .entry)) (now («right_sizes» .entry))) (now (left .entry)) (now (right .entry)) (lentAtEntry packets lefts rights parents trace work) r (lentAtExit packets lefts rights parents trace work) ⌝ }
 {
-    let fields = fields::load(left_names, left_sizes, right_names, right_sizes);
-    let tested = fields.tested;
-    match tested {
+    let joint = fields::join(left_names, left_sizes, right_names, right_sizes);
+    let count = joint.count;
+    let sizes = joint.sizes;
+    let counted = packet::packet_count(&sizes[..count]);
+    let said = joint.tested;
+    let product = counted.tested;
+    match packet::first_of(said, product) {
         Tested::Refused(r) => Verdict::Refused(r),
         Tested::Passed => {
-            let count = fields.count;
-            let names = fields.names;
+            let names = joint.names;
             let left_words = text::side_names(names, count, left_names);
             let right_words = text::side_names(names, count, right_names);
             let end = count * 16;

@@ -17,7 +17,7 @@ use Rattle.packet.proofs.Lowest.{lowest-none, none-lowest, lowest-more, lowest-
 use Rattle.packet.proofs.Stages.{firstOf-last, firstOf-refused, firstOf-next, firstOf-passed, refusedAt-passed}
 use Rattle.policy.specs.Order.{pairOf, pairTests}
 use Rattle.policy.proofs.OrderLaws.{packets-last}
-use Rattle.legality.specs.declared.PairTested.{PairTested}
+use Rattle.legality.specs.declared.CallTested.{CallTested}
 use Rattle.legality.specs.Answers.{FrontOf}
 use Rattle.policy.specs.Legality.{Legal}
 use Rattle.fields.specs.Tables.{Table, jointSizes}
@@ -72,7 +72,7 @@ module _ (N α : ℕ) (trace : List ℕ) where
 
 module _ (ts : List Table) (L R : NodeLists) (words : ℕ) where
   -- the tests as they were made
-  pub tests-made : {said : Tested} {q : PairTested} → said ≡ listsStage [] words → FrontOf ts L R said q → q .tested ≡ listsTests ts L R words
+  pub tests-made : {said : Tested} {q : CallTested} → said ≡ listsStage [] words → FrontOf ts 1 L R said q → q .tested ≡ listsTests ts L R words
   unfolding listsTests
   tests-made e f = front-tests ts L R _ e f
 

@@ -149,6 +149,7 @@ pub fn check(
         left_sizes,
         right_names,
         right_sizes,
+        1,
         left_kind,
         left_first,
         left_second,

@@ -87,19 +87,21 @@ module _ (counts : List ℕ) (n : Node) where
   countable-as : {cs : List ℕ} → children n ≡ cs → Countable counts (children n) → Countable counts cs
   countable-as e h = subst (λ (cs : List ℕ). Countable counts cs) e h
 
-  pub one-room : (c : ℕ) → children n ≡ c ∷ [] → Countable counts (children n) → (c < 512) × (getD counts c 0 < 65535)
+  pub one-room : (c : ℕ) → children n ≡ c ∷ [] → Countable counts (children n) → (c < length counts) × (getD counts c 0 < 65535)
   unfolding Each
   one-room c e h = let k = countable-as e h in (k .small .0, omega (arith, k .room c))
 
-  pub left-room : (l r : ℕ) → children n ≡ l ∷ r ∷ [] → Countable counts (children n) → (l < 512) × (getD counts l 0 < 65535)
+  pub left-room : (l r : ℕ) → children n ≡ l ∷ r ∷ [] → Countable counts (children n) → (l < length counts) × (getD counts l 0 < 65535)
   unfolding Each
   left-room l r e h = let k = countable-as e h in (k .small .0, omega (arith, k .room l))
 
-  pub right-room : (l r : ℕ) {m : List ℕ} → children n ≡ l ∷ r ∷ [] → m ≡ withChild counts l → Countable counts (children n) → (r < 512) × (getD m r 0 < 65535)
+  pub right-room : (l r : ℕ) {m : List ℕ} → children n ≡ l ∷ r ∷ [] → m ≡ withChild counts l → Countable counts (children n) → (r < length m) × (getD m r 0 < 65535)
   unfolding Each
   right-room l r f e h =
-      let k = countable-as f h in
-      (k .small .1 .0, subst (λ (m : List ℕ). getD m r 0 < 65535) (sym e) (omega (arith, k .room r, with-child-most counts l r)))
+      let k = countable-as f h in (
+        subst (λ (m : List ℕ). r < length m) (sym e) (omega (arith, k .small .1 .0, with-child-length counts l)),
+        subst (λ (m : List ℕ). getD m r 0 < 65535) (sym e) (omega (arith, k .room r, with-child-most counts l r)),
+      )
 
 -- ---- all nodes
 
@@ -141,8 +143,8 @@ module _ (L : NodeLists) where
   unfolding badChild
   countable h counts i k cc = record { small = small; room = room }
     where
-      small : Each (λ c. c < 512) (children (nodeAt L i))
-      small = each-map (λ c. c < i) (λ c. c < 512) (children (nodeAt L i)) (λ c l. omega (arith, h .few)) (below-each i (children (nodeAt L i)) .0 (h .below i k))
+      small : Each (λ c. c < length counts) (children (nodeAt L i))
+      small = each-map (λ c. c < i) (λ c. c < length counts) (children (nodeAt L i)) (λ c l. omega (arith, h .few, cc .long)) (below-each i (children (nodeAt L i)) .0 (h .below i k))
 
       room : (j : ℕ) → getD counts j 0 + length (children (nodeAt L i)) ≤ 65535
       room j = go (decLt j 512)
@@ -156,11 +158,8 @@ module _ (L : NodeLists) where
   unfolding timesChild
   one-passed h counts more i k cc e = subst (λ (m : List ℕ). ChildCounts L m (suc i)) (sym e) record {
     long = with-children-length (children (nodeAt L i)) counts ∙ cc .long;
-    each = λ j l. with-children-at (children (nodeAt L i)) counts j small ∙ ap (λ (m : ℕ). m + occurrences j (children (nodeAt L i))) (cc .each j l);
+    each = λ j l. with-children-at (children (nodeAt L i)) counts j (countable h counts i k cc .small) ∙ ap (λ (m : ℕ). m + occurrences j (children (nodeAt L i))) (cc .each j l);
   }
-    where
-      small : Each (λ c. c < length counts) (children (nodeAt L i))
-      small = each-map (λ c. c < 512) (λ c. c < length counts) (children (nodeAt L i)) (λ c l. omega (arith, cc .long)) (countable h counts i k cc .small)
 
   pub node-countable : CountableChildren L → (counts : List ℕ) (i : ℕ) {n : Node} → n ≡ nodeAt L i → i < nodeCount L → ChildCounts L counts i → Countable counts (children n)
   node-countable h counts i e k cc = subst (λ (n : Node). Countable counts (children n)) (sym e) (countable h counts i k cc)

@@ -28,7 +28,7 @@ withChildren counts (c ∷ cs) = withChildren (withChild counts c) cs
 
 -- each child has a place among the counts, and room for as many more as there are children
 pub record Countable (counts children : List ℕ) : Type 0 where
-  pub small : Each (λ c. c < 512) children
+  pub small : Each (λ c. c < length counts) children
   pub room : (j : ℕ) → getD counts j 0 + length children ≤ 65535
 
 -- the counts of children among the first n nodes

@@ -16,32 +16,35 @@ use packet::Place;
 use policy::Node;
 use policy::lent::node_at;
 
-// How often each node is a child, with one more child.
-fn with_child(counts: [u16; 512], child: u16) -> [u16; 512]
-    requires { ⌜ child < 512 ⌝ }
-    requires { ⌜ getD counts child 0 < 65535 ⌝ }
-    ensures { λ r. ⌜ r ≡ withChild counts child ⌝ }
+// One more child is counted.
+fn count_child(counts: &mut [u16], child: u16)
+    requires { ⌜ child < length (now counts) ⌝ }
+    requires { ⌜ getD (now counts) child 0 < 65535 ⌝ }
+    ensures { λ _. ⌜ now (counts .exit) ≡ withChild (now (counts .entry)) child ⌝ }
 {
-    let mut next = counts;
-    let c = child as usize;
-    next[c] += 1;
-    next
+    counts[child as usize] += 1;
 }
 
-// How often each node is a child, with the children of one more node.
-fn with_children(counts: [u16; 512], node: Node) -> [u16; 512]
-    requires { ⌜ Countable counts (children node) ⌝ }
-    ensures { λ r. ⌜ r ≡ withChildren counts (children node) ⌝ }
+// The children of one more node are counted.
+fn count_children(counts: &mut [u16], node: Node)
+    requires { ⌜ Countable (now counts) (children node) ⌝ }
+    ensures { λ _. ⌜ now (counts .exit) ≡ withChildren (now (counts .entry)) (children node) ⌝ }
 {
     match node {
-        Node::Sum(l, r) => with_child(with_child(counts, l), r),
-        Node::Seq(l, r) => with_child(with_child(counts, l), r),
-        Node::Star(c) => with_child(counts, c),
-        Node::Neg(c) => with_child(counts, c),
-        Node::Drop => counts,
-        Node::Id => counts,
-        Node::Field(_) => counts,
-        Node::Dup => counts,
+        Node::Sum(l, r) => {
+            count_child(counts, l);
+            count_child(counts, r);
+        }
+        Node::Seq(l, r) => {
+            count_child(counts, l);
+            count_child(counts, r);
+        }
+        Node::Star(c) => count_child(counts, c),
+        Node::Neg(c) => count_child(counts, c),
+        Node::Drop => (),
+        Node::Id => (),
+        Node::Field(_) => (),
+        Node::Dup => (),
     }
 }
 
@@ -53,8 +56,7 @@ fn times_child(kind: &[u8], first: &[u16], second: &[u16]) -> [u16; 512]
     let mut counts = [0u16; 512];
     let mut i = 0;
     while i < kind.len() {
-        let more = with_children(counts, node_at(kind, first, second, i));
-        counts = more;
+        count_children(&mut counts, node_at(kind, first, second, i));
         i += 1;
     }
     counts

@@ -18,11 +18,12 @@ use Rattle.packet.specs.Sizes.{product, LegalSizes}
 use Rattle.packet.specs.Packets.{Declared, valuesOf, numberOf}
 use Rattle.packet.proofs.Lowest.{lowest-none}
 use Rattle.packet.proofs.Stages.{firstOf-last, firstOf-refused, firstOf-next, firstOf-passed, refusedAt-passed, atPlace-none}
-use Rattle.fields.specs.declared.Fields.{Fields}
 use Rattle.fields.specs.Tables.{Table, jointSizes}
-use Rattle.fields.specs.Inner.{FieldsOf}
-use Rattle.policy.specs.Order.{inOrder, causes, cause, policiesStage, stagesOf}
-use Rattle.policy.proofs.OrderLaws.{passing, sizes-legal, fields-pass, after-fields}
+use Rattle.policy.specs.Order.{inOrder, stagesOf}
+use Rattle.policy.proofs.OrderLaws.{after-first, passing, sizes-legal, packets-last, still-passing}
+use Rattle.legality.specs.declared.CallTested.{CallTested}
+use Rattle.legality.specs.Answers.{dropNodes, FrontOf}
+use Rattle.legality.proofs.AnswerLaws.{no-policy}
 use Rattle.turning.specs.Turning.{lengthTest, numberStage, valuesTests, badValue, valuesStage, numberTests}
 
 -- ---- cause 13
@@ -65,33 +66,35 @@ module _ (sizes values : List ℕ) where
 
 -- ---- the tests as they were made
 
-no-policies : (sizes : List ℕ) → Passed ≡ policiesStage sizes []
-unfolding policiesStage causes cause firstOf
-no-policies sizes = refl
-
-module _ (ts : List Table) {F : Fields} (loaded : FieldsOf ts F) where
+-- F is what the front says without policies
+module _ (ts : List Table) {F : CallTested} (front : FrontOf ts 1 dropNodes dropNodes Passed F) where
   -- the joint sizes are as many as were loaded
-  pub length-joint : F .tested ≡ Passed → F .count ≡ length (jointSizes ts)
-  length-joint p = sym (length-take-le (F .count) (F .sizes) (omega (arith, loaded .few, loaded .space))) ∙ ap length (loaded .sized p)
+  length-joint : F .tested ≡ Passed → F .count ≡ length (jointSizes ts)
+  length-joint p = sym (length-take-le (F .count) (F .sizes) (front .few)) ∙ ap length (front .joint p)
 
-  module _ {t : Tested} (k : Tested) (made : t ≡ inOrder (record { fields = F .tested; product = Passed; texts = Passed; policies = Passed; lists = Passed; packets = k })) where
+  -- 13 after the front
+  then-packets : {t k : Tested} (packets : Tested) → t ≡ firstOf (F .tested ∷ k ∷ []) → (F .tested ≡ Passed → k ≡ packets) → t ≡ inOrder (stagesOf ts Passed [] Passed packets)
+  then-packets packets made same =
+      made
+      ∙ after-first _ (packets ∷ []) (front .tested ∙ no-policy ts Passed Passed Passed 1) (λ p. ap (λ (k : Tested). firstOf (k ∷ [])) (same p))
+      ∙ sym (packets-last ts Passed [] Passed packets)
+
+  module _ {t k : Tested} (made : t ≡ firstOf (F .tested ∷ k ∷ [])) where
     pub values-made : (number len : ℕ) → k ≡ numberStage (F .count) (F .packets) number len → t ≡ valuesTests ts number len
     unfolding valuesTests
-    values-made number len e =
-        made
-        ∙ after-fields ts Passed [] Passed _ (loaded .tested) (λ p. no-policies (jointSizes ts))
-        (λ p. e ∙ ap₂ (λ (c n : ℕ). numberStage c n number len) (length-joint p) (loaded .counts p))
+    values-made number len e = then-packets _ made (λ p. e ∙ ap₂ (λ (c n : ℕ). numberStage c n number len) (length-joint p) (front .packets p))
 
     pub number-made : (values : List ℕ) → k ≡ valuesStage (take (F .count) (F .sizes)) values → t ≡ numberTests ts values
     unfolding numberTests
-    number-made values e =
-        made
-        ∙ after-fields ts Passed [] Passed _ (loaded .tested) (λ p. no-policies (jointSizes ts))
-        (λ p. e ∙ ap (λ (s : List ℕ). valuesStage s values) (loaded .sized p))
+    number-made values e = then-packets _ made (λ p. e ∙ ap (λ (s : List ℕ). valuesStage s values) (front .joint p))
 
 -- ---- what holds where they pass
 
-module _ (ts : List Table) {F : Fields} (loaded : FieldsOf ts F) where
+module _ (ts : List Table) {F : CallTested} (front : FrontOf ts 1 dropNodes dropNodes Passed F) where
+  -- the front has passed where the call's tests pass
+  front-passed : (packets : Tested) → inOrder (stagesOf ts Passed [] Passed packets) ≡ Passed → F .tested ≡ Passed
+  front-passed packets e = front .tested ∙ no-policy ts Passed Passed Passed 1 ∙ still-passing ts [] Passed Passed packets e refl refl refl
+
   -- the sizes are legal, the list has a value for each field, and the number is below N
   pub values-passed : (number len : ℕ) → valuesTests ts number len ≡ Passed
       → LegalSizes (take (F .count) (F .sizes)) × (F .packets ≡ product (take (F .count) (F .sizes))) × (number < F .packets) × (len ≡ length (take (F .count) (F .sizes)))
@@ -99,22 +102,22 @@ module _ (ts : List Table) {F : Fields} (loaded : FieldsOf ts F) where
   values-passed number len e =
       let h = passing _ _ _ _ _ e in
       let q = firstOf-passed _ _ (h .packets-pass) in
-      let p = loaded .tested ∙ fields-pass _ _ _ _ _ h in
-      let same = sym (loaded .sized p) in (
+      let p = front-passed _ e in
+      let same = sym (front .joint p) in (
         subst LegalSizes same (sizes-legal _ _ _ _ _ h),
-        loaded .counts p ∙ ap product same,
-        subst (λ (n : ℕ). number < n) (sym (loaded .counts p)) (leb-false _ _ (atPlace-none 0 _ (refusedAt-passed 13 0 _ (firstOf-passed _ _ (q .1) .0)))),
+        front .packets p ∙ ap product same,
+        subst (λ (n : ℕ). number < n) (sym (front .packets p)) (leb-false _ _ (atPlace-none 0 _ (refusedAt-passed 13 0 _ (firstOf-passed _ _ (q .1) .0)))),
         length-known _ _ (q .0) ∙ ap length same,
       )
 
   -- what is written are the packet's values
   pub values-are : (number len : ℕ) → valuesTests ts number len ≡ Passed → valuesOf (take (F .count) (F .sizes)) number ≡ valuesOf (jointSizes ts) number
   unfolding valuesTests
-  values-are number len e = ap (λ (s : List ℕ). valuesOf s number) (loaded .sized (loaded .tested ∙ fields-pass _ _ _ _ _ (passing _ _ _ _ _ e)))
+  values-are number len e = ap (λ (s : List ℕ). valuesOf s number) (front .joint (front-passed _ e))
 
   pub number-is : (values : List ℕ) → numberTests ts values ≡ Passed → numberOf (take (F .count) (F .sizes)) values ≡ numberOf (jointSizes ts) values
   unfolding numberTests
-  number-is values e = ap (λ (s : List ℕ). numberOf s values) (loaded .sized (loaded .tested ∙ fields-pass _ _ _ _ _ (passing _ _ _ _ _ e)))
+  number-is values e = ap (λ (s : List ℕ). numberOf s values) (front .joint (front-passed _ e))
 
 declared-by-values : (sizes values : List ℕ) → length values ≡ length sizes
     → ((i : ℕ) → i < length sizes → getD values i 0 < getD sizes i 0) → Declared sizes values
@@ -130,13 +133,13 @@ none-bad : (sizes values : List ℕ) → length values ≡ length sizes → lowe
 unfolding badValue
 none-bad sizes values e n = declared-by-values sizes values e (λ i h. leb-false (getD sizes i 0) (getD values i 0) (lowest-none (badValue sizes values) (length sizes) n i h))
 
-pub declared-passed : (ts : List Table) {F : Fields} → FieldsOf ts F → (values : List ℕ) → numberTests ts values ≡ Passed
+pub declared-passed : (ts : List Table) {F : CallTested} → FrontOf ts 1 dropNodes dropNodes Passed F → (values : List ℕ) → numberTests ts values ≡ Passed
     → LegalSizes (take (F .count) (F .sizes)) × Declared (take (F .count) (F .sizes)) values
 unfolding numberTests valuesStage
-declared-passed ts {F} loaded values e =
+declared-passed ts {F} front values e =
     let h = passing _ _ _ _ _ e in
     let q = firstOf-passed _ _ (h .packets-pass) in
-    let same = sym (loaded .sized (loaded .tested ∙ fields-pass _ _ _ _ _ h)) in (
+    let same = sym (front .joint (front-passed ts front _ e)) in (
       subst LegalSizes same (sizes-legal _ _ _ _ _ h),
       subst (λ (s : List ℕ). Declared s values) same (none-bad (jointSizes ts) values (length-known _ _ (q .0)) (refusedAt-passed 13 0 _ (firstOf-passed _ _ (q .1) .0))),
     )

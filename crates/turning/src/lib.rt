@@ -5,12 +5,14 @@ ghost use lib.ListN.{length};
 ghost use Rattle.packet.specs.Lowest.{lowest, optionOf};
 ghost use Rattle.packet.specs.Sizes.{LegalSizes, product};
 ghost use Rattle.packet.specs.Packets.{Declared, valuesOf, numberOf};
+ghost use Rattle.packet.specs.declared.Tested.the-variants.{Passed};
 ghost use Rattle.fields.specs.Tables.{tablesAtEntry, jointSizes};
+ghost use Rattle.legality.specs.Answers.{dropNodes, FrontOf};
 ghost use Rattle.turning.specs.Turning.{lengthTest, numberStage, valuesStage, valuesTests, valuesAnswer, valuesLeft, badValue, numberTests, numberAnswer};
+use legality::CallTested;
 use packet::Place;
 use packet::Refusal;
 use packet::Tested;
-use policy::order::Stages;
 
 // The answer to a number turned into values, which stand in the lent list.
 pub enum Values {
@@ -22,6 +24,33 @@ pub enum Values {
 pub enum Number {
     Packet(u16),
     Refused(Refusal),
+}
+
+// The causes of the tables and 3: the front without policies.
+fn no_policies(
+    left_names: &[u8],
+    left_sizes: &[u16],
+    right_names: &[u8],
+    right_sizes: &[u16],
+) -> CallTested
+    ensures { λ r. ⌜ FrontOf (tablesAtEntry «left_names» «left_sizes» «right_names» «right_sizes») 1 dropNodes dropNodes Passed r ⌝ }
+{
+    let drop = [0u8; 1];
+    let unused = [0u16; 1];
+    legality::front(
+        left_names,
+        left_sizes,
+        right_names,
+        right_sizes,
+        1,
+        &drop,
+        &unused,
+        &unused,
+        &drop,
+        &unused,
+        &unused,
+        Tested::Passed,
+    )
 }
 
 // Cause 13 for a value list of another length than k.
@@ -88,21 +117,12 @@ pub fn values_of(
     ensures answer { λ r. ⌜ r ≡ valuesAnswer (valuesTests (tablesAtEntry «left_names» «left_sizes» «right_names» «right_sizes») number (length (now (values .entry)))) ⌝ }
     ensures list { λ r. ⌜ now (values .exit) ≡ valuesLeft (tablesAtEntry «left_names» «left_sizes» «right_names» «right_sizes») number (now (values .entry)) ⌝ }
 {
-    let fields = fields::load(left_names, left_sizes, right_names, right_sizes);
-    let k = fields.count;
-    let sizes = fields.sizes;
-    let count = fields.packets;
-    let packets = number_stage(k, count, number, values.len());
-    let said = fields.tested;
-    let tested = policy::order::in_order(Stages {
-        fields: said,
-        product: Tested::Passed,
-        texts: Tested::Passed,
-        policies: Tested::Passed,
-        lists: Tested::Passed,
-        packets,
-    });
-    match tested {
+    let found = no_policies(left_names, left_sizes, right_names, right_sizes);
+    let k = found.count;
+    let sizes = found.sizes;
+    let count = found.packets;
+    let said = found.tested;
+    match packet::first_of(said, number_stage(k, count, number, values.len())) {
         Tested::Refused(r) => Values::Refused(r),
         Tested::Passed => {
             write_values(&sizes[..k], count, number, values);
@@ -161,20 +181,11 @@ pub fn number_of(
 ) -> Number
     ensures { λ r. ⌜ r ≡ numberAnswer (numberTests (tablesAtEntry «left_names» «left_sizes» «right_names» «right_sizes») (now (values .entry))) (numberOf (jointSizes (tablesAtEntry «left_names» «left_sizes» «right_names» «right_sizes»)) (now (values .entry))) ⌝ }
 {
-    let fields = fields::load(left_names, left_sizes, right_names, right_sizes);
-    let k = fields.count;
-    let sizes = fields.sizes;
-    let packets = values_stage(&sizes[..k], values);
-    let said = fields.tested;
-    let tested = policy::order::in_order(Stages {
-        fields: said,
-        product: Tested::Passed,
-        texts: Tested::Passed,
-        policies: Tested::Passed,
-        lists: Tested::Passed,
-        packets,
-    });
-    match tested {
+    let found = no_policies(left_names, left_sizes, right_names, right_sizes);
+    let k = found.count;
+    let sizes = found.sizes;
+    let said = found.tested;
+    match packet::first_of(said, values_stage(&sizes[..k], values)) {
         Tested::Refused(r) => Number::Refused(r),
         Tested::Passed => Number::Packet(number_from(&sizes[..k], values)),
     }

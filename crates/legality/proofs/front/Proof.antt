@@ -1,29 +1,38 @@
 -- `front` meets its contract: the stages as found, in their order. Assumes nothing.
-use borrow.Author.Needs.{needs}
 use native.Mathlib.Omega.{arith}
 use mathlib.Core.Path.{sym}
 use lib.Seq.{length-take-le}
 use Rattle.legality.proofs.AnswerLaws.{is-front}
+use borrow.Author.Needs.{needs}
 use Rattle.legality.proofs.front.Statement.{statement}
 use Rattle.legality.proofs.front.Tie as tie
 
-load-requires : tie.Need-load-requires
-load-requires c κs = search needs
+join-requires : tie.Need-join-requires
+join-requires c κs = search needs
 
 array-share-prefix-sizes : tie.Need-array-share-prefix-sizes
 array-share-prefix-sizes c = search needs
 
-slice-aggregate-policy-stage : tie.Need-slice-aggregate-policy-stage
-slice-aggregate-policy-stage c = sym (length-take-le _ _ (omega (arith, c .before .before .load .ensures .few, c .before .before .load .ensures .space)))
+slice-aggregate-packet-count : tie.Need-slice-aggregate-packet-count
+slice-aggregate-packet-count c = sym (length-take-le _ _ (omega (arith, c .before .before .join .ensures .few, c .before .before .join .ensures .space)))
 
-policy-stage-requires : tie.Need-policy-stage-requires
-policy-stage-requires c κs = search needs
+packet-count-requires : tie.Need-packet-count-requires
+packet-count-requires c κs = search needs
 
 array-share-prefix-sizes-2 : tie.Need-array-share-prefix-sizes-2
 array-share-prefix-sizes-2 c = search needs
 
+slice-aggregate-policy-stage : tie.Need-slice-aggregate-policy-stage
+slice-aggregate-policy-stage c = sym (length-take-le _ _ (omega (arith, c .before .before .before .before .join .ensures .few, c .before .before .before .before .join .ensures .space)))
+
+policy-stage-requires : tie.Need-policy-stage-requires
+policy-stage-requires c κs = search needs
+
+array-share-prefix-sizes-3 : tie.Need-array-share-prefix-sizes-3
+array-share-prefix-sizes-3 c = search needs
+
 slice-aggregate-policy-stage-2 : tie.Need-slice-aggregate-policy-stage-2
-slice-aggregate-policy-stage-2 c = sym (length-take-le _ _ (omega (arith, c .before .before .before .before .load .ensures .few, c .before .before .before .before .load .ensures .space)))
+slice-aggregate-policy-stage-2 c = sym (length-take-le _ _ (omega (arith, c .before .before .before .before .before .before .join .ensures .few, c .before .before .before .before .before .before .join .ensures .space)))
 
 policy-stage-requires-2 : tie.Need-policy-stage-requires-2
 policy-stage-requires-2 c κs = search needs
@@ -35,17 +44,20 @@ in-order-requires : tie.Need-in-order-requires
 in-order-requires c κs = search needs
 
 returns : tie.Need-returns
-returns c = is-front _ _ _ _ (c .before .before .before .before .before .before .before .load .ensures) (c .before .before .before .before .policy-stage .ensures) (c .before .before .policy-stage2 .ensures) (c .before .earlier .ensures) (c .in-order .ensures)
+returns c = is-front _ _ _ _ _ (c .before .before .before .before .before .before .before .before .before .join .ensures) (c .before .before .before .before .before .before .packet-count .ensures) (c .before .before .before .before .policy-stage .ensures) (c .before .before .policy-stage2 .ensures) (c .before .earlier .ensures) (c .in-order .ensures)
 
 pub front-spec : {M : Type 1} → statement M
 front-spec =
     tie.close
     (tie.spec
-    load-requires
+    join-requires
     array-share-prefix-sizes
+    slice-aggregate-packet-count
+    packet-count-requires
+    array-share-prefix-sizes-2
     slice-aggregate-policy-stage
     policy-stage-requires
-    array-share-prefix-sizes-2
+    array-share-prefix-sizes-3
     slice-aggregate-policy-stage-2
     policy-stage-requires-2
     earlier-requires

@@ -1,26 +1,21 @@
--- `policy_legality` meets its contract: the stages as found, in their order. Assumes nothing.
-use borrow.Author.Needs.{needs}
-use native.Mathlib.Omega.{arith}
-use mathlib.Core.Path.{sym}
-use lib.Seq.{length-take-le}
+-- `policy_legality` meets its contract: what the front says of the policy and drop. Assumes nothing.
+use mathlib.Core.Path.{refl}
 use Rattle.legality.proofs.AnswerLaws.{policy-refused, policy-passed}
+use borrow.Author.Needs.{needs}
 use Rattle.legality.proofs.policy_legality.Statement.{statement}
 use Rattle.legality.proofs.policy_legality.Tie as tie
 
-load-requires : tie.Need-load-requires
-load-requires c κs = search needs
+slice-aggregate-front : tie.Need-slice-aggregate-front
+slice-aggregate-front c = search needs
 
-array-share-prefix-sizes : tie.Need-array-share-prefix-sizes
-array-share-prefix-sizes c = search needs
+slice-aggregate-front-2 : tie.Need-slice-aggregate-front-2
+slice-aggregate-front-2 c = search needs
 
-slice-aggregate-policy-stage : tie.Need-slice-aggregate-policy-stage
-slice-aggregate-policy-stage c = sym (length-take-le _ _ (omega (arith, c .before .before .load .ensures .few, c .before .before .load .ensures .space)))
+slice-aggregate-front-3 : tie.Need-slice-aggregate-front-3
+slice-aggregate-front-3 c = search needs
 
-policy-stage-requires : tie.Need-policy-stage-requires
-policy-stage-requires c κs = search needs
-
-in-order-requires : tie.Need-in-order-requires
-in-order-requires c κs = search needs
+front-requires : tie.Need-front-requires
+front-requires c κs = search needs
 
 enum-known-tested : tie.Need-enum-known-tested
 enum-known-tested c = search needs
@@ -29,20 +24,19 @@ enum-told : tie.Need-enum-told
 enum-told c = search needs
 
 returns : tie.Need-returns
-returns c = policy-refused _ _ (c .before .before .before .before .before .before .before .load .ensures) (c .before .before .before .before .policy-stage .ensures) (c .before .before .before .in-order .ensures) _ (c .before .tested .given .1)
+returns c = policy-refused _ _ (c .before .before .before .front .ensures) refl _ (c .before .tested .given .1)
 
 returns-2 : tie.Need-returns-2
-returns-2 c = policy-passed _ _ (c .before .before .before .before .before .before .load .ensures) (c .before .before .before .policy-stage .ensures) (c .before .before .in-order .ensures) (c .enum-told .given .1)
+returns-2 c = policy-passed _ _ (c .before .before .front .ensures) refl (c .enum-told .given .1)
 
 pub policy-legality-spec : {M : Type 1} → statement M
 policy-legality-spec =
     tie.close
     (tie.spec
-    load-requires
-    array-share-prefix-sizes
-    slice-aggregate-policy-stage
-    policy-stage-requires
-    in-order-requires
+    slice-aggregate-front
+    slice-aggregate-front-2
+    slice-aggregate-front-3
+    front-requires
     enum-known-tested
     enum-told
     returns

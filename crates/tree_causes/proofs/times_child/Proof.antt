@@ -22,13 +22,16 @@ abbrev μ-loop : tie.MeasureT-loop
 loop-holds : tie.Need-loop-holds Inv-loop μ-loop
 loop-holds c = (omega arith, c .before .before .before .pre, none-passed _ _ refl)
 
+slice-aggregate-count-children : tie.Need-slice-aggregate-count-children Inv-loop μ-loop
+slice-aggregate-count-children c = omega (arith, c .before .before .loop .inv .2 .long)
+
 node-at-requires : tie.Need-node-at-requires Inv-loop μ-loop
 unfolding nodeCount
-node-at-requires c κs = (c .loop-test .taken, omega (arith, c .before .loop .inv .1 .firsts), omega (arith, c .before .loop .inv .1 .seconds))
+node-at-requires c κs = (c .before .loop-test .taken, omega (arith, c .before .before .loop .inv .1 .firsts), omega (arith, c .before .before .loop .inv .1 .seconds))
 
-with-children-requires : tie.Need-with-children-requires Inv-loop μ-loop
+count-children-requires : tie.Need-count-children-requires Inv-loop μ-loop
 unfolding nodeCount
-with-children-requires c κs = node-countable _ (c .before .before .loop .inv .1) _ _ (c .node-at .ensures) (c .before .loop-test .taken) (c .before .before .loop .inv .2)
+count-children-requires c κs = node-countable _ (c .before .before .before .loop .inv .1) _ _ (c .node-at .ensures) (c .before .before .loop-test .taken) (c .before .before .before .loop .inv .2)
 
 add-i : tie.Need-add-i Inv-loop μ-loop
 add-i c = search needs
@@ -38,7 +41,7 @@ loop-less c = search needs
 
 loop-again : tie.Need-loop-again Inv-loop μ-loop
 unfolding nodeCount
-loop-again c = (omega arith, c .before .before .before .loop .inv .1, rw add-one (node-passed _ (c .before .before .before .loop .inv .1) _ _ _ (c .before .node-at .ensures) (c .before .before .loop-test .taken) (c .before .before .before .loop .inv .2) (c .with-children .ensures)))
+loop-again c = (omega arith, c .before .before .before .before .before .loop .inv .1, rw add-one (node-passed _ (c .before .before .before .before .before .loop .inv .1) _ _ _ (c .before .before .node-at .ensures) (c .before .before .before .before .loop-test .taken) (c .before .before .before .before .before .loop .inv .2) (c .before .count-children .ensures)))
 
 returns : tie.Need-returns Inv-loop μ-loop
 unfolding nodeCount
@@ -51,8 +54,9 @@ times-child-spec =
     Inv-loop
     μ-loop
     loop-holds
+    slice-aggregate-count-children
     node-at-requires
-    with-children-requires
+    count-children-requires
     add-i
     loop-less
     loop-again
