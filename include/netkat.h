@@ -55,16 +55,16 @@
  * the row lists and that the work list is all 0 whenever 10 has passed.
  *
  * Stack. A call needs up to NETKAT_STACK bytes of stack, 4 MiB. Measured on policies as deep as they may be, in KiB:
- *   netkat_values 1, netkat_number 1, netkat_policy 3, netkat_policies 4, netkat_read 77,
- *   netkat_search 884, netkat_search_texts 889, netkat_evidence 877, netkat_evidence_rows 2029,
+ *   netkat_values 3, netkat_number 3, netkat_policy 3, netkat_policies 3, netkat_read 77,
+ *   netkat_search 884, netkat_search_texts 890, netkat_evidence 877, netkat_evidence_rows 2029,
  *   netkat_trace 447
  * A thread with too little meets its guard page, and the process ends.
  *
  * Time. Small calls take microseconds, searches and checks of evidence mostly milliseconds. On the costliest policies a row may take
  * some milliseconds, and a call with 65,535 rows minutes. A call can't be cancelled: where that matters, lend fewer rows, or
  * make the call in a process of its own. Tables of n and m names are tested by 20 and 21 with at most n*n/2 + m*m/2 + n*m comparisons
- * of names: nothing for tables that can pass, 4.4 s for 20,000 long names in each where it was measured, and four times as long for twice
- * as many. Calls share no state: any number may run at once. */
+ * of names, by netkat_evidence_rows with twice as many: nothing for tables that can pass, 3.8 s for 20,000 long names in each where it
+ * was measured, and four times as long for twice as many. Calls share no state: any number may run at once. */
 #ifndef NETKAT_H
 #define NETKAT_H
 

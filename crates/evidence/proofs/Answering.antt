@@ -243,7 +243,7 @@ module _ (ts : List Table) (L R : NodeLists) where
           pub stray-asks : EvenColumns packets lefts rights × ((length packets ≤ 65535) × DupsFit dups)
           stray-asks = (lent .table, (lent .numbered, dups-known .0))
 
-          -- the sizes are the joint sizes as they were loaded
+          -- the sizes are the joint sizes as they were joined
           pub table-asks : {spot : Spot} → spotOf spot ≡ lowest (strays packets lefts rights (q .packets) dups) (length packets)
               → LentTable (take (q .count) (q .sizes)) L R packets lefts rights (q .packets) work × StrayIs L R packets lefts rights (q .packets) spot
           table-asks f = (subst (λ (s : List ℕ). LentTable s L R packets lefts rights (q .packets) work) (sym (front .joint passed)) lent, record { first = f ∙ ap (λ (ds : List ℕ). lowest (strays packets lefts rights (q .packets) ds) (length packets)) (dups-known .1) })

@@ -11,7 +11,7 @@ use Rattle.packet.specs.Lowest.{lowest}
 use Rattle.packet.specs.declared.Refusal.{Refusal}
 use Rattle.packet.specs.declared.Tested.{Tested}
 use Rattle.packet.specs.declared.Tested.the-variants.{Passed, Refused}
-use Rattle.fields.specs.Tables.{Table, jointSizes}
+use Rattle.fields.specs.Tables.{Table}
 use Rattle.policy.specs.NodeLists.{NodeLists}
 use Rattle.policy.specs.Order.{pairTests}
 use Rattle.legality.specs.declared.CallTested.{CallTested}

@@ -15,7 +15,7 @@ use Rattle.packet.specs.Lowest.{lowest}
 use Rattle.packet.specs.Refusals.{refusal, refusedAt, atPlace, atZero, firstOf}
 use Rattle.packet.specs.Sizes.{fieldsStage}
 use Rattle.packet.proofs.Lowest.{none-lowest}
-use Rattle.packet.proofs.Stages.{firstOf-last, firstOf-refused, firstOf-next, refused≢passed}
+use Rattle.packet.proofs.Stages.{firstOf-last, firstOf-refused, firstOf-next, firstOf-append, refused≢passed}
 use Rattle.fields.specs.declared.Joint as Answered
 use Rattle.fields.specs.Names.{namesIn, badName}
 use Rattle.fields.specs.Tables.{Table, tables, table, anyTable, mismatched, isEmpty, otherSize, namesStage, sizesStage, tablesStage, jointSizes}
@@ -84,22 +84,6 @@ module _ (leftNames leftSizes rightNames rightSizes : List ℕ) (left-long : len
 pub matched : (cells sizes : ℕ) {r : Bool} → r ≡ not (eqb cells (sizes * 16)) → r ≡ false → cells ≡ sizes * 16
 matched cells sizes e q = eqb-true cells (sizes * 16) (not-false (eqb cells (sizes * 16)) (sym e ∙ q))
 
-past : (a b c d e : Tested) → a ≡ Passed → firstOf (b ∷ c ∷ d ∷ []) ≡ Passed → firstOf (a ∷ b ∷ c ∷ d ∷ e ∷ []) ≡ e
-unfolding firstOf
-past Passed Passed Passed Passed e p q = firstOf-last e
-past Passed Passed Passed (Refused r) e p q = absurd (refused≢passed q)
-past Passed Passed (Refused r) d e p q = absurd (refused≢passed q)
-past Passed (Refused r) c d e p q = absurd (refused≢passed q)
-past (Refused r) b c d e p q = absurd (refused≢passed p)
-
-stops : (a b c d e : Tested) {r : Refusal} → a ≡ Passed → firstOf (b ∷ c ∷ d ∷ []) ≡ Refused r → firstOf (a ∷ b ∷ c ∷ d ∷ e ∷ []) ≡ Refused r
-unfolding firstOf
-stops Passed Passed Passed Passed e p q = absurd (refused≢passed (sym q))
-stops Passed Passed Passed (Refused s) e p q = q
-stops Passed Passed (Refused s) d e p q = q
-stops Passed (Refused s) c d e p q = q
-stops (Refused s) b c d e p q = absurd (refused≢passed p)
-
 module _ {ts : List Table} {a : Answered.Joint} where
   pub answer-refused : {says : Tested} {r : Refusal} → (a .tested ≡ says) × (a .count ≡ 0) × (128 ≡ length (a .names)) × (8 ≡ length (a .sizes)) → says ≡ Refused r → tablesStage ts ≡ Refused r → JointOf ts a
   answer-refused (t, c, n, s) e f =
@@ -131,11 +115,21 @@ module _ (leftNames leftSizes rightNames rightSizes : List ℕ) where
       unfolding anyTable mismatched refusedAt atPlace
       none-mismatched = rw (sym left-matched ∙ left-false, sym right-matched ∙ right-false) refl
 
+      abbrev ts : List Table
+      ts = tables leftNames leftSizes rightNames rightSizes
+
+      abbrev early : List Tested
+      early = namesStage 1 ts ∷ sizesStage 1 ts ∷ refusedAt 1 0 (atZero (anyTable isEmpty ts)) ∷ []
+
+      after-lengths : tablesStage ts ≡ firstOf (firstOf early ∷ fieldsStage (jointSizes ts) ∷ [])
+      unfolding tablesStage
+      after-lengths = firstOf-next _ _ none-mismatched ∙ firstOf-append early (fieldsStage (jointSizes ts) ∷ [])
+
       pub tables-refused : {t : Tested} {q : Refusal} → t ≡ namesAndSizes (tables leftNames leftSizes rightNames rightSizes) → t ≡ Refused q → tablesStage (tables leftNames leftSizes rightNames rightSizes) ≡ Refused q
-      unfolding tablesStage namesAndSizes
-      tables-refused e f = stops _ _ _ _ _ none-mismatched (sym e ∙ f)
+      unfolding namesAndSizes
+      tables-refused e f = after-lengths ∙ firstOf-refused _ _ _ (sym e ∙ f)
 
       pub tables-passed : {t : Tested} → t ≡ namesAndSizes (tables leftNames leftSizes rightNames rightSizes) → t ≡ Passed
           → tablesStage (tables leftNames leftSizes rightNames rightSizes) ≡ fieldsStage (jointSizes (tables leftNames leftSizes rightNames rightSizes))
-      unfolding tablesStage namesAndSizes
-      tables-passed e f = past _ _ _ _ _ none-mismatched (sym e ∙ f)
+      unfolding namesAndSizes
+      tables-passed e f = after-lengths ∙ firstOf-next _ _ (sym e ∙ f) ∙ firstOf-last _

@@ -7,9 +7,9 @@ use mathlib.Core.List.{List, [], _∷_}
 use mathlib.Core.Option.{none, some}
 use mathlib.Core.Path.{_≡_, refl, sym, _∙_, ap, ap₂, subst}
 use lib.Dec.{eqb, leb}
-use lib.ListN.{length, getD, take, drop, drop-of-length-le}
-use lib.Seq.{drop-drop, drop-cons}
-use borrow.Author.Tests.{eqb-true, eq-eqb, le-leb, lt-leb}
+use lib.ListN.{length, getD, take, drop, length-drop, drop-of-length-le}
+use lib.Seq.{length-take-le, drop-drop, drop-cons}
+use borrow.Author.Tests.{eqb-true, eq-eqb, ne-eqb, le-leb, lt-leb}
 use Rattle.packet.specs.Lowest.{lowest}
 use Rattle.packet.proofs.Lowest.{Found, lowest-is, lowest-found, lowest-none-whole}
 use Rattle.packet.proofs.Tests.{and-true}
@@ -61,6 +61,32 @@ name-end-short n h = rw (le-leb n 15 h) refl
 pub name-end-long : (n : ℕ) → 15 < n → nameEnd n ≡ 1
 unfolding nameEnd
 name-end-long n h = rw (lt-leb n 15 h) refl
+
+-- a cell whose length is over 15 holds the empty word
+pub long-holds : (cell w : List ℕ) → 15 < getD cell 0 0 → eqb (length w) 0 ≡ sameWord w (cellName cell)
+unfolding cellName sameWord
+long-holds [] w h = absurd (not-suc-le-zero h)
+long-holds (n ∷ bs) w h = rw (lt-leb n 15 h) (empty-word w)
+  where
+    empty-word : (w : List ℕ) → eqb (length w) 0 ≡ sameWord w []
+    empty-word [] = refl
+    empty-word (x ∷ xs) = ne-eqb (length (x ∷ xs)) 0 (λ e. omega arith)
+
+-- else the name is as long as its first byte says
+pub short-name : (cell : List ℕ) → 16 ≡ length cell → getD cell 0 0 ≤ 15 → cellName cell ≡ take (getD cell 0 0) (drop 1 cell)
+unfolding cellName
+short-name [] e h = refl
+short-name (n ∷ bs) e h = rw (le-leb n 15 h) refl
+
+pub other-length : (cell w : List ℕ) → 16 ≡ length cell → getD cell 0 0 ≤ 15 → (getD cell 0 0 ≡ length w → ⊥) → false ≡ sameWord w (cellName cell)
+other-length cell w e h d = go (sameWord w (cellName cell)) refl
+  where
+    long : length (cellName cell) ≡ getD cell 0 0
+    long = ap length (short-name cell e h) ∙ length-take-le (getD cell 0 0) (drop 1 cell) (omega (arith, length-drop 1 cell))
+
+    go : (b : Bool) → sameWord w (cellName cell) ≡ b → false ≡ b
+    go true q = absurd (d (sym (ap length (same-eq w (cellName cell) q) ∙ long)))
+    go false q = refl
 
 pub length-names-from : (n : ℕ) (cells : List ℕ) → length (namesFrom n cells) ≡ n
 unfolding namesFrom

@@ -1,7 +1,7 @@
 -- Tables of field names with their sizes, and the joint fields of several tables (document 02, A.4). Any number of tables; a call on a left and a
 -- right policy has two.
 use Prim.Native.Nat.{ℕ, suc, _*_}
-use mathlib.Core.Bool.{Bool, true, false, cond, not, _||_}
+use mathlib.Core.Bool.{Bool, false, cond, not, _||_}
 use mathlib.Core.List.{List, [], _∷_, _++_, map}
 use mathlib.Core.Option.{Option, none, some}
 use denote.Ref.{RefT}

@@ -12,7 +12,7 @@ ghost use Rattle.packet.specs.Lowest.{lowest, optionOf};
 ghost use Rattle.packet.specs.Refusals.{refusal, refusedAt, atZero};
 ghost use Rattle.packet.specs.declared.Tested.the-variants.{Refused};
 ghost use Rattle.fields.specs.Names.{fieldNamed, namesIn, cellName};
-ghost use Rattle.fields.specs.Tables.{table, tables, tablesAtEntry, anyTable, another, otherSize};
+ghost use Rattle.fields.specs.Tables.{table, tablesAtEntry, anyTable, another, otherSize};
 ghost use Rattle.fields.specs.Inner.{keptCell, keptNames, FieldPut, FieldAdded, TableAdded, namesAndSizes, Joined, JointOf};
 use packet::Place;
 use packet::Refusal;

@@ -31,8 +31,15 @@ fn holds(cell: &[u8], w: &[u8]) -> bool
     requires { ⌜ 16 ≡ length (now cell) ⌝ }
     ensures { λ r. ⌜ r ≡ sameWord (now (w .entry)) (cellName (now (cell .entry))) ⌝ }
 {
-    let end = name_end(cell[0]);
-    same(w, &cell[1..end])
+    let n = cell[0];
+    if 15 < n {
+        return w.len() == 0;
+    }
+    let long = n as usize;
+    if long != w.len() {
+        return false;
+    }
+    same(w, &cell[1..long + 1])
 }
 
 // Inner: the first cell that holds the word as its name.

@@ -11,9 +11,10 @@ use lib.ListN.{length}
 use borrow.Author.Tests.{lt-ltb, le-ltb, ltb-false, ne-eqb}
 use Rattle.packet.specs.Refusals.{refusal, refusedAt, firstOf}
 use Rattle.packet.specs.declared.Refusal.{Refusal}
+use Rattle.packet.specs.declared.Tested.{Tested}
 use Rattle.packet.specs.declared.Tested.the-variants.{Passed, Refused as Failed}
-use Rattle.packet.proofs.Stages.{firstOf-last}
 use Rattle.fields.specs.Tables.{Table, tablesStage}
+use Rattle.policy.specs.Order.{order, inOrder}
 use Rattle.policy.specs.Tree.{Policy}
 use Rattle.policy.specs.NodesOfTree.{treeSize}
 use Rattle.grammar.specs.declared.Answer.{Answer}
@@ -219,14 +220,19 @@ module _ (names : List (List ℕ)) (text K F S : List ℕ) (room m : ℕ) (r : A
 
 -- ---- the public call: the causes of the tables, then the reader over the names of the text's side
 
+then-passed : (t : Tested) → firstOf (t ∷ Passed ∷ Passed ∷ Passed ∷ []) ≡ t
+unfolding firstOf
+then-passed Passed = refl
+then-passed (Failed r) = refl
+
 module _ {left right : Table} {side : ℕ} {text K F S : List ℕ} where
   pub tables-refuse : {x : Refusal} → Failed x ≡ tablesStage (left ∷ right ∷ []) → TextRead left right side text K F S (Refused x) K F S
-  unfolding readAnswer readTests answerAfter firstOf leftBy
+  unfolding readAnswer readTests answerAfter inOrder order firstOf leftBy
   tables-refuse e = record { answer = rw (← e); kinds = refl; firsts = refl; seconds = refl }
 
   pub tables-pass : {r : Answer} {K′ F′ S′ : List ℕ} (names : List (List ℕ)) → Passed ≡ tablesStage (left ∷ right ∷ []) → names ≡ textNames left right side
       → ReadWith names text K F S r K′ F′ S′ → TextRead left right side text K F S r K′ F′ S′
-  unfolding readAnswer readTests answerTo firstOf
+  unfolding readAnswer readTests answerTo inOrder order firstOf
   tables-pass {r} {K′} {F′} {S′} names e n h =
       let d : ReadWith (textNames left right side) text K F S r K′ F′ S′ = subst (λ (ns : List (List ℕ)). ReadWith ns text K F S r K′ F′ S′) n h in
-      record { answer = d .answer ∙ rw (← e, firstOf-last (tested (textNames left right side) text (shortest K F S))); kinds = d .kinds; firsts = d .firsts; seconds = d .seconds }
+      record { answer = d .answer ∙ rw (← e, then-passed (tested (textNames left right side) text (shortest K F S))); kinds = d .kinds; firsts = d .firsts; seconds = d .seconds }

@@ -12,6 +12,7 @@ use Rattle.packet.specs.Written.{written}
 use Rattle.packet.specs.declared.Tested.{Tested}
 use Rattle.packet.specs.declared.Tested.the-variants.{Passed, Refused as Failed}
 use Rattle.fields.specs.Tables.{Table, namesFor, tableOn, tablesStage}
+use Rattle.policy.specs.Order.{inOrder}
 use Rattle.policy.specs.Tree.{Policy}
 use Rattle.policy.specs.Tree
 use Rattle.policy.specs.NodesOfTree.{treeSize, nodesOf}
@@ -107,9 +108,18 @@ module _ (left right : Table) (side : ℕ) where
   unfoldable pub textNames : List (List ℕ)
   textNames = namesFor (left ∷ right ∷ []) (tableOn side left right)
 
-  -- the order of causes: the tables, then the text
+  -- the tests of the reader: of a call's stages it has the tables and its text
   unfoldable pub readTests : List ℕ → ℕ → Tested
-  readTests text room = firstOf (tablesStage (left ∷ right ∷ []) ∷ tested textNames text room ∷ [])
+  readTests text room =
+      inOrder
+      record {
+        fields = tablesStage (left ∷ right ∷ []);
+        product = Passed;
+        texts = tested textNames text room;
+        policies = Passed;
+        lists = Passed;
+        packets = Passed;
+      }
 
   unfoldable pub readAnswer : List ℕ → ℕ → Answer
   readAnswer text room = answerAfter (readTests text room) (treeSize (textTree textNames text))

@@ -1,7 +1,7 @@
 -- How the answers on one and on two policies come from the causes.
 use Prim.Native.Nat.{ℕ, pred, _<_, _≤_}
 use mathlib.Core.Bool.{Bool}
-use mathlib.Core.List.{List, [], _∷_, _++_, map}
+use mathlib.Core.List.{List, [], _∷_, map}
 use mathlib.Core.Option.{Option, none, some}
 use mathlib.Core.Path.{_≡_, refl, sym, ap, ap₂, _∙_}
 use native.Mathlib.Omega.{arith}
@@ -16,7 +16,7 @@ use Rattle.packet.specs.declared.Tested.{Tested}
 use Rattle.packet.specs.declared.Tested.the-variants.{Passed, Refused}
 use Rattle.packet.proofs.Legal.{passed-legal}
 use Rattle.packet.proofs.Lowest.{lowest-none}
-use Rattle.packet.proofs.Stages.{firstOf-last, firstOf-refused, firstOf-next, firstOf-nested, firstOf-passed, refusedAt-passed, atPlace-none, refused≢passed}
+use Rattle.packet.proofs.Stages.{firstOf-last, firstOf-refused, firstOf-next, firstOf-nested, firstOf-append, firstOf-passed, refusedAt-passed, atPlace-none, refused≢passed}
 use Rattle.fields.specs.declared.Joint.{Joint}
 use Rattle.fields.specs.Tables.{Table, jointSizes, tablesStage}
 use Rattle.fields.specs.Inner.{JointOf}
@@ -29,7 +29,7 @@ use Rattle.policy.specs.AsLists.{asLists}
 use Rattle.policy.specs.InnerEach.{Each}
 use Rattle.policy.specs.NodeLists.{NodeLists, nodeCount, nodeOf, nodeAt, children, one, isDup, dupsBelow}
 use Rattle.policy.specs.Legality.{badLengths, badKind, used, wrongEntries, badEntries, someNotBelow, badChild, notOnce, negatesOther, badNegation, tooManyDups, Legal}
-use Rattle.policy.specs.Order.{inOrder, Cause, causes, Sided, sided, cause, policiesStage, stagesOf, pairOf, policyTests, pairTests, oneOr, placeAmong, causePlace}
+use Rattle.policy.specs.Order.{inOrder, Cause, causes, Sided, sided, cause, policiesStage, stagesOf, policyTests, pairTests, oneOr, placeAmong, causePlace}
 use Rattle.node_causes.specs.Lengths.{SameLengths}
 use Rattle.tree_causes.specs.Counting.{CountableChildren, DupCountOf}
 use Rattle.legality.specs.Answers.{policyAnswer, pairAnswer, policyLegality, pairLegality, nodesStage, treeStage, TestedAs, PolicyTestedAs, earlierIf, earlier, earlierOf, dropNodes, FrontOf}
@@ -37,12 +37,6 @@ use Rattle.policy.proofs.LegalityLaws.{Lengths, lengths, stage-passes}
 use Rattle.policy.proofs.OrderLaws.{Passing, passing, after-tables}
 
 -- ---- orders of tests within orders
-
-firstOf-append : (ts us : List Tested) → firstOf (ts ++ us) ≡ firstOf (firstOf ts ∷ us)
-unfolding firstOf
-firstOf-append [] us = refl
-firstOf-append (Passed ∷ ts) us = firstOf-append ts us
-firstOf-append (Refused r ∷ ts) us = refl
 
 -- the first of two tests
 andThen : Tested → Tested → Tested

@@ -1,4 +1,4 @@
-// Which node lists are legal: the causes of a policy in their order, and the public calls that say so.
+// Which node lists are legal: the causes of a policy in their order, the front of all calls but the reader, and the public calls that say so.
 ghost use mathlib.Core.Path.{_≡_};
 ghost use lib.ListN.{length};
 ghost use Rattle.fields.specs.Tables.{tablesAtEntry};

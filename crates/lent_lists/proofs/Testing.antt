@@ -1,6 +1,6 @@
 -- The causes up to 10: the tests as they were made, and what holds where they pass. Assumes nothing.
 use Prim.Native.Nat.{ℕ, _≤_}
-use mathlib.Core.Bool.{Bool, true, false, true≢false, _||_, not}
+use mathlib.Core.Bool.{Bool, false, _||_, not}
 use mathlib.Core.List.{List, [], _∷_}
 use mathlib.Core.Path.{_≡_, refl, ap, _∙_}
 use lib.Dec.{eqb, ltb}
@@ -10,6 +10,7 @@ use Rattle.packet.specs.declared.Tested.the-variants.{Passed}
 use Rattle.packet.specs.Refusals.{refusedAt, atPlace, atZero}
 use Rattle.packet.specs.Sizes.{LegalSizes}
 use Rattle.packet.proofs.Stages.{refusedAt-passed, atPlace-none}
+use Rattle.packet.proofs.Tests.{or-false}
 use Rattle.fields.specs.Tables.{Table, jointSizes}
 use Rattle.policy.specs.Order.{inOrder, sided, stagesOf, pairOf, pairTests}
 use Rattle.legality.specs.declared.CallTested.{CallTested}
@@ -61,10 +62,6 @@ module _ (ts : List Table) (L R : NodeLists) (lists : Tested) where
   lent-pair e = still-passing ts (pairOf L R) _ _ _ e refl refl refl
 
 -- ---- stage "lists"
-
-or-false : (a b : Bool) → (a || b) ≡ false → (a ≡ false) × (b ≡ false)
-or-false true b e = absurd (true≢false e)
-or-false false b e = (refl, e)
 
 -- the work list is long enough, and nothing is wrong with the row lists
 pub lists-passed : (rows : List ℕ) (work : ℕ) → listsStage rows work ≡ Passed → (rowsMisfit rows ≡ false) × (16384 ≤ work)

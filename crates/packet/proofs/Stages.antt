@@ -2,7 +2,7 @@
 -- Assumes nothing.
 use Prim.Native.Nat.{ℕ, _<_, _≤_}
 use mathlib.Core.Bool.{Bool, true, false, _||_, true≢false}
-use mathlib.Core.List.{List, [], _∷_}
+use mathlib.Core.List.{List, [], _∷_, _++_}
 use mathlib.Core.Option.{Option, none, some}
 use mathlib.Core.Path.{_≡_, refl, ap, ap₂, _∙_}
 use borrow.Author.Tests.{eq-eqb, ne-eqb, lt-ltb, le-ltb}
@@ -35,6 +35,22 @@ pub firstOf-nested : (t : Tested) (ts : List Tested) → firstOf (t ∷ firstOf 
 unfolding firstOf
 firstOf-nested Passed ts = firstOf-last (firstOf ts)
 firstOf-nested (Refused r) ts = refl
+
+-- tests before others answer as one test
+pub firstOf-append : (ts us : List Tested) → firstOf (ts ++ us) ≡ firstOf (firstOf ts ∷ us)
+unfolding firstOf
+firstOf-append [] us = refl
+firstOf-append (Passed ∷ ts) us = firstOf-append ts us
+firstOf-append (Refused r ∷ ts) us = refl
+
+-- what follows a test matters only where it passes
+pub firstOf-after : {t u : Tested} (vs ws : List Tested) → t ≡ u → (t ≡ Passed → firstOf vs ≡ firstOf ws) → firstOf (t ∷ vs) ≡ firstOf (u ∷ ws)
+unfolding firstOf
+firstOf-after {t} {u} vs ws e same = ap (λ (x : Tested). firstOf (x ∷ vs)) e ∙ go u e
+  where
+    go : (x : Tested) → t ≡ x → firstOf (x ∷ vs) ≡ firstOf (x ∷ ws)
+    go Passed p = same p
+    go (Refused r) p = refl
 
 -- a test before tests that were joined
 pub before-tests : {r u : Tested} (t : Tested) (ts : List Tested) → r ≡ firstOf (t ∷ u ∷ []) → u ≡ firstOf ts → r ≡ firstOf (t ∷ ts)

@@ -28,7 +28,7 @@ zeroSize sizes i = eqb (getD sizes i 0) 0
 unfoldable pub productOver : List ℕ → ℕ → Bool
 productOver sizes i = ltb 1024 (product (take (suc i) sizes))
 
--- stage "fields": causes 1 and 2
+-- causes 1 and 2, the last of stage "fields"
 unfoldable pub fieldsStage : List ℕ → Tested
 fieldsStage sizes = firstOf (refusedAt 1 0 (atZero (badCount sizes)) ∷ refusedAt 2 0 (lowest (zeroSize sizes) (length sizes)) ∷ [])
 

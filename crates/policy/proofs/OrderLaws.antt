@@ -1,6 +1,5 @@
 -- The order of causes: what holds where all stages pass, and which stages come before which. Assumes nothing.
-use Prim.Native.Nat.{ℕ}
-use mathlib.Core.List.{List, [], _∷_, _++_}
+use mathlib.Core.List.{List, [], _∷_}
 use mathlib.Core.Path.{_≡_, refl, sym, ap, ap₂, _∙_}
 use Rattle.packet.specs.declared.Refusal.{Refusal}
 use Rattle.packet.specs.declared.Tested.{Tested}
@@ -8,47 +7,20 @@ use Rattle.packet.specs.declared.Tested.the-variants.{Passed, Refused}
 use Rattle.packet.specs.Refusals.{firstOf}
 use Rattle.packet.specs.Sizes.{productStage, LegalSizes}
 use Rattle.packet.proofs.Legal.{passed-legal}
-use Rattle.packet.proofs.Stages.{firstOf-refused, refused≢passed}
+use Rattle.packet.proofs.Stages.{firstOf-refused, firstOf-next, firstOf-append, firstOf-after}
 use Rattle.fields.specs.Tables.{Table, jointSizes, tablesStage}
 use Rattle.fields.proofs.TableLaws.{tables-legal}
 use Rattle.policy.specs.InnerEach.{Each}
 use Rattle.policy.specs.Legality.{Legal}
-use Rattle.policy.specs.Order.{order, inOrder, causes, Sided, cause, policiesStage, stagesOf}
+use Rattle.policy.specs.Order.{order, inOrder, Sided, policiesStage, stagesOf}
 use Rattle.policy.proofs.LegalityLaws.{firstOf-each, stage-passes}
 
--- what the last of several tests says
-last-said : (ts : List Tested) (t : Tested) → firstOf (ts ++ (t ∷ [])) ≡ firstOf (firstOf (ts ++ (Passed ∷ [])) ∷ t ∷ [])
-unfolding firstOf
-last-said [] t = refl
-last-said (Passed ∷ ts) t = last-said ts t
-last-said (Refused r ∷ ts) t = refl
-
--- a refusal by the tests before
-refused-by : (ts : List Tested) {r : Refusal} (us : List Tested) → firstOf ts ≡ Refused r → firstOf (ts ++ us) ≡ Refused r
-unfolding firstOf
-refused-by [] us e = absurd (refused≢passed (sym e))
-refused-by (Passed ∷ ts) us e = refused-by ts us e
-refused-by (Refused q ∷ ts) us e = e
-
--- the tests before pass
-after-passed : (ts : List Tested) (us : List Tested) → firstOf ts ≡ Passed → firstOf (ts ++ us) ≡ firstOf us
-unfolding firstOf
-after-passed [] us e = refl
-after-passed (Passed ∷ ts) us e = after-passed ts us e
-after-passed (Refused q ∷ ts) us e = absurd (refused≢passed e)
-
--- What follows a test matters only where it passes.
-pub after-first : {t u : Tested} (vs ws : List Tested) → t ≡ u → (t ≡ Passed → firstOf vs ≡ firstOf ws) → firstOf (t ∷ vs) ≡ firstOf (u ∷ ws)
-unfolding firstOf
-after-first {t} {u} vs ws e same = ap (λ (x : Tested). firstOf (x ∷ vs)) e ∙ go u e
-  where
-    go : (x : Tested) → t ≡ x → firstOf (x ∷ vs) ≡ firstOf (x ∷ ws)
-    go Passed p = same p
-    go (Refused r) p = refl
-
 -- the stages before the texts
+abbrev early : List Table → List Tested
+early ts = tablesStage ts ∷ productStage (jointSizes ts) ∷ []
+
 abbrev pub beforeTexts : List Table → Tested
-beforeTexts ts = firstOf (tablesStage ts ∷ productStage (jointSizes ts) ∷ [])
+beforeTexts ts = firstOf (early ts)
 
 module _ (ts : List Table) (texts : Tested) (policies : List Sided) (lists packets : Tested) where
   -- what holds where a call's tests pass
@@ -77,25 +49,30 @@ module _ (ts : List Table) (texts : Tested) (policies : List Sided) (lists packe
 
   -- 13 comes last
   pub packets-last : inOrder (stagesOf ts texts policies lists packets) ≡ firstOf (inOrder (stagesOf ts texts policies lists Passed) ∷ packets ∷ [])
-  unfolding inOrder order stagesOf
-  packets-last = last-said (tablesStage ts ∷ productStage (jointSizes ts) ∷ texts ∷ policiesStage (jointSizes ts) policies ∷ lists ∷ []) packets
+  unfolding inOrder order stagesOf firstOf
+  packets-last = firstOf-append rest (packets ∷ []) ∙ ap (λ (t : Tested). firstOf (t ∷ packets ∷ [])) (sym (firstOf-append rest (Passed ∷ []) ∙ then-passed (firstOf rest)))
+    where
+      rest : List Tested
+      rest = tablesStage ts ∷ productStage (jointSizes ts) ∷ texts ∷ policiesStage (jointSizes ts) policies ∷ lists ∷ []
+
+      then-passed : (t : Tested) → firstOf (t ∷ Passed ∷ []) ≡ t
+      then-passed Passed = refl
+      then-passed (Refused r) = refl
 
   -- The causes of the tables come first, so the rest may be tested with the fields as they were joined.
   pub after-tables : {t p q : Tested} → t ≡ tablesStage ts → (t ≡ Passed → p ≡ productStage (jointSizes ts)) → (t ≡ Passed → q ≡ policiesStage (jointSizes ts) policies)
       → inOrder (record { fields = t; product = p; texts = texts; policies = q; lists = lists; packets = packets }) ≡ inOrder (stagesOf ts texts policies lists packets)
   unfolding inOrder order stagesOf
-  after-tables e same-p same-q = after-first _ _ e (λ h. ap₂ (λ (p q : Tested). firstOf (p ∷ texts ∷ q ∷ lists ∷ packets ∷ [])) (same-p h) (same-q h))
+  after-tables e same-p same-q = firstOf-after _ _ e (λ h. ap₂ (λ (p q : Tested). firstOf (p ∷ texts ∷ q ∷ lists ∷ packets ∷ [])) (same-p h) (same-q h))
 
   -- they and 3 come before the texts, and these before the rest
   pub early-refused : {r : Refusal} → beforeTexts ts ≡ Refused r → inOrder (stagesOf ts texts policies lists packets) ≡ Refused r
   unfolding inOrder order stagesOf
-  early-refused e = refused-by (tablesStage ts ∷ productStage (jointSizes ts) ∷ []) _ e
+  early-refused e = firstOf-append (early ts) _ ∙ firstOf-refused _ _ _ e
 
   pub texts-refused : {r : Refusal} → beforeTexts ts ≡ Passed → texts ≡ Refused r → inOrder (stagesOf ts texts policies lists packets) ≡ Refused r
   unfolding inOrder order stagesOf
-  texts-refused {r} e f =
-      after-passed (tablesStage ts ∷ productStage (jointSizes ts) ∷ []) (texts ∷ policiesStage (jointSizes ts) policies ∷ lists ∷ packets ∷ []) e
-      ∙ firstOf-refused _ _ r f
+  texts-refused e f = firstOf-append (early ts) _ ∙ firstOf-next _ _ e ∙ firstOf-refused _ _ _ f
 
 -- a call that passes, with other texts, lists and packets that pass
 pub still-passing : (ts : List Table) (policies : List Sided) (t l k : Tested) {u m n : Tested} → inOrder (stagesOf ts t policies l k) ≡ Passed → u ≡ Passed → m ≡ Passed → n ≡ Passed

@@ -16,7 +16,8 @@ use Rattle.policy.specs.NodeLists.{NodeLists, nodeCount}
 use Rattle.policy.specs.Legality.{badLengths, badKind, badEntries, badChild, notOnce, badNegation, tooManyDups}
 
 -- The stages of a call, in the order tested: a stage that comes elsewhere is a line that moves, here and in `in_order`. 18 comes before them all,
--- 11 and 12 after. The search on two texts reads them only where the stages before `texts` pass.
+-- 11 and 12 after. Calls that test a stage apart rest on a law of `OrderLaws`: texts are read where the stages before them pass, packets are
+-- tested last.
 unfoldable pub order : Stages → List Tested
 order stages =
     stages .fields  -- 4 of side 0, 20, 21, 1, 2

@@ -149,7 +149,7 @@ module _ {sizes : List ℕ} {L R : NodeLists} {x : SearchLists} where
             leaves = same-lent (H .packets) (H .left) (H .right) (H .parents) (T .leaves ∙ ap (λ a. traceAfter a (x .trace)) answer-here) w;
           }
 
--- `sizes` are the joint sizes as they were loaded
+-- `sizes` are the joint sizes as they were joined
 pub accepts : (ts : List Table) {L R : NodeLists} {x : SearchLists} → searchTests ts L R x ≡ Passed → (count : ℕ) → count ≡ product (jointSizes ts) → {sizes : List ℕ} → sizes ≡ jointSizes ts → Accepted sizes L R count x
 unfolding searchTests rowsMisfit
 accepts ts {L} {R} {x} e count c {sizes} same =

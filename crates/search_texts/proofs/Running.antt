@@ -11,7 +11,7 @@ use Rattle.packet.specs.declared.Tested.{Tested}
 use Rattle.packet.specs.declared.Tested.the-variants.{Passed, Refused as Stopped}
 use Rattle.packet.specs.Refusals.{firstOf}
 use Rattle.packet.specs.Sizes.{productStage, CountOf}
-use Rattle.packet.proofs.Stages.{firstOf-next, firstOf-last, firstOf-refused, firstOf-passed}
+use Rattle.packet.proofs.Stages.{firstOf-next, firstOf-last, firstOf-refused, firstOf-after, firstOf-passed}
 use Rattle.fields.specs.declared.Joint.{Joint}
 use Rattle.fields.specs.Tables.{Table, jointSizes}
 use Rattle.fields.specs.Inner.{JointOf}
@@ -167,7 +167,7 @@ module _ (leftTable rightTable : Table) (left-text right-text : List ℕ) (x : S
           (subst (λ (w : Verdict). TextsSearched leftTable rightTable left-text right-text x w x) (sym (p .0))
           (refused-by (order.texts-refused ts _ _ _ _ e q)))
 
-  -- the names as they were loaded for each side
+  -- the names as each side may use them
   pub words-passed : {ln′ rn′ : List (List ℕ)} → ln′ ≡ lnames → rn′ ≡ rnames → {v : Verdict} {y : SearchLists} → order.beforeTexts ts ≡ Passed
       → Ran (firstOf (textStage ln′ left-text ∷ textStage rn′ right-text ∷ [])) ts (textNodes ln′ left-text) (textNodes rn′ right-text) x v y
       → TextsSearched leftTable rightTable left-text right-text x v y
@@ -179,4 +179,4 @@ module _ (leftTable rightTable : Table) (left-text right-text : List ℕ) (x : S
 -- what comes before the texts, as it was tested
 pub early-tests : (ts : List Table) {J : Joint} → JointOf ts J → {c : Counted} → CountOf (take (J .count) (J .sizes)) c → {t : Tested} → t ≡ firstOf (J .tested ∷ c .tested ∷ [])
     → t ≡ order.beforeTexts ts
-early-tests ts joint counted made = made ∙ order.after-first _ _ (joint .tested) (λ p. ap (λ (t : Tested). firstOf (t ∷ [])) (counted .says ∙ ap productStage (joint .sized p)))
+early-tests ts joint counted made = made ∙ firstOf-after _ _ (joint .tested) (λ p. ap (λ (t : Tested). firstOf (t ∷ [])) (counted .says ∙ ap productStage (joint .sized p)))

@@ -17,10 +17,10 @@ use Rattle.packet.specs.Refusals.{refusal, refusedAt, atPlace, firstOf}
 use Rattle.packet.specs.Sizes.{product, LegalSizes}
 use Rattle.packet.specs.Packets.{Declared, valuesOf, numberOf}
 use Rattle.packet.proofs.Lowest.{lowest-none}
-use Rattle.packet.proofs.Stages.{firstOf-last, firstOf-refused, firstOf-next, firstOf-passed, refusedAt-passed, atPlace-none}
+use Rattle.packet.proofs.Stages.{firstOf-last, firstOf-refused, firstOf-next, firstOf-after, firstOf-passed, refusedAt-passed, atPlace-none}
 use Rattle.fields.specs.Tables.{Table, jointSizes}
 use Rattle.policy.specs.Order.{inOrder, stagesOf}
-use Rattle.policy.proofs.OrderLaws.{after-first, passing, sizes-legal, packets-last, still-passing}
+use Rattle.policy.proofs.OrderLaws.{passing, sizes-legal, packets-last, still-passing}
 use Rattle.legality.specs.declared.CallTested.{CallTested}
 use Rattle.legality.specs.Answers.{dropNodes, FrontOf}
 use Rattle.legality.proofs.AnswerLaws.{no-policy}
@@ -68,7 +68,7 @@ module _ (sizes values : List ℕ) where
 
 -- F is what the front says without policies
 module _ (ts : List Table) {F : CallTested} (front : FrontOf ts 1 dropNodes dropNodes Passed F) where
-  -- the joint sizes are as many as were loaded
+  -- the joint sizes are as many as the front says
   length-joint : F .tested ≡ Passed → F .count ≡ length (jointSizes ts)
   length-joint p = sym (length-take-le (F .count) (F .sizes) (front .few)) ∙ ap length (front .joint p)
 
@@ -76,7 +76,7 @@ module _ (ts : List Table) {F : CallTested} (front : FrontOf ts 1 dropNodes drop
   then-packets : {t k : Tested} (packets : Tested) → t ≡ firstOf (F .tested ∷ k ∷ []) → (F .tested ≡ Passed → k ≡ packets) → t ≡ inOrder (stagesOf ts Passed [] Passed packets)
   then-packets packets made same =
       made
-      ∙ after-first _ (packets ∷ []) (front .tested ∙ no-policy ts Passed Passed Passed 1) (λ p. ap (λ (k : Tested). firstOf (k ∷ [])) (same p))
+      ∙ firstOf-after _ (packets ∷ []) (front .tested ∙ no-policy ts Passed Passed Passed 1) (λ p. ap (λ (k : Tested). firstOf (k ∷ [])) (same p))
       ∙ sym (packets-last ts Passed [] Passed packets)
 
   module _ {t k : Tested} (made : t ≡ firstOf (F .tested ∷ k ∷ [])) where

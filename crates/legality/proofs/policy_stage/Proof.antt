@@ -1,4 +1,4 @@
--- `policy_stage` meets its contract: causes 4, then 5 to 7, then 8 and 9. Assumes nothing.
+-- `policy_stage` meets its contract: causes 4, then 5 to 7, then 8, 19 and 9. Assumes nothing.
 use mathlib.Core.Path.{sym, _∙_}
 use Rattle.policy.specs.NodeLists.{nodeCount}
 use Rattle.legality.proofs.AnswerLaws.{lengths-tested, same-lengths, countable-children, lengths-answer, nodes-answer, tree-answer}

@@ -1,7 +1,6 @@
 -- `search_right` meets its contract.
 use borrow.Author.Needs.{needs}
 use native.Mathlib.Omega.{arith}
-use Prim.Native.Nat.{_≤_}
 use mathlib.Core.Path.{refl}
 use Rattle.search_texts.proofs.Reading.{front-length, zeros-length, read-refused, read-passed, read-few, read-nodes}
 use Rattle.search_texts.proofs.Running.{ran-stopped, ran-searched}
