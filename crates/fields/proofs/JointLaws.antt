@@ -19,7 +19,7 @@ use Rattle.packet.proofs.Stages.{firstOf-passed, refusedAt-passed, atPlace-none
 use Rattle.packet.proofs.Tests.{clash, or-false}
 use Rattle.fields.specs.Names.{fieldNamed, isNamed, namesIn, wellFormed, isConstant, badName}
 use Rattle.fields.specs.Tables.{Table, Field, fieldsFrom, fieldsOf, withField, withFields, withTables, joint, jointNames, jointSizes, namesFor, anyTable, mismatched, another, otherSize, namesStage, sizesStage, tablesStage}
-use Rattle.fields.specs.Inner.{keptName, keptNames}
+use Rattle.fields.specs.Inner.{keptName}
 use Rattle.fields.proofs.NameLaws.{length-names, found-below}
 use Rattle.fields.proofs.TableLaws.{size-below}
 use Rattle.fields.proofs.HeldLaws.{field-there, field-new}
@@ -315,11 +315,6 @@ unfolding jointNames joint
 named-joint ts e t m w n = with-tables-named [] ts t w m (ap (λ (l : List (List ℕ)). isNamed l w) (table-names (good ts e t m)) ∙ n)
 
 -- ---- the field of a word
-
--- what `keep_named` leaves of the joint names
-pub names-for : (ts : List Table) (t : Table) → keptNames (namesIn (t .cells)) (jointNames ts) ≡ namesFor ts t
-unfolding namesFor keptNames keptName
-names-for ts t = refl
 
 -- A word of a text is field f exactly if it stands in the table of the text's side and f is its joint number.
 pub word-field : (ts : List Table) (t : Table) (w : List ℕ) (f : ℕ) → (w ≡ [] → ⊥)
