@@ -11,6 +11,8 @@ SINGLE = {ord(c): c for c in "=+;*()!"}
 
 # f0 to f7 on the left, and one of them on the right
 EIGHT = numbered([2] * 8, [2])
+# f0 alone
+ONE = numbered([2])
 
 
 class Refused(Exception):
@@ -212,6 +214,16 @@ def all_cases():
         yield parts_of(damaged(source, negated(source, random_text(source, 3)))), (12, 12, 12)
 
 
+def edges():
+    """The first and the last byte of each class and the bytes next to them, at every place of small texts: before the byte there and in its stead."""
+    for text in SMALL:
+        for at in range(len(text) + 1):
+            for byte in EDGES:
+                yield text[:at] + bytes([byte]) + text[at:]
+                if at < len(text):
+                    yield text[:at] + bytes([byte]) + text[at + 1:]
+
+
 def random_text(source, deep):
     kind = source.randrange(6)
     if kind == 0 and deep:
@@ -254,6 +266,9 @@ def damaged(source, text):
         return text[:at] + bytes([source.choice(b"()*+;=!<-f0 d\x80")]) + text[at + 1:]
     return text
 
+
+EDGES = (9, 32, 33, 47, 48, 57, 58, 60, 61, 64, 65, 90, 91, 96, 97, 122, 123, 127, 128, 255)
+SMALL = (b"", b"id", b"f0<-1")
 
 TEXTS = [
     # the pairs of document 01
@@ -374,3 +389,5 @@ def read_call(tables, side, parts, lengths):
 def calls():
     for parts, lengths in all_cases():
         yield read_call(EIGHT, 1, parts, lengths)
+    for text in edges():
+        yield read_call(ONE, 1, parts_of(text), (3, 3, 3))

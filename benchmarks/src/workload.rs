@@ -310,6 +310,9 @@ fn texts() -> Vec<Benchmark> {
         read("a megabyte, cut off at its end", long_sum("id+")),
         read("a megabyte, no token at its end", long_sum("?")),
         read("a megabyte of negations", long_negation()),
+        read("a megabyte of letters", vec![b'x'; MEGABYTE]),
+        read("a megabyte of digits", vec![b'1'; MEGABYTE]),
+        read("a megabyte of marks", b"+;*=()".repeat(MEGABYTE / 6)),
     ]
 }
 

@@ -249,6 +249,16 @@ abbrev unread : List ℕ → ℕ → ℕ → ℕ → Case
 unread text room number place =
     gives (read text (nines room) (nines room) (nines room)) (readAs (Unread (refusal number 0 place)) (asLists (nines room) (nines room) (nines room)))
 
+-- the text f0=1 with a byte after it, which says the byte's class: a blank or a digit leaves one node with this value, else the number and place
+abbrev afterOne : ℕ → List ℕ
+afterOne b = bytes "f0=1" ++ b ∷ []
+
+abbrev withByte : ℕ → ℕ → Case
+withByte b value = gives (read (afterOne b) (nines 2) (nines 2) (nines 2)) (readAs (Nodes 1) (asLists (2 ∷ 9 ∷ []) (0 ∷ 9 ∷ []) (value ∷ 9 ∷ [])))
+
+abbrev byByte : ℕ → ℕ → ℕ → Case
+byByte b number place = unread (afterOne b) 2 number place
+
 abbrev P2-left : NodeLists
 P2-left = nodes "f0=0;dup"
 
@@ -431,6 +441,28 @@ ofDocument02 =
     ++ compares (2 ∷ []) "f0=0;dup" "dup;f0=0" 3 3 (Full (refusal 11 0 3) 0) (columns (0 ∷ 1 ∷ 0 ∷ []) (1 ∷ 1 ∷ 2 ∷ []) (1 ∷ 1 ∷ 2 ∷ []) (0 ∷ 1 ∷ 0 ∷ [])) []
     ++ compares (1 ∷ []) "dup;dup;dup" "dup;dup;dup;drop+dup;dup;dup" 3 3 (Full (refusal 11 0 3) 2) (columns (0 ∷ 0 ∷ 0 ∷ []) (1 ∷ 2 ∷ 4 ∷ []) (1 ∷ 18 ∷ 36 ∷ []) (0 ∷ 0 ∷ 1 ∷ [])) []
     ++ compares (2 ∷ []) "id" "id" 1 3 (Full (refusal 11 0 1) 0) (columns (0 ∷ []) (1 ∷ []) (1 ∷ []) (0 ∷ [])) []
+    -- A.5: the bytes at the edges of their classes, a letter making the word "1" a bad one at byte 3
+    ++ withByte 9 1
+    ∷ withByte 32 1
+    ∷ byByte 33 16 4
+    ∷ byByte 47 14 4
+    ∷ withByte 48 10
+    ∷ withByte 57 19
+    ∷ byByte 58 14 4
+    ∷ byByte 60 14 4
+    ∷ byByte 61 16 4
+    ∷ byByte 64 14 4
+    ∷ byByte 65 14 3
+    ∷ byByte 90 14 3
+    ∷ byByte 91 14 4
+    ∷ byByte 96 14 4
+    ∷ byByte 97 14 3
+    ∷ byByte 122 14 3
+    ∷ byByte 123 14 4
+    ∷ byByte 127 14 4
+    ∷ byByte 128 14 4
+    ∷ byByte 255 14 4
+    ∷ []
 
 -- A.4
 unfoldable pub ofTables : List Case

@@ -1,10 +1,9 @@
--- The numbers by which the reader knows classes of bytes and kinds of tokens.
+-- The numbers by which the reader knows kinds of tokens.
 use Prim.Native.Nat.{ℕ, zero, suc, pred}
 use mathlib.Core.Bool.{cond}
 use mathlib.Core.List.{List, [], _∷_}
 use lib.Dec.{eqb}
-use Rattle.fields.specs.Bytes.{isBlank, isLetter, isDigit}
-use Rattle.grammar.specs.Tokens.{Token, Placed, Constant, Comparison, dropped, passed, recorded, equals, differs, assigned, constant, field, number, comparison, plus, semicolon, asterisk, opening, closing, exclamation, bad, singleMark, beginsDouble}
+use Rattle.grammar.specs.Tokens.{Token, Placed, Constant, Comparison, dropped, passed, recorded, equals, differs, assigned, constant, field, number, comparison, plus, semicolon, asterisk, opening, closing, exclamation, bad}
 
 -- 1 is the end of the text
 unfoldable pub kindOf : Token → ℕ
@@ -44,19 +43,6 @@ tokenValue asterisk = 0
 tokenValue opening = 0
 tokenValue closing = 0
 tokenValue exclamation = 0
-
--- the class of a byte: 0 starts no token, 1 blank, 2 letter, 3 digit, 4 may begin a mark of two bytes, else the mark that it is
-unfoldable pub classOf : ℕ → ℕ
-classOf b = cond (isBlank b) 1 (cond (isLetter b) 2 (cond (isDigit b) 3 (cond (beginsDouble b) 4 (kindOf (singleMark b)))))
-
--- the classes of n bytes from one on
-unfoldable pub classesFrom : ℕ → ℕ → List ℕ
-classesFrom b zero = []
-classesFrom b (suc n) = classOf b ∷ classesFrom (suc b) n
-
--- the table of 256 entries
-unfoldable pub classTable : List ℕ
-classTable = classesFrom 0 256
 
 -- the token at the front of the tokens that are left: its kind, value and place, and the tokens after it
 unfoldable pub frontKind : List Placed → ℕ

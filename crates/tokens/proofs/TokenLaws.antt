@@ -2,7 +2,7 @@
 use Prim.Native.Nat.{ℕ, zero, suc, _+_, _-_, _≤_, _<_}
 use native.Mathlib.Nat.{zero-add, le-refl}
 use native.Mathlib.Omega.{arith}
-use mathlib.Core.Bool.{Bool, true, false, _&&_, _||_, cond, Bool·beq, true≢false}
+use mathlib.Core.Bool.{Bool, true, false, _&&_, _||_, cond, true≢false}
 use mathlib.Core.List.{List, [], _∷_}
 use mathlib.Core.Logic.{_⊎_, inl, inr, ⊎-elim}
 use mathlib.Core.Path.{_≡_, refl, sym, _∙_, ap, ap₂, subst}
@@ -10,15 +10,13 @@ use lib.Dec.{eqb}
 use lib.ListN.{length, getD, take, drop, length-drop, drop-of-length-le, List·getD-eq-default}
 use lib.Seq.{drop-cons, drop-drop, getD-drop}
 use borrow.Author.Tests.{ne-eqb, eqb-true}
-use Rattle.fields.specs.Bytes.{isBlank, isCapital, isSmall, isLetter, isDigit, inWord}
+use Rattle.fields.specs.Bytes.{isBlank, inWord}
 use Rattle.grammar.specs.Tokens.{Token, Placed, Comparison, equals, differs, assigned, comparison, exclamation, bad, wordToken, singleMark, isDouble, doubleMark, beginsDouble, markToken, wordOf, frontToken, restOfToken, placedFrom, tokensFrom}
-use Rattle.grammar.specs.InnerKinds.{kindOf, tokenValue, comparisonKind, classOf, frontKind, frontValue, frontPlace, afterFront}
+use Rattle.grammar.specs.InnerKinds.{kindOf, tokenValue, comparisonKind, frontKind, frontValue, frontPlace, afterFront}
 use Rattle.tokens.specs.Inner.{NumbersOf, FrontAt, Skipped, TokenFrom}
 use Rattle.tokens.specs.declared.Token as Found
-use Rattle.tokens.proofs.Below.{below}
-use Rattle.tokens.proofs.ByteLaws.{beq-true}
 use Rattle.tokens.proofs.WordLaws.{and-false}
-use Rattle.packet.proofs.Tests.{or-false, T-true}
+use Rattle.packet.proofs.Tests.{or-false}
 
 module _ (names : List (List ℕ)) where
   pub placed-over : (k at : ℕ) (bs : List ℕ) → placedFrom names k at bs ≡ placedFrom names 0 (k + at) (drop k bs)
@@ -187,23 +185,28 @@ lone-not : (b : ℕ) → isDouble b 0 ≡ false
 unfolding isDouble
 lone-not b = rw (and-false (eqb b 33), and-false (eqb b 60))
 
-pub class-double : (b : ℕ) → b < 256 → eqb (classOf b) 4 ≡ beginsDouble b
-unfolding classOf isBlank isCapital isSmall isLetter isDigit beginsDouble singleMark kindOf
-class-double b h = beq-true _ _ (below (λ b. Bool·beq (eqb (classOf b) 4) (beginsDouble b)) 256 tt b h)
+pub no-single : (b : ℕ) → (b ≡ 40 → ⊥) → (b ≡ 41 → ⊥) → (b ≡ 42 → ⊥) → (b ≡ 43 → ⊥) → (b ≡ 59 → ⊥) → (b ≡ 61 → ⊥) → kindOf (singleMark b) ≡ 0
+unfolding singleMark kindOf
+no-single b o c a p s e = rw (ne-eqb b 61 e, ne-eqb b 43 p, ne-eqb b 59 s, ne-eqb b 42 a, ne-eqb b 40 o, ne-eqb b 41 c)
 
-single-value : (b : ℕ) → b < 256 → tokenValue (singleMark b) ≡ cond (eqb (kindOf (singleMark b)) 5) 2 0
-unfolding singleMark kindOf tokenValue comparisonKind
-single-value b h = eqb-true _ _ (T-true _ (below (λ b. eqb (tokenValue (singleMark b)) (cond (eqb (kindOf (singleMark b)) 5) 2 0)) 256 tt b h))
+-- only = has a value among the marks of one byte
+Valued : Token → Type 0
+Valued t = tokenValue t ≡ cond (eqb (kindOf t) 5) 2 0
 
--- a mark of one byte, by its class
-pub single-class : (b a : ℕ) → b < 256 → isBlank b ≡ false → inWord b ≡ false → beginsDouble b ≡ false
-    → (markToken b a ≡ singleMark b) × (kindOf (singleMark b) ≡ classOf b) × (tokenValue (singleMark b) ≡ cond (eqb (classOf b) 5) 2 0) × (isDouble b a ≡ false)
-unfolding markToken classOf inWord beginsDouble isDouble
-single-class b a h blank word double =
-    let letter : isLetter b ≡ false = or-false (isLetter b) (isDigit b) word .0 in
-    let digit : isDigit b ≡ false = or-false (isLetter b) (isDigit b) word .1 in
-    let k : kindOf (singleMark b) ≡ classOf b = sym (rw (blank, letter, digit, double)) in
-    (rw double, k, single-value b h ∙ ap (λ (n : ℕ). cond (eqb n 5) 2 0) k, rw (or-false (eqb b 33) (eqb b 60) double .0, or-false (eqb b 33) (eqb b 60) double .1))
+valued : (t : Bool) (x y : Token) → Valued x → Valued y → Valued (cond t x y)
+valued true x y h k = h
+valued false x y h k = k
+
+single-value : (b : ℕ) → Valued (singleMark b)
+unfolding singleMark Valued kindOf tokenValue comparisonKind
+single-value b =
+    valued (eqb b 61) _ _ refl
+    (valued (eqb b 43) _ _ refl (valued (eqb b 59) _ _ refl (valued (eqb b 42) _ _ refl (valued (eqb b 40) _ _ refl (valued (eqb b 41) _ _ refl refl)))))
+
+-- a byte that begins no mark of two bytes is a mark of one, or none
+no-double : (b a : ℕ) → beginsDouble b ≡ false → (markToken b a ≡ singleMark b) × (isDouble b a ≡ false)
+unfolding markToken beginsDouble isDouble
+no-double b a d = (rw d, rw (or-false (eqb b 33) (eqb b 60) d .0, or-false (eqb b 33) (eqb b 60) d .1))
 
 pub word-within : (text : List ℕ) (at r : ℕ) → at ≤ length text → r ≡ at + length (wordOf (drop at text)) → r ≤ length text
 word-within text at r h e = let l : length (wordOf (drop at text)) ≤ length (drop at text) = word-short (drop at text) in omega (arith, length-drop at text)
@@ -238,13 +241,14 @@ module _ (names : List (List ℕ)) (text : List ℕ) (at : ℕ) (h : at < length
       (λ q. front-mark names text at 5 k (at + 1 + 1) h word (rw d (record { kind-is = sym (q .1); value-is = e })) (rw (q .0) refl) (omega arith))
       (double-either (getD text at 0) (getD text (at + 1) 0))
 
-  pub front-single : (k : ℕ) → getD text at 0 < 256 → isBlank (getD text at 0) ≡ false → k ≡ classOf (getD text at 0) → (k ≡ 4 → ⊥) → FrontAt names text at (record { kind = k; value = cond (eqb k 5) 2 0; start = at; next = at + 1 })
-  front-single k b blank e z =
-      let d : beginsDouble (getD text at 0) ≡ false = sym (class-double (getD text at 0) b) ∙ ne-eqb _ _ (λ q. z (e ∙ q)) in
-      let s = single-class (getD text at 0) (getD text (at + 1) 0) b blank word d in
+  pub front-single : (k : ℕ) → beginsDouble (getD text at 0) ≡ false → k ≡ kindOf (singleMark (getD text at 0))
+      → FrontAt names text at (record { kind = k; value = cond (eqb k 5) 2 0; start = at; next = at + 1 })
+  unfolding Valued
+  front-single k d e =
+      let s = no-double (getD text at 0) (getD text (at + 1) 0) d in
       front-mark names text at k (cond (eqb k 5) 2 0) (at + 1) h word
-      (rw (s .0) (record { kind-is = e ∙ sym (s .1); value-is = ap (λ (n : ℕ). cond (eqb n 5) 2 0) e ∙ sym (s .2) }))
-      (rw (s .3) (omega arith)) (omega arith)
+      (rw (s .0) (record { kind-is = e; value-is = ap (λ (n : ℕ). cond (eqb n 5) 2 0) e ∙ sym (single-value (getD text at 0)) }))
+      (rw (s .1) (omega arith)) (omega arith)
 
 -- the first token after blanks
 module _ (names : List (List ℕ)) (text : List ℕ) (at s : ℕ) (k : Skipped text at s) where

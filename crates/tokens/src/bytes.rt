@@ -1,314 +1,62 @@
-// Classes of bytes.
+// Classes of bytes, by ranges of the byte. All functions here are inner.
 ghost use mathlib.Core.Path.{_≡_};
-ghost use Rattle.fields.specs.Bytes.{isBlank, isDigit, inWord};
-ghost use Rattle.grammar.specs.InnerKinds.{classOf, classTable};
-ghost use lib.ListN.{length};
+ghost use mathlib.Core.Bool.{_&&_};
+ghost use lib.Dec.{leb};
+ghost use Rattle.fields.specs.Bytes.{isBlank, isCapital, isSmall, isLetter, isDigit, inWord};
+ghost use Rattle.grammar.specs.Tokens.{beginsDouble};
 
-// The class of each byte: 0 starts no token, 1 blank, 2 letter, 3 digit, 4 may begin a mark of two bytes, else the kind of the mark that it is.
-const CLASSES: [u8; 256] = [
-    0,
-    0,
-    0,
-    0,
-    0,
-    0,
-    0,
-    0,
-    0,
-    1,
-    0,
-    0,
-    0,
-    0,
-    0,
-    0,
-    0,
-    0,
-    0,
-    0,
-    0,
-    0,
-    0,
-    0,
-    0,
-    0,
-    0,
-    0,
-    0,
-    0,
-    0,
-    0,
-    1,
-    4,
-    0,
-    0,
-    0,
-    0,
-    0,
-    0,
-    9,
-    10,
-    8,
-    6,
-    0,
-    0,
-    0,
-    0,
-    3,
-    3,
-    3,
-    3,
-    3,
-    3,
-    3,
-    3,
-    3,
-    3,
-    0,
-    7,
-    4,
-    5,
-    0,
-    0,
-    0,
-    2,
-    2,
-    2,
-    2,
-    2,
-    2,
-    2,
-    2,
-    2,
-    2,
-    2,
-    2,
-    2,
-    2,
-    2,
-    2,
-    2,
-    2,
-    2,
-    2,
-    2,
-    2,
-    2,
-    2,
-    2,
-    2,
-    0,
-    0,
-    0,
-    0,
-    0,
-    0,
-    2,
-    2,
-    2,
-    2,
-    2,
-    2,
-    2,
-    2,
-    2,
-    2,
-    2,
-    2,
-    2,
-    2,
-    2,
-    2,
-    2,
-    2,
-    2,
-    2,
-    2,
-    2,
-    2,
-    2,
-    2,
-    2,
-    0,
-    0,
-    0,
-    0,
-    0,
-    0,
-    0,
-    0,
-    0,
-    0,
-    0,
-    0,
-    0,
-    0,
-    0,
-    0,
-    0,
-    0,
-    0,
-    0,
-    0,
-    0,
-    0,
-    0,
-    0,
-    0,
-    0,
-    0,
-    0,
-    0,
-    0,
-    0,
-    0,
-    0,
-    0,
-    0,
-    0,
-    0,
-    0,
-    0,
-    0,
-    0,
-    0,
-    0,
-    0,
-    0,
-    0,
-    0,
-    0,
-    0,
-    0,
-    0,
-    0,
-    0,
-    0,
-    0,
-    0,
-    0,
-    0,
-    0,
-    0,
-    0,
-    0,
-    0,
-    0,
-    0,
-    0,
-    0,
-    0,
-    0,
-    0,
-    0,
-    0,
-    0,
-    0,
-    0,
-    0,
-    0,
-    0,
-    0,
-    0,
-    0,
-    0,
-    0,
-    0,
-    0,
-    0,
-    0,
-    0,
-    0,
-    0,
-    0,
-    0,
-    0,
-    0,
-    0,
-    0,
-    0,
-    0,
-    0,
-    0,
-    0,
-    0,
-    0,
-    0,
-    0,
-    0,
-    0,
-    0,
-    0,
-    0,
-    0,
-    0,
-    0,
-    0,
-    0,
-    0,
-    0,
-    0,
-    0,
-    0,
-    0,
-    0,
-    0,
-    0,
-    0,
-    0,
-    0,
-    0,
-    0,
-    0,
-    0,
-    0,
-];
-
-// Inner: the table, to be lent to the functions below. A constant is built anew wherever it is named, so a token takes it once.
-pub fn classes() -> [u8; 256]
-    ensures { λ r. ⌜ (r ≡ classTable) × (256 ≡ length r) ⌝ }
+// Whether the byte is one of a range.
+fn in_range(b: u8, low: u8, high: u8) -> bool
+    ensures { λ r. ⌜ r ≡ (leb low b && leb b high) ⌝ }
 {
-    CLASSES
+    if b < low {
+        return false;
+    }
+    b <= high
 }
 
-fn index(b: u8) -> usize
-    ensures { λ r. ⌜ r ≡ b ⌝ }
-{
-    b as usize
-}
-
-// Inner: the class of a byte.
-pub fn class_of(classes: &[u8], b: u8) -> u8
-    requires { ⌜ now classes ≡ classTable ⌝ }
-    ensures { λ r. ⌜ r ≡ classOf b ⌝ }
-{
-    classes[index(b)]
-}
-
-// Inner.
-pub fn is_blank(classes: &[u8], b: u8) -> bool
-    requires { ⌜ now classes ≡ classTable ⌝ }
+// Inner: space or tab.
+pub fn is_blank(b: u8) -> bool
     ensures { λ r. ⌜ r ≡ isBlank b ⌝ }
 {
-    class_of(classes, b) == 1
+    if b == 32 {
+        return true;
+    }
+    b == 9
+}
+
+fn is_letter(b: u8) -> bool
+    ensures { λ r. ⌜ r ≡ isLetter b ⌝ }
+{
+    if in_range(b, 65, 90) {
+        return true;
+    }
+    in_range(b, 97, 122)
 }
 
 // Inner.
-pub fn is_digit(classes: &[u8], b: u8) -> bool
-    requires { ⌜ now classes ≡ classTable ⌝ }
+pub fn is_digit(b: u8) -> bool
     ensures { λ r. ⌜ r ≡ isDigit b ⌝ }
 {
-    class_of(classes, b) == 3
+    in_range(b, 48, 57)
 }
 
 // Inner: whether a word can have the byte.
-pub fn in_word(classes: &[u8], b: u8) -> bool
-    requires { ⌜ now classes ≡ classTable ⌝ }
+pub fn in_word(b: u8) -> bool
     ensures { λ r. ⌜ r ≡ inWord b ⌝ }
 {
-    let c = class_of(classes, b);
-    if c == 2 {
+    if is_letter(b) {
         return true;
     }
-    c == 3
+    is_digit(b)
+}
+
+// Inner: whether a mark of two bytes can begin with the byte.
+pub fn begins_double(b: u8) -> bool
+    ensures { λ r. ⌜ r ≡ beginsDouble b ⌝ }
+{
+    if b == 33 {
+        return true;
+    }
+    b == 60
 }

@@ -8,10 +8,10 @@ ghost use mathlib.Core.Bool.{true, false};
 ghost use mathlib.Core.List.{List};
 ghost use Prim.Native.Nat.{ℕ, _+_, _≤_, _<_};
 ghost use lib.ListN.{length, getD, drop};
-ghost use Rattle.fields.specs.Bytes.{isBlank, inWord};
+ghost use Rattle.fields.specs.Bytes.{inWord};
 ghost use Rattle.fields.specs.Names.{namesIn};
-ghost use Rattle.grammar.specs.Tokens.{wordOf, doubleMark, beginsDouble};
-ghost use Rattle.grammar.specs.InnerKinds.{classTable, kindOf, tokenValue};
+ghost use Rattle.grammar.specs.Tokens.{wordOf, singleMark, doubleMark, beginsDouble};
+ghost use Rattle.grammar.specs.InnerKinds.{kindOf, tokenValue};
 ghost use Rattle.tokens.specs.Inner.{Skipped, FrontAt, TokenFrom};
 
 // A token by its numbers, with the byte at which it starts and the byte after it.
@@ -22,13 +22,13 @@ pub struct Token {
     pub next: usize,
 }
 
-fn skip(classes: &[u8], text: &[u8], at: usize) -> usize
-    requires { ⌜ (now classes ≡ classTable) × (at ≤ length (now text)) ⌝ }
+fn skip(text: &[u8], at: usize) -> usize
+    requires { ⌜ at ≤ length (now text) ⌝ }
     ensures { λ r. ⌜ Skipped (now (text .entry)) at r ⌝ }
 {
     let mut i = at;
     while i < text.len() {
-        if !bytes::is_blank(classes, text[i]) {
+        if !bytes::is_blank(text[i]) {
             return i;
         }
         i += 1;
@@ -36,13 +36,13 @@ fn skip(classes: &[u8], text: &[u8], at: usize) -> usize
     i
 }
 
-fn word_end(classes: &[u8], text: &[u8], at: usize) -> usize
-    requires { ⌜ (now classes ≡ classTable) × (at ≤ length (now text)) ⌝ }
+fn word_end(text: &[u8], at: usize) -> usize
+    requires { ⌜ at ≤ length (now text) ⌝ }
     ensures { λ r. ⌜ r ≡ at + length (wordOf (drop at (now (text .entry)))) ⌝ }
 {
     let mut i = at;
     while i < text.len() {
-        if !bytes::in_word(classes, text[i]) {
+        if !bytes::in_word(text[i]) {
             return i;
         }
         i += 1;
@@ -50,11 +50,11 @@ fn word_end(classes: &[u8], text: &[u8], at: usize) -> usize
     i
 }
 
-fn word_at(names: &[u8], classes: &[u8], text: &[u8], at: usize) -> Token
-    requires { ⌜ (length (now names) ≤ 128) × (now classes ≡ classTable) × (at < length (now text)) × (inWord (getD (now text) at 0) ≡ true) ⌝ }
+fn word_at(names: &[u8], text: &[u8], at: usize) -> Token
+    requires { ⌜ (length (now names) ≤ 128) × (at < length (now text)) × (inWord (getD (now text) at 0) ≡ true) ⌝ }
     ensures { λ r. ⌜ FrontAt (namesIn (now (names .entry))) (now (text .entry)) at r ⌝ }
 {
-    let end = word_end(classes, text, at);
+    let end = word_end(text, at);
     let w = words::word_token(names, &text[at..end]);
     Token {
         kind: w.kind,
@@ -123,15 +123,44 @@ fn double_at(text: &[u8], at: usize) -> Token
     }
 }
 
-fn mark_at(classes: &[u8], text: &[u8], at: usize) -> Token
-    requires { ⌜ (now classes ≡ classTable) × (at < length (now text)) × (inWord (getD (now text) at 0) ≡ false) × (isBlank (getD (now text) at 0) ≡ false) ⌝ }
+// The kind of the mark of one byte that a byte is, or 0. By two ranges: of a single chain of tests the compiler makes a table.
+fn single(b: u8) -> u8
+    ensures { λ r. ⌜ r ≡ kindOf (singleMark b) ⌝ }
+{
+    if b < 44 {
+        if b == 40 {
+            return 9;
+        }
+        if b == 41 {
+            return 10;
+        }
+        if b == 42 {
+            return 8;
+        }
+        if b == 43 {
+            return 6;
+        }
+        return 0;
+    }
+    if b == 59 {
+        return 7;
+    }
+    if b == 61 {
+        return 5;
+    }
+    0
+}
+
+fn mark_at(text: &[u8], at: usize) -> Token
+    requires { ⌜ (at < length (now text)) × (inWord (getD (now text) at 0) ≡ false) ⌝ }
     ensures { λ r. ⌜ ((names : List (List ℕ)) → FrontAt names (now (text .entry)) at r) ⌝ }
 {
-    let c = bytes::class_of(classes, text[at]);
-    if c == 4 {
+    let b = text[at];
+    if bytes::begins_double(b) {
         return double_at(text, at);
     }
-    if c == 5 {
+    let kind = single(b);
+    if kind == 5 {
         return Token {
             kind: 5,
             value: 2,
@@ -140,7 +169,7 @@ fn mark_at(classes: &[u8], text: &[u8], at: usize) -> Token
         };
     }
     Token {
-        kind: c,
+        kind,
         value: 0,
         start: at,
         next: at + 1,
@@ -152,8 +181,7 @@ pub fn token_from(names: &[u8], text: &[u8], at: usize) -> Token
     requires { ⌜ (length (now names) ≤ 128) × (at ≤ length (now text)) ⌝ }
     ensures { λ r. ⌜ TokenFrom (namesIn (now (names .entry))) (now (text .entry)) at r ⌝ }
 {
-    let classes = bytes::classes();
-    let start = skip(&classes, text, at);
+    let start = skip(text, at);
     if text.len() <= start {
         return Token {
             kind: 1,
@@ -162,8 +190,8 @@ pub fn token_from(names: &[u8], text: &[u8], at: usize) -> Token
             next: start,
         };
     }
-    if bytes::in_word(&classes, text[start]) {
-        return word_at(names, &classes, text, start);
+    if bytes::in_word(text[start]) {
+        return word_at(names, text, start);
     }
-    mark_at(&classes, text, start)
+    mark_at(text, start)
 }

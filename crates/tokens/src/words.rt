@@ -30,12 +30,11 @@ fn digit(b: u8) -> u32
 pub fn number_from(w: &[u8]) -> u32
     ensures { λ r. ⌜ r ≡ numberFrom 0 (now (w .entry)) ⌝ }
 {
-    let classes = bytes::classes();
     let mut n: u32 = 0;
     let mut i = 0;
     while i < w.len() {
         let b = w[i];
-        if !bytes::is_digit(&classes, b) {
+        if !bytes::is_digit(b) {
             return 65536;
         }
         n = n * 10 + digit(b);

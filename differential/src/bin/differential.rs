@@ -2,8 +2,8 @@
 //! and everything that the lists hold are compared. A table is checked as three lists and as records, which must agree too. The
 //! same for the built program: the same input, then the output bytes.
 //!
-//! `differential [--seed SEED] [--seconds SECONDS] [--cases COUNT]` runs the fixed cases, the pairs that cost much, then
-//! random cases until their time or count is up. Case i is made from the seed SEED + i, so that `--seed` with the number printed and
+//! `differential [--seed SEED] [--seconds SECONDS] [--cases COUNT]` runs the fixed cases, every byte in small texts, the pairs that
+//! cost much, then random cases until their time or count is up. Case i is made from the seed SEED + i, so that `--seed` with the number printed and
 //! `--cases 1` runs a case again. The first line has the seed; it fails at the end if any two answers differ. A run of the
 //! program is a process: random inputs are skipped while these have had more than a quarter of the time.
 
@@ -18,7 +18,7 @@ use netkat::lists::Numbers;
 use netkat_reference::case::Case;
 use netkat_reference::generate::heavy::{self, Pair};
 use netkat_reference::generate::lent::fill;
-use netkat_reference::generate::{case, fixed, Extent};
+use netkat_reference::generate::{bytes, case, fixed, Extent};
 use netkat_reference::program;
 use netkat_reference::random::Random;
 use netkat_reference::search::{Lists, LEAST_WORK, MOST_ROWS};
@@ -243,6 +243,9 @@ fn compare_all(options: &Options, program: Program) -> Tally {
     };
     for (at, case) in fixed::cases().iter().enumerate() {
         tally.compare(&format!("fixed case {at}"), case);
+    }
+    for (at, case) in bytes::cases().iter().enumerate() {
+        tally.compare(&format!("text with a byte {at}"), case);
     }
     for (at, case) in heavy_cases().iter().enumerate() {
         tally.compare(&format!("heavy pair {at}"), case);

@@ -2,9 +2,10 @@
 //!
 //! [`case`] makes one call with everything it is handed. The parts are public too: [`tree`] for policies as trees and
 //! their node lists and texts, [`named`] for tables of names, [`damage`] for illegal inputs, [`cases`] for whole calls. [`fixed`] and
-//! [`fixed_names`] have cases that are always worth running, [`heavy`] pairs that cost a search much, [`network`] those of them that forward packets,
+//! [`fixed_names`] have cases that are always worth running, [`bytes`] every byte in small texts, [`heavy`] pairs that cost a search much, [`network`] those of them that forward packets,
 //! [`run_out`] searches whose rows run out. [`lent`] fills the lists that a call may write.
 
+pub mod bytes;
 pub mod cases;
 pub mod damage;
 pub mod fixed;

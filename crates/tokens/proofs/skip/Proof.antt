@@ -14,10 +14,10 @@ use Rattle.tokens.proofs.skip.Statement.{statement}
 use Rattle.tokens.proofs.skip.Tie as tie
 
 abbrev Inv-loop : tie.InvT-loop
-Inv-loop classes text at i₀ i = (at ≤ i) × (i ≤ length text) × ((names : List (List ℕ)) → tokensFrom names text i ≡ tokensFrom names text at)
+Inv-loop text at i₀ i = (at ≤ i) × (i ≤ length text) × ((names : List (List ℕ)) → tokensFrom names text i ≡ tokensFrom names text at)
 
 abbrev μ-loop : tie.MeasureT-loop
-μ-loop classes text at i₀ i = length text - i
+μ-loop text at i₀ i = length text - i
 
 loop-holds : tie.Need-loop-holds Inv-loop μ-loop
 loop-holds c = (search needs, search needs, λ names. refl)
@@ -38,7 +38,7 @@ loop-less : tie.Need-loop-less Inv-loop μ-loop
 loop-less c = search needs
 
 loop-again : tie.Need-loop-again Inv-loop μ-loop
-loop-again c = (omega arith, omega arith, λ names. ap (tokensFrom names (c .before .before .before .before .before .before .before .args .text .now)) (add-one (c .before .before .before .before .loop .i)) ∙ sym (from-blank names (c .before .before .before .before .before .before .before .args .text .now) (c .before .before .before .before .loop .i) (c .before .before .before .loop-test .taken) (sym (c .before .is-blank .ensures) ∙ not-false _ (c .if1 .left))) ∙ c .before .before .before .before .loop .inv .2 names)
+loop-again c = (omega arith, omega arith, λ names. ap (tokensFrom names (c .before .before .before .before .before .before .args .text .now)) (add-one (c .before .before .before .before .loop .i)) ∙ sym (from-blank names (c .before .before .before .before .before .before .args .text .now) (c .before .before .before .before .loop .i) (c .before .before .before .loop-test .taken) (sym (c .before .is-blank .ensures) ∙ not-false _ (c .if1 .left))) ∙ c .before .before .before .before .loop .inv .2 names)
 
 returns-2 : tie.Need-returns-2 Inv-loop μ-loop
 returns-2 c = record { low = c .before .loop .inv .0; within = c .before .loop .inv .1; same = c .before .loop .inv .2; found = λ l. absurd (not-le-of-lt l (c .loop-test .left)) }

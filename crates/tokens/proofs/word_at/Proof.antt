@@ -15,13 +15,13 @@ part-word-token-start : tie.Need-part-word-token-start
 part-word-token-start c = search needs
 
 part-word-token-end : tie.Need-part-word-token-end
-part-word-token-end c = word-within _ _ _ (le-of-lt (c .before .before .before .before .pre .2)) (c .word-end .ensures)
+part-word-token-end c = word-within _ _ _ (le-of-lt ((c .before .before .before .pre) .1)) (c .word-end .ensures)
 
 word-token-requires : tie.Need-word-token-requires
 word-token-requires c κs = search needs
 
 returns : tie.Need-returns
-returns c = front-word _ _ _ _ _ _ (c .before .before .before .before .before .before .pre .2) (c .before .before .before .before .before .before .pre .3) (c .before .before .word-end .ensures) (c .word-token .ensures)
+returns c = front-word _ _ _ _ _ _ ((c .before .before .before .before .before .pre) .1) ((c .before .before .before .before .before .pre) .2) (c .before .before .word-end .ensures) (c .word-token .ensures)
 
 pub word-at-spec : {M : Type 1} → statement M
 word-at-spec =

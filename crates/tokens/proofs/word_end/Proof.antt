@@ -12,10 +12,10 @@ use Rattle.tokens.proofs.word_end.Statement.{statement}
 use Rattle.tokens.proofs.word_end.Tie as tie
 
 abbrev Inv-loop : tie.InvT-loop
-Inv-loop classes text at i₀ i = (at ≤ i) × (i ≤ length text) × (at + length (wordOf (drop at text)) ≡ i + length (wordOf (drop i text)))
+Inv-loop text at i₀ i = (at ≤ i) × (i ≤ length text) × (at + length (wordOf (drop at text)) ≡ i + length (wordOf (drop i text)))
 
 abbrev μ-loop : tie.MeasureT-loop
-μ-loop classes text at i₀ i = length text - i
+μ-loop text at i₀ i = length text - i
 
 loop-holds : tie.Need-loop-holds Inv-loop μ-loop
 loop-holds c = (search needs, search needs, refl)
@@ -27,7 +27,7 @@ in-word-requires : tie.Need-in-word-requires Inv-loop μ-loop
 in-word-requires c κs = search needs
 
 returns : tie.Need-returns Inv-loop μ-loop
-returns c = omega (arith, c .before .before .before .before .loop .inv .2, ap length (word-stops (c .before .before .before .before .before .before .before .args .text .now) (c .before .before .before .before .loop .i) (c .before .before .before .loop-test .taken) (sym (c .before .in-word .ensures) ∙ not-true _ (c .if1 .taken))))
+returns c = omega (arith, c .before .before .before .before .loop .inv .2, ap length (word-stops (c .before .before .before .before .before .before .args .text .now) (c .before .before .before .before .loop .i) (c .before .before .before .loop-test .taken) (sym (c .before .in-word .ensures) ∙ not-true _ (c .if1 .taken))))
 
 add-i : tie.Need-add-i Inv-loop μ-loop
 add-i c = search needs
@@ -36,10 +36,10 @@ loop-less : tie.Need-loop-less Inv-loop μ-loop
 loop-less c = search needs
 
 loop-again : tie.Need-loop-again Inv-loop μ-loop
-loop-again c = (omega arith, omega arith, rw (add-one (c .before .before .before .before .loop .i)) (omega (arith, c .before .before .before .before .loop .inv .2, ap length (word-more (c .before .before .before .before .before .before .before .args .text .now) (c .before .before .before .before .loop .i) (c .before .before .before .loop-test .taken) (sym (c .before .in-word .ensures) ∙ not-false _ (c .if1 .left))))))
+loop-again c = (omega arith, omega arith, rw (add-one (c .before .before .before .before .loop .i)) (omega (arith, c .before .before .before .before .loop .inv .2, ap length (word-more (c .before .before .before .before .before .before .args .text .now) (c .before .before .before .before .loop .i) (c .before .before .before .loop-test .taken) (sym (c .before .in-word .ensures) ∙ not-false _ (c .if1 .left))))))
 
 returns-2 : tie.Need-returns-2 Inv-loop μ-loop
-returns-2 c = omega (arith, c .before .loop .inv .2, ap length (word-none (c .before .before .before .before .args .text .now) (c .before .loop .i) (c .loop-test .left)))
+returns-2 c = omega (arith, c .before .loop .inv .2, ap length (word-none (c .before .before .before .args .text .now) (c .before .loop .i) (c .loop-test .left)))
 
 pub word-end-spec : {M : Type 1} → statement M
 word-end-spec =

@@ -1,17 +1,17 @@
 -- `bytes::is_blank` meets its contract.
-use mathlib.Core.Path.{_∙_, ap}
-use Prim.Native.Nat.{ℕ}
-use lib.Dec.{eqb}
-use Rattle.tokens.proofs.ByteLaws.{class-blank}
-use borrow.Author.Needs.{needs}
+use mathlib.Core.Path.{refl}
+use borrow.Author.Tests.{eq-eqb, ne-eqb}
+use Rattle.fields.specs.Bytes.{isBlank}
 use Rattle.tokens.proofs.bytes.is_blank.Statement.{statement}
 use Rattle.tokens.proofs.bytes.is_blank.Tie as tie
 
-class-of-requires : tie.Need-class-of-requires
-class-of-requires c κs = search needs
-
 returns : tie.Need-returns
-returns c = ap (λ (k : ℕ). eqb k 1) (c .class-of .ensures) ∙ class-blank (c .before .before .args .b) (c .before .before .fits .b .fits)
+unfolding isBlank
+returns c = rw (eq-eqb _ _ (c .if1 .taken)) refl
+
+returns-2 : tie.Need-returns-2
+unfolding isBlank
+returns-2 c = rw (ne-eqb _ _ (c .if1 .left)) refl
 
 pub is-blank-spec : {M : Type 1} → statement M
-is-blank-spec = tie.close (tie.spec class-of-requires returns)
+is-blank-spec = tie.close (tie.spec returns returns-2)
