@@ -75,7 +75,7 @@
 extern "C" {
 #endif
 
-#define NETKAT_VERSION "0.6.0"
+#define NETKAT_VERSION "0.6.1"
 #define NETKAT_NUMBERS 8   /* numbers of an answer */
 #define NETKAT_CELL 16     /* bytes of a name's cell */
 #define NETKAT_NAME 15     /* most bytes of a name */

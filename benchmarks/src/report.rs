@@ -317,10 +317,10 @@ What is known of the causes, from how the two are built and from profiles of som
   bucket; the rows of a bucket make a tree, and a lookup passes at most 128 of them, one for each bit of two states.
 - The second implementation's reader makes a list of tokens. The library's keeps none: it goes over a legal text four
   times (tokens, parentheses, counting nodes, writing them), and where several levels of the grammar ask for the next
-  token, each skips the blanks before it again. It takes the table of byte classes anew for each token: a constant is built
-  wherever it is named. In profiles three quarters of the library's instructions for a megabyte of nodes, and nine tenths for one with no
-  token at its end, look for the next token. Since the ratios before both readers have learnt negations and names that the caller gives. The library's takes
-  an eighth more instructions for the names, counted on a megabyte of sums of id, and a thousandth for negations.
+  token, each skips the blanks before it again. In profiles two thirds of the library's instructions for a megabyte of nodes, and six
+  sevenths for one with no token at its end, look for the next token. Since the ratios before both readers have learnt negations and names that
+  the caller gives, which took the library's an eighth more instructions, counted on a megabyte of sums of id; it has then lost
+  its table of byte classes (A.5), and with it a fifth of the instructions and nearly half of the time.
 ";
 
 const ROWS: &str = "\
@@ -364,7 +364,8 @@ const WHAT: &str = "\
 - traces: checks of a trace of one packet on a ring of 14, of the trace that the search finds for the leak in a tree of 15,
   and of the 256 packets of a counter of eight bits, unrolled once and twice; the last with a test that one of the two fails.
 - text: one call of the reader on 1,048,576 bytes. A legal text has at most 512 nodes, so the legal one is mostly
-  parentheses and blanks; the others are refused at their end. The last is a run of `!`.
+  parentheses and blanks; the next three are refused at their end. Then a run of `!`; one word of letters and one of digits, which is no
+  number; and marks alone, each byte a token.
 - names: texts over eight names of fifteen letters that differ in the last one, in both tables, in opposite orders: the combinatorial pairs
   of eight fields searched, and a megabyte of tests read; then tables of thousands of names, refused when all of them have been compared: by
   1, by 21 at the last name, and by 20 at the last name of the right table.
