@@ -2,7 +2,7 @@
 ghost use mathlib.Core.Path.{_≡_};
 ghost use mathlib.Core.Bool.{_&&_};
 ghost use lib.Dec.{leb};
-ghost use Rattle.fields.specs.Bytes.{isBlank, isCapital, isSmall, isLetter, isDigit, inWord};
+ghost use Rattle.fields.specs.Bytes.{isBlank, isLetter, isDigit, inWord};
 ghost use Rattle.grammar.specs.Tokens.{beginsDouble};
 
 // Whether the byte is one of a range.
