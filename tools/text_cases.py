@@ -215,7 +215,7 @@ def all_cases():
 
 
 def edges():
-    """The first and the last byte of each class and the bytes next to them, at every place of small texts: before the byte there and in its stead."""
+    """Bytes at the edges of their classes at every place of small texts: before the byte there and in its stead."""
     for text in SMALL:
         for at in range(len(text) + 1):
             for byte in EDGES:

@@ -363,7 +363,7 @@ const WHAT: &str = "\
 - records: tables from evidence and from 63 dups, lent as one list of records to both.
 - traces: checks of a trace of one packet on a ring of 14, of the trace that the search finds for the leak in a tree of 15,
   and of the 256 packets of a counter of eight bits, unrolled once and twice; the last with a test that one of the two fails.
-- text: one call of the reader on 1,048,576 bytes. A legal text has at most 512 nodes, so the legal one is mostly
+- text: one call of the reader on a megabyte. A legal text has at most 512 nodes, so the legal one is mostly
   parentheses and blanks; the next three are refused at their end. Then a run of `!`; one word of letters and one of digits, which is no
   number; and marks alone, each byte a token.
 - names: texts over eight names of fifteen letters that differ in the last one, in both tables, in opposite orders: the combinatorial pairs

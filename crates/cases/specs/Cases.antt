@@ -249,7 +249,7 @@ abbrev unread : List ℕ → ℕ → ℕ → ℕ → Case
 unread text room number place =
     gives (read text (nines room) (nines room) (nines room)) (readAs (Unread (refusal number 0 place)) (asLists (nines room) (nines room) (nines room)))
 
--- the text f0=1 with a byte after it, which says the byte's class: a blank or a digit leaves one node with this value, else the number and place
+-- the text f0=1 with a byte after it: where that is a blank or a digit, one node with this value, else refused with this number and place
 abbrev afterOne : ℕ → List ℕ
 afterOne b = bytes "f0=1" ++ b ∷ []
 

@@ -1,4 +1,4 @@
-//! Every byte at every place of small texts, and the bytes at the edges of their classes in the program's input.
+//! Every byte at every place of small texts, and bytes at the edges of their classes in the program's input.
 
 use super::lent::fill;
 use crate::case::Case;
@@ -8,12 +8,12 @@ use crate::policy::OwnedLists;
 /// Each kind of token stands in one of them.
 const SMALL: [&str; 6] = ["", "id", "f0=1", "f0!=10", "f0<-1", "!(f0=9;dup)* + drop"];
 
-/// The first and the last byte of a class, and the bytes next to them.
+/// Bytes at the edges of the classes.
 const EDGES: [u8; 20] = [
     9, 32, 33, 47, 48, 57, 58, 60, 61, 64, 65, 90, 91, 96, 97, 122, 123, 127, 128, 255,
 ];
 
-/// Nodes to lend to the reader: as many as the longest of these texts can have.
+/// Nodes to lend to the reader, more than any of these texts has.
 const ROOM: usize = 12;
 
 /// The text with each of the bytes before each of its bytes, at its end, and in the stead of each of its bytes.
