@@ -253,11 +253,11 @@ unread text room number place =
 abbrev afterOne : ℕ → List ℕ
 afterOne b = bytes "f0=1" ++ b ∷ []
 
-abbrev withByte : ℕ → ℕ → Case
-withByte b value = gives (read (afterOne b) (nines 2) (nines 2) (nines 2)) (readAs (Nodes 1) (asLists (2 ∷ 9 ∷ []) (0 ∷ 9 ∷ []) (value ∷ 9 ∷ [])))
+abbrev readWith : ℕ → ℕ → Case
+readWith b value = gives (read (afterOne b) (nines 2) (nines 2) (nines 2)) (readAs (Nodes 1) (asLists (2 ∷ 9 ∷ []) (0 ∷ 9 ∷ []) (value ∷ 9 ∷ [])))
 
-abbrev byByte : ℕ → ℕ → ℕ → Case
-byByte b number place = unread (afterOne b) 2 number place
+abbrev refusedWith : ℕ → ℕ → ℕ → Case
+refusedWith b number place = unread (afterOne b) 2 number place
 
 abbrev P2-left : NodeLists
 P2-left = nodes "f0=0;dup"
@@ -442,26 +442,26 @@ ofDocument02 =
     ++ compares (1 ∷ []) "dup;dup;dup" "dup;dup;dup;drop+dup;dup;dup" 3 3 (Full (refusal 11 0 3) 2) (columns (0 ∷ 0 ∷ 0 ∷ []) (1 ∷ 2 ∷ 4 ∷ []) (1 ∷ 18 ∷ 36 ∷ []) (0 ∷ 0 ∷ 1 ∷ [])) []
     ++ compares (2 ∷ []) "id" "id" 1 3 (Full (refusal 11 0 1) 0) (columns (0 ∷ []) (1 ∷ []) (1 ∷ []) (0 ∷ [])) []
     -- A.5: the bytes at the edges of their classes, a letter making the word "1" a bad one at byte 3
-    ++ withByte 9 1
-    ∷ withByte 32 1
-    ∷ byByte 33 16 4
-    ∷ byByte 47 14 4
-    ∷ withByte 48 10
-    ∷ withByte 57 19
-    ∷ byByte 58 14 4
-    ∷ byByte 60 14 4
-    ∷ byByte 61 16 4
-    ∷ byByte 64 14 4
-    ∷ byByte 65 14 3
-    ∷ byByte 90 14 3
-    ∷ byByte 91 14 4
-    ∷ byByte 96 14 4
-    ∷ byByte 97 14 3
-    ∷ byByte 122 14 3
-    ∷ byByte 123 14 4
-    ∷ byByte 127 14 4
-    ∷ byByte 128 14 4
-    ∷ byByte 255 14 4
+    ++ readWith 9 1
+    ∷ readWith 32 1
+    ∷ refusedWith 33 16 4
+    ∷ refusedWith 47 14 4
+    ∷ readWith 48 10
+    ∷ readWith 57 19
+    ∷ refusedWith 58 14 4
+    ∷ refusedWith 60 14 4
+    ∷ refusedWith 61 16 4
+    ∷ refusedWith 64 14 4
+    ∷ refusedWith 65 14 3
+    ∷ refusedWith 90 14 3
+    ∷ refusedWith 91 14 4
+    ∷ refusedWith 96 14 4
+    ∷ refusedWith 97 14 3
+    ∷ refusedWith 122 14 3
+    ∷ refusedWith 123 14 4
+    ∷ refusedWith 127 14 4
+    ∷ refusedWith 128 14 4
+    ∷ refusedWith 255 14 4
     ∷ []
 
 -- A.4
