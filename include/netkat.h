@@ -19,13 +19,20 @@
  * first, and none of drop, id, dup; whoever fills a cell from a longer name writes a length over NETKAT_NAME. Two cells hold
  * the same name if their lengths are the same and their bytes up to it. Fields are numbered from 0: the left table's names
  * in their order, then those that only the right one has, in its order; there are 1 to NETKAT_FIELDS. A field has the values
- * 0 to its size - 1, and a packet is a number below the product of all sizes, field 0 counting slowest.
+ * 0 to its size - 1.
  *
  * Policies. A policy is three lists of equal length, 1 to 512: kind, first, second, children before parents, the last node
  * the policy. Kinds: 0 drop, 1 id, 2 test f = v, 3 test f != v, 4 change f <- v (first is the field's number, second is v), 5 dup, 6 sum,
  * 7 sequence (first and second are nodes), 8 star, 9 negation (first is a node); unused entries are 0. A negation passes the
  * packets that its child drops; below it stand kinds 0 to 3, 6, 7 and 9 only. Either policy may use every field. netkat_read makes the
  * lists from a text.
+ *
+ * Packets. A field is mentioned if a node of kind 2, 3 or 4 with its number stands anywhere in either policy of the call, also
+ * where no packet comes to it. A packet is a number below N, the product of the mentioned fields' sizes, the first of them
+ * counting slowest; N is 1 if there are none, and at most 1,024. The other fields may have any sizes and are in no number: what is
+ * answered holds for all their values, and where a number is turned into values they show 0. In a trace such a field keeps the
+ * entering packet's value: turning a trace back does not notice another. So a number, and with it a
+ * trace or a table of rows, belongs to its two policies: with others the same number may be another packet.
  *
  * Texts. An item is drop, id, dup, sw=1, sw!=1, sw<-1 (sw a name of the table of the text's own side), anything in
  * parentheses, or ! and an item: a negation. Behind an item * is a star, ; joins a sequence, + a sum; ! binds before *, *
@@ -34,7 +41,7 @@
  * Answers. All eight numbers of `answer` are written; those not named below are 0. answer[0] is
  *   0 done, equal or accepted   1 left   2 right   3 both   4 neither   5 rejected   9 refused
  * and a refusal is 9, number, side (0 none, 1 left, 2 right), place:
- *    1 a table without names, or over 8 fields    2 a size is 0: field          3 product over 1,024: field
+ *    1 a table without names, or over 8 fields    2 a size is 0: field          3 N over 1,024 up to it: field
  *    4 policy lists unequal, empty, over 512; with side 0 also a table whose names are not NETKAT_CELL bytes for each of its sizes
  *    5 kind over 9: node                     6 field, value, unused entry: node
  *    7 child not below parent: parent node   8 not a child exactly once: node   9 more than 63 dups: the 64th
@@ -48,9 +55,9 @@
  *   20 a name that is malformed, repeats an earlier one of its table, or is drop, id or dup: the table's side, the name's index there
  *   21 a name with another size in the right table: side 1, its index in the left table
  * Causes are tested in this order, each over the whole input before the next:
- *   4 with side 0 on the tables, 20 on the left table and then on the right, on all names however many, 21, 1, 2, 3;
+ *   4 with side 0 on the tables, 20 on the left table and then on the right, on all names however many, 21, 1, 2;
  *   on texts 14 to 17, all of them on the left text and then all of them on the right;
- *   4, 5, 6, 7, 8, 19, 9, each on the left policy and then on the right; 10; then 11, 12 or 13.
+ *   4, 5, 6, 7, 8, 19, 9, each on the left policy and then on the right; 3; 10; then 11, 12 or 13.
  * So 4 with side 0 may come before all else. A refusal leaves every list but `answer` as it was, but for what 11 and 12 leave in
  * the row lists and that the work list is all 0 whenever 10 has passed.
  *
@@ -75,7 +82,7 @@
 extern "C" {
 #endif
 
-#define NETKAT_VERSION "0.6.1"
+#define NETKAT_VERSION "0.7.0"
 #define NETKAT_NUMBERS 8   /* numbers of an answer */
 #define NETKAT_CELL 16     /* bytes of a name's cell */
 #define NETKAT_NAME 15     /* most bytes of a name */
@@ -104,26 +111,40 @@ typedef struct {
     uint16_t parent; /* number of the row that listed it */
 } netkat_row;
 
-/* The values of a packet's fields from its number; `values` has as many entries as both tables together have fields.
- * Answers 0 with the values written, or refuses by 4 with side 0, 20, 21, 1 to 3, 13. */
+/* The values of a packet's fields from its number, which is one over the fields that the two policies mention; all other fields
+ * show 0. `values` has as many entries as both tables together have fields. Answers 0 with the values written, or refuses by 1 to
+ * 9, 13, 19 to 21, each of 4 to 9 and 19 on a policy with its side. */
 void netkat_values(const uint8_t *left_names, size_t left_names_length,
                    const uint16_t *left_sizes, size_t left_sizes_length,
                    const uint8_t *right_names, size_t right_names_length,
                    const uint16_t *right_sizes, size_t right_sizes_length,
+                   const uint8_t *left_kind, size_t left_kind_length,
+                   const uint16_t *left_first, size_t left_first_length,
+                   const uint16_t *left_second, size_t left_second_length,
+                   const uint8_t *right_kind, size_t right_kind_length,
+                   const uint16_t *right_first, size_t right_first_length,
+                   const uint16_t *right_second, size_t right_second_length,
                    uint16_t number,
                    uint16_t *values, size_t values_length,
                    uint64_t *answer);
 
-/* The number of the packet with these values. Answers 0, packet; or refuses by 4 with side 0, 20, 21, 1 to 3, 13. */
+/* The number of the packet with these values over the fields that the two policies mention; values of other fields are tested and
+ * not counted. Answers 0, packet; or refuses as netkat_values does. */
 void netkat_number(const uint8_t *left_names, size_t left_names_length,
                    const uint16_t *left_sizes, size_t left_sizes_length,
                    const uint8_t *right_names, size_t right_names_length,
                    const uint16_t *right_sizes, size_t right_sizes_length,
+                   const uint8_t *left_kind, size_t left_kind_length,
+                   const uint16_t *left_first, size_t left_first_length,
+                   const uint16_t *left_second, size_t left_second_length,
+                   const uint8_t *right_kind, size_t right_kind_length,
+                   const uint16_t *right_first, size_t right_first_length,
+                   const uint16_t *right_second, size_t right_second_length,
                    const uint16_t *values, size_t values_length,
                    uint64_t *answer);
 
-/* Are the lists a policy over the fields of the tables? Answers 0, number of dups; or refuses by 20, 21 with a table's
- * side, by 1 to 9, 19 with side 0. */
+/* Are the lists a policy over the fields of the tables? N is of the fields that it mentions. Answers 0, number of dups; or refuses by
+ * 20, 21 with a table's side, by 1 to 9, 19 with side 0. */
 void netkat_policy(const uint8_t *left_names, size_t left_names_length,
                    const uint16_t *left_sizes, size_t left_sizes_length,
                    const uint8_t *right_names, size_t right_names_length,
@@ -195,7 +216,7 @@ void netkat_search(const uint8_t *left_names, size_t left_names_length,
                    uint64_t *answer);
 
 /* The same for two texts, each over the names of its own table, which are read before anything is searched: refuses by 4
- * with side 0, 20, 21, 1 to 3, by 14 to 17 on the left text, then on the right, both with side 0, then by 4 to 12, 19. */
+ * with side 0, 20, 21, 1, 2, by 14 to 17 on the left text, then on the right, both with side 0, then by 4 to 9 and 19, 3, 10 to 12. */
 void netkat_search_texts(const uint8_t *left_names, size_t left_names_length,
                          const uint16_t *left_sizes, size_t left_sizes_length,
                          const uint8_t *right_names, size_t right_names_length,

@@ -70,7 +70,7 @@ def table_lists(fields):
 
 def lists_of(fields, *policies):
     """The lists of the tables and those of policies."""
-    return table_lists(fields) + [n for policy in policies for entries in policy for n in numbers_of(once(entries))]
+    return table_lists(fields) + [n for policy in policies for entries in policy for n in numbers_of(runs(entries))]
 
 
 def total(first, length, rest=BEFORE, wide=False):
@@ -88,6 +88,11 @@ def total(first, length, rest=BEFORE, wide=False):
 def cleared(length, done):
     """The sum over a work list, set to 0 or as it was."""
     return total([], length, 0 if done else BEFORE)
+
+
+def distinct(calls):
+    """The calls of a script, each of them once."""
+    return lambda: list(dict.fromkeys(calls()))
 
 
 WORDS = {"done": 0, "equal": 0, "accepted": 0, "left": 1, "right": 2, "both": 3, "neither": 4, "rejected": 5, "refused": 9}

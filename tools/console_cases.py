@@ -1,6 +1,6 @@
 #!/usr/bin/env python3
 """Writes the input and the expected output of the program console_cases, worked out from document 01, "The program", and
-document 02, A.1 to A.4.
+document 02, A.1 to A.4 and A.6.
 
     tools/console_cases.py            write crates/console_cases/stdin and stdout
     tools/console_cases.py --check    compare them with what is stored
@@ -15,8 +15,8 @@ from policy_cases import answer as legality
 from policy_cases import lists, negated
 from search_cases import run
 from stored import store
-from tables import Tables, packets_refusal, table
-from text_cases import Refused, damaged, joined, nodes_of, number_of, parts_of
+from tables import Tables, refusal, table
+from text_cases import Refused, damaged, joined, naming_text, nodes_of, number_of, parts_of
 
 MOST = 32768
 ROWS = 4096
@@ -53,12 +53,12 @@ def answered(data):
         return [("refused", 18, 0)]
     tables, texts = given
     try:
-        refused = packets_refusal(tables)
+        refused = refusal(tables)
         if refused:
             raise Refused(*refused)
         policies = [lists(nodes_of(tables, side, text)) for side, text in enumerate(texts, 1)]
-    except Refused as refusal:
-        number, _, place = refusal.answer
+    except Refused as refused:
+        number, _, place = refused.answer
         return [("refused", number, place)]
     said, rows, trace = legality(tables, policies), [], []
     if not said.startswith("refused"):
@@ -106,10 +106,11 @@ INPUTS = [
     "sw=2,port=2\nvlan=2,port=2,sw=2\nsw=1\nvlan=0;sw=1", "sw=2,port=3\nport=3,sw=2\nsw=0\nport=0", "sw=2,port=3\nport=3,sw=2\nsw=1;dup\ndup;sw=1",
     "a=2,aa=2\naa=2,a0=2\naa=0\na0=0", "a=2\na=2\na=0\nA=0", "abcdefghijklmno=2\nabcdefghijklmno=2\nabcdefghijklmno=0\nid",
     "a=1,b=1,c=1,d=1,e=1,f=1,g=1,h=1\nh=1,g=1,f=1,e=1,d=1,c=1,b=1,a=1\nh=0\na=0",
-    # 20, 21, 1, 2, 3
+    # 20, 21, 1, 2; large fields
     "sw=2,sw=2\nsw=2\nid\nid", "sw=2\ndup=1\nid\nid", "sw=2\nsw=2,id=1,drop=1\nid\nid", "a=1,A=1\nB=1\nid\nid", "sw=2,port=4\nport=5,sw=2\nid\nid",
     "a=1\na=1,b=1,c=1,d=1,e=1,f=1,g=1,h=1,I=1\nid\nid", "sw=2,port=4\nport=5,sw=3\nid\nid", "a=2\na=0\nid\nid", "a=1,b=1,c=1,d=1,e=1,f=1,g=1,h=1\ni=1\nid\nid",
-    "a=1\nb=0\nid\nid", "a=0\na=0\nid\nid", "a=5\nb=205\nid\nid", "a=32\nb=32\na=1\nid", "a=1025\na=1025\nid\nid", "a=65535\na=65535\nid\nid",
+    "a=1\nb=0\nid\nid", "a=0\na=0\nid\nid", "a=5\nb=205\nid\nid", "a=5\nb=205\na=0\nb=0", "a=5\nb=205\na=4\nid", "a=32\nb=32\na=1\nid", "a=1025\na=1025\nid\nid",
+    "a=1025\na=1025\nid\na=0", "a=1000\nb=2\nid\nb=0",
 ]
 
 # entries: malformed ones, then those with a bad name
@@ -142,6 +143,13 @@ def many_names(count):
     return ",".join("%s%s=1" % pair for pair in itertools.islice(itertools.product(letters, repeat=2), count))
 
 
+# eight fields with 1,024 packets, and a text that names of each all values but the last
+SIZES = [2, 2, 2, 2, 2, 2, 4, 4]
+EIGHT = fields(",".join(map(str, SIZES)))
+NAMED = naming_text(SIZES)
+# four rows for each packet, and a fifth for packet 0; as many values are named
+ONE_MORE = "dup;dup;dup+f0=0;f1=0;f2=0;f3=0;f4=0;f5=0;f6=0;f7=0;dup;dup;dup;dup;f6!=1;f6!=2;f7!=1;f7!=2"
+
 LONG = [
     # as long as an input may be, and one byte longer; malformed however it goes on
     [fields("2"), "id\nid", (32753, " ")], [fields("2"), "id\nid", (32752, " "), "\n"], [fields("2"), "id\nid", (32753, " "), "\n"],
@@ -156,10 +164,9 @@ LONG = [
     [fields("2"), "id\ndup", (63, ";dup")], [fields("2"), "id", (511, "*"), "\nid", (511, "*")], [fields("2"), "id", (512, "*"), "\nid"],
     [fields("2"), "id\nid", (512, "*")],
     # 4,096 rows, and one more
-    [fields("512"), (3, "dup;"), "id;(dup;dup;dup;dup)*\n", (3, "dup;"), "id;(dup;dup;dup;dup)*"],
-    [fields("819"), "dup;dup;dup;dup\ndup;dup;dup;dup"], [fields("820"), "dup;dup;dup;dup\ndup;dup;dup;dup"],
-    [fields("1024"), "dup;dup;dup\ndup;dup;dup"], [fields("1024"), "dup;dup;dup;f0=0\ndup;dup;dup;f0=0;dup"],
-    [fields("1024"), "dup;dup;dup;dup\ndup;dup;dup;dup"],
+    [fields("2,2,2,2,2,4,4"), (3, "dup;"), "id;(dup;dup;dup;dup)*\n", (3, "dup;"), "id;(dup;dup;dup;dup)*+", naming_text([2, 2, 2, 2, 2, 4, 4])],
+    [EIGHT, "dup;dup;dup\ndup;dup;dup+", NAMED], [EIGHT, (2, ONE_MORE + "\n")],
+    [EIGHT, "dup;dup;dup;f7=0\ndup;dup;dup;f7=0;dup+", NAMED], [EIGHT, "dup;dup;dup;dup\ndup;dup;dup;dup+", NAMED],
     # telling traces longer than one packet, on either side
     [fields("3"), "(f0=0;f0<-1+f0=1;f0<-2);dup\n(f0=0;f0<-1);dup"], [fields("3"), "(f0=0;f0<-1);dup\n(f0=0;f0<-1+f0=1;f0<-2);dup"],
     [fields("4"), "((f0=0;f0<-1+f0=1;f0<-2+f0=2;f0<-3);dup)*;f0=3\nf0=3"], [fields("4"), "f0=3\n((f0=0;f0<-1+f0=1;f0<-2+f0=2;f0<-3);dup)*;f0=3"],
@@ -193,24 +200,33 @@ def in_rounds(dups):
 
 WIDE = [
     # states of 20 digits, and of 19
-    [fields("1"), "dup", (62, "+dup"), "\ndup", (61, "+dup")], [fields("2"), "dup", (62, ";dup"), "\ndup", (62, ";dup")],
+    [fields("1"), "dup", (62, "+dup"), "\ndup", (61, "+dup")], [fields("2"), "dup", (62, ";dup"), "\ndup", (62, ";dup"), "+drop;f0=0"],
     [fields("1"), "dup", (61, ";dup"), "\ndup", (62, ";dup")], [fields("2"), "((dup", (62, "+dup"), ");f0<-1)*\n(dup;f0<-1)*"],
     # over 131,072 bytes
-    [fields("5"), *in_rounds(29), "\n", *in_rounds(28)],
+    [fields("5"), *in_rounds(29), "\n", *in_rounds(28), "+", naming_text([5])],
 ]
 
 
 RUN_OUT = [
     # deep rows; the line has three fields all the same
-    [fields("6"), *in_rounds(29), "\n", *in_rounds(28)], [fields("1024"), "dup;dup;dup;dup;f0=0\ndup;dup;dup;dup"],
+    [fields("6"), *in_rounds(29), "\n", *in_rounds(28), "+", naming_text([6])], [EIGHT, "dup;dup;dup;dup;f0=0\ndup;dup;dup;dup+", NAMED],
+]
+
+
+MENTIONED = [
+    [fields("1000,2"), "f1=0\nid"], [fields("65535,65535"), "id\ndup"], [fields("5,205"), "id\nid"], [fields("5,205"), "f0=0;f1=0\nid"],
+    [fields("1024,5000,2"), "f0=0;f2=0\nid"], [fields("5000,2,3"), "f1=1;f2<-2;dup\nf1=1;dup;f2<-2"], [fields("5000,2,3"), "dup;f2!=1\nf2!=1;dup"],
+    # where no packet comes, under a negation, by a change, on the right alone
+    [fields("3,9999"), "drop;f0=0\ndrop"], [fields("3,9999"), "!f0=1\nid"], [fields("3,9999"), "id\nf0<-2"], [fields("3,9999"), "drop;f1=0\nid"],
+    [fields("3,9999"), "!f1=1\nid"], [fields("3,9999"), "f0=0\nf1<-2"],
 ]
 
 
 # inputs with a cause each, of which any two are made to hold at once: what is added to the left table, to the right, and to the left text
 CAUSES = {
     18: (",x", "", ""), 20: (",A=1", "", ""), 21: (",t=2", ",t=3", ""), 1: (",g=1,h=1,i=1,j=1,k=1,l=1,m=1", "", ""), 2: ("", ",n=0", ""),
-    3: (",w=1024", "", ""), 14: ("", "", "?"), 15: ("", "", (65, "(")), 16: ("", "", " id"), 17: ("", "", (512, "*")), 6: ("", "", ";a=2"),
-    19: ("", "", ";!dup"), 9: ("", "", (64, ";dup")),
+    14: ("", "", "?"), 15: ("", "", (65, "(")), 16: ("", "", " id"), 17: ("", "", (512, "*")), 6: ("", "", ";a=2"), 19: ("", "", ";!dup"),
+    9: ("", "", (64, ";dup")), 3: (",w=1024", "", ";a=0;w=0"),
 }
 
 
@@ -273,9 +289,9 @@ def cases():
         yield parts_of(data)
     for parts in itertools.chain(entry_cases(), LONG, cause_pairs(), NEGATIONS):
         yield parts_of(*parts)
-    yield from random_cases(random.Random(18), 80, plain_texts)
+    yield from random_cases(random.Random(18), 66, plain_texts)
     yield from random_cases(random.Random(27), 40, negated_texts)
-    for parts in WIDE + RUN_OUT:
+    for parts in WIDE + RUN_OUT + MENTIONED:
         yield parts_of(*parts)
     # far over eight names: all of them are tested by 20
     yield parts_of(many_names(100), "\na=1\nid\nid")
@@ -287,6 +303,7 @@ def main():
     for parts in cases():
         given.append(" ".join(map(str, numbers_of(parts))))
         answers.append(expected(joined(parts)))
+    assert run(SIZES, [lists(nodes_of(SIZES, 1, ONE_MORE.encode()))] * 2, 9999, 1)[0] == "equal 4097"
     said = [answer.split(",")[:2] for answer in answers]
     assert {word for word, _ in said} == {"equal", "left", "right", "refused"}
     assert {int(number) for word, number in said if word == "refused"} == {1, 2, 3, 6, 9, 11, 14, 15, 16, 17, 18, 19, 20, 21}

@@ -59,14 +59,14 @@ def spines(term):
 
 
 class World:
+    """Packets of fields, of which all that have a size count; or of the fields that are given with theirs."""
+
     def __init__(self, sizes):
-        self.sizes = sizes
-        self.count = 1
-        for size in sizes:
-            self.count *= size
-        self.strides = [1] * len(sizes)
-        for field in range(len(sizes) - 2, -1, -1):
-            self.strides[field] = self.strides[field + 1] * sizes[field + 1]
+        self.sizes = sizes if isinstance(sizes, dict) else dict(enumerate(sizes))
+        self.count, self.strides = 1, {}
+        for field in sorted(self.sizes, reverse=True):
+            self.strides[field] = self.count
+            self.count *= self.sizes[field]
 
     def value(self, field, packet):
         return packet // self.strides[field] % self.sizes[field]

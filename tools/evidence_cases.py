@@ -1,13 +1,13 @@
 """Tables checked, with what the evidence checker answers worked out from document 01, "Row rules for evidence" and "Causes,
-in the order tested", and document 02, A.1, A.2 and A.4; output and next by way of document 004's right spines."""
+in the order tested", and document 02, A.1, A.2, A.4 and A.6; output and next by way of document 004's right spines."""
 import itertools
 import random
 
-from calls import EVIDENCE, RECORDS, call, cleared, fields_of, lists_of, numbers_of, plain, quarters
+from calls import EVIDENCE, RECORDS, call, cleared, distinct, fields_of, lists_of, numbers_of, plain, quarters, runs
 from engine_cases import DROP, DUP, EQ, ID, NE, NOT, SEQ, SET, STAR, SUM, World, random_policy, stepped, terms
 from policy_cases import answer as legality
-from policy_cases import chain, lists, negated, negations
-from tables import tables_of
+from policy_cases import chain, gathered, lists, naming, negated, negations
+from tables import mentioned, tables_of
 
 WORK = 16384
 RULES = ["a", "b", "c", "d"]
@@ -17,7 +17,7 @@ class Pair:
     """Two legal policies, and what rows say of them."""
 
     def __init__(self, sizes, left, right):
-        self.world = World(sizes)
+        self.world = World(mentioned(sizes, (lists(left), lists(right))))
         self.sides = [(terms(nodes), sum(kind == DUP for kind, _, _ in nodes)) for nodes in (left, right)]
         self.known = {}
 
@@ -97,6 +97,13 @@ P10_ROWS = [(0, 1, 1), (0, 2, 0)]
 # dup;!f0=0 and !f0=0;dup
 NEGATED = ([2], [(DUP, 0, 0), (EQ, 0, 0), (NOT, 1, 0), (SEQ, 0, 2)], [(EQ, 0, 0), (NOT, 0, 0), (DUP, 0, 0), (SEQ, 1, 2)])
 NEGATED_ROWS = [(0, 1, 1), (1, 1, 1), (0, 2, 0), (1, 2, 2)]
+# 65 packets, over two words of a packet set; and 1,024
+MANY = [5, 13]
+MOST = [2, 2, 2, 2, 2, 2, 4, 4]
+
+
+def starts(count):
+    return [(alpha, 1, 1) for alpha in range(count)]
 
 
 def shifted(nodes, by):
@@ -126,22 +133,28 @@ def dups(count):
     return nodes
 
 
+def named(nodes, sizes):
+    """The policy, and beside it tests that no packet comes to and that name of each field every value but the last: every field counts,
+    and all its values are told apart. Dups keep their numbers."""
+    return sum_of(nodes, seq_of([(DROP, 0, 0)], naming(sizes)))
+
+
 def equal_pairs(rng):
-    """Pairs that are equal by the laws of NetKAT."""
-    for sizes in ([1], [2], [3], [2, 3], [33]):
+    """Pairs that are equal by the laws of NetKAT; of several fields all count."""
+    for sizes in ([1], [2], [3], [2, 3], [3, 11]):
         for length in (6, 10):
             a = random_policy(rng, sizes, length)
             b = random_policy(rng, sizes, length // 2)
-            yield sizes, a, sum_of(a, a)
-            yield sizes, seq_of([(ID, 0, 0)], a), sum_of(a, [(DROP, 0, 0)])
-            yield sizes, sum_of(a, b), sum_of(b, a)
-            yield sizes, starred(a), starred(starred(a))
-            yield sizes, starred(a), sum_of([(ID, 0, 0)], seq_of(a, starred(a)))
+            for left, right in (
+                (a, sum_of(a, a)), (seq_of([(ID, 0, 0)], a), sum_of(a, [(DROP, 0, 0)])), (sum_of(a, b), sum_of(b, a)),
+                (starred(a), starred(starred(a))), (starred(a), sum_of([(ID, 0, 0)], seq_of(a, starred(a)))),
+            ):
+                yield sizes, left, named(right, sizes) if len(sizes) > 1 else right
 
 
 def equal_negations(rng):
-    """Pairs that are equal by the laws of tests, each beside policies that are not."""
-    for sizes in ([2], [3], [2, 3], [33]):
+    """Pairs that are equal by the laws of tests, each beside policies that are not; of several fields all count."""
+    for sizes in ([2], [3], [2, 3], [3, 11]):
         for length in (2, 4, 8):
             a, b = ([node for node in negated(rng, tests(rng, sizes, length))] for _ in range(2))
             rest = seq_of([(DUP, 0, 0)], random_policy(rng, sizes, 5))
@@ -152,7 +165,8 @@ def equal_negations(rng):
                 (sum_of(a, negation(a)), [(ID, 0, 0)]),
                 (seq_of(negation(a), a), [(DROP, 0, 0)]),
             ):
-                yield sizes, starred(seq_of(left, rest)), starred(seq_of(right, rest))
+                left, right = (starred(seq_of(tested, rest)) for tested in (left, right))
+                yield sizes, left, named(right, sizes) if len(sizes) > 1 else right
 
 
 def tests(rng, sizes, count):
@@ -203,7 +217,7 @@ def tables():
     yield (*P10, P10_ROWS)
     yield (*P10, P10_ROWS[:1])
     # P1, P4, P7, P9: no table is accepted
-    yield [2], [(DROP, 0, 0)], [(ID, 0, 0)], [(0, 1, 1), (1, 1, 1)]
+    yield [2], [(DROP, 0, 0)], [(ID, 0, 0)], [(0, 1, 1)]
     yield [3], [(EQ, 0, 0), (EQ, 0, 1), (SUM, 0, 1)], [(ID, 0, 0)], [(0, 1, 1), (1, 1, 1), (2, 1, 1)]
     yield [1], [(DUP, 0, 0)], dups(2), [(0, 1, 1), (0, 2, 2), (0, 0, 4)]
     yield [2], [(SET, 0, 0), (SET, 0, 1), (SUM, 0, 1)], [(ID, 0, 0)], [(0, 1, 1), (1, 1, 1)]
@@ -222,11 +236,16 @@ def tables():
         yield [1], dups(count), dups(count), marks[:count + 2]
     yield from wide_tables(marks)
     # outputs that differ in the last word alone
-    many = [(alpha, 1, 1) for alpha in range(65)]
-    yield [65], [(ID, 0, 0)], [(ID, 0, 0)], many
-    yield [65], [(ID, 0, 0)], [(NE, 0, 64)], many
-    yield [65], [(SET, 0, 64)], [(SET, 0, 32)], many
+    all_but_one = named(negation(seq_of([(EQ, 0, 4)], [(EQ, 1, 12)])), MANY)
+    yield MANY, [(ID, 0, 0)], named([(ID, 0, 0)], MANY), starts(65)
+    yield MANY, [(ID, 0, 0)], all_but_one, starts(65)
+    yield MANY, seq_of([(SET, 0, 4)], [(SET, 1, 12)]), named(seq_of([(SET, 0, 2)], [(SET, 1, 6)]), MANY), starts(65)
     yield [1], [(ID, 0, 0)], [(ID, 0, 0)], [(0, 1, 1)]
+    # as many packets as there may be
+    yield MOST, [(ID, 0, 0)], named([(ID, 0, 0)], MOST), starts(1024)
+    yield MOST, named([(ID, 0, 0)], MOST), [(ID, 0, 0)], starts(1023)
+    yield MOST, [(ID, 0, 0)], named([(ID, 0, 0)], MOST), starts(1025)
+    yield MOST, [(NE, 7, 3)], named([(ID, 0, 0)], MOST), starts(1024)
     rng = random.Random(8)
     for sizes, left, right in (P2, P5, P10):
         pair = Pair(sizes, left, right)
@@ -279,10 +298,9 @@ def negation_tables():
     yield sizes, left, negation(negation(left[1:2])) + shifted(left[:1], 3) + [(SEQ, 3, 2)], NEGATED_ROWS
     yield sizes, [(EQ, 0, 0), (NOT, 0, 0)], [(EQ, 0, 1)], NEGATED_ROWS[:2]
     yield [3], [(EQ, 0, 0), (NOT, 0, 0)], [(EQ, 0, 1)], [(0, 1, 1), (1, 1, 1), (2, 1, 1)]
-    many = [(alpha, 1, 1) for alpha in range(65)]
     for count in (500, 501):
-        yield [65], negations(count, (EQ, 0, 64)), [(NE, 0, 64)] if count % 2 else [(EQ, 0, 64)], many
-        yield [65], negations(count, (EQ, 0, 64)), [(EQ, 0, 64)] if count % 2 else [(NE, 0, 64)], many
+        for kind in (EQ, NE):
+            yield MANY, negations(count, (EQ, 1, 12)), named([(kind, 1, 12)], MANY), starts(65)
     rng = random.Random(28)
     pair = Pair(*NEGATED)
     for table in broken(rng, pair, NEGATED_ROWS, 400):
@@ -302,15 +320,18 @@ def damaged():
     """The causes before 10, on either side and together with others, as sizes and two policies as lists."""
     sizes, left, right = P2
     good, also = lists(left), lists(right)
-    for bad in ([], [2] * 9, [2, 0], [0, 2], [5, 205], [1024, 2], [32, 33]):
+    for bad in ([], [2] * 9, [2, 0], [0, 2]):
         yield bad, good, also
+    for wide in ([5, 205], [1024, 2], [32, 33]):
+        yield wide, good, lists([(SET, 1, 0)])
+        yield wide, lists([(NE, 1, 0)]), also
     wrong = [
         ([5], [0], []), ([], [], []), ([5, 1], [0], [0]),
         ([10], [0], [0]), ([1, 200, 7], [0, 0, 0], [0, 0, 1]),
         ([2], [1], [0]), ([4], [0], [2]), ([1], [0], [1]), ([5], [1], [0]),
         ([8], [0], [0]), ([1, 1, 7], [0, 0, 0], [0, 0, 2]),
         ([1, 1], [0, 0], [0, 0]), ([1, 6], [0, 0], [0, 0]),
-        lists(dups(64)),
+        lists(gathered(64)),
     ]
     for policy in wrong:
         yield sizes, policy, also
@@ -355,13 +376,15 @@ def cases():
     for given, a, b in damaged():
         yield given, (a, b), P2_ROWS, [4] * 3, WORK, []
     yield [2, 0], policies, P2_ROWS, [4, 4, 65536], 3, []
-    yield sizes, (policies[0], lists(dups(64))), P2_ROWS, [4, 4, 5], WORK, []
+    yield sizes, (policies[0], lists(gathered(64))), P2_ROWS, [4, 4, 5], WORK, []
     for sizes, left, right, rows in tables():
         yield sizes, (lists(left), lists(right)), rows, [len(rows)] * 3, WORK, []
 
 
 def repeated(entries, length, last):
     """The parts of a list of so many entries: these again and again, but the last."""
+    if length == len(entries) and not last:
+        return runs(entries)
     again, rest = divmod(length - len(last), len(entries))
     return [(again, entries), (1, entries[:rest]), (1, last)]
 
@@ -399,13 +422,14 @@ def table_calls(fields, policies, rows, lengths, words, last):
     return answered, stored
 
 
+@distinct
 def calls():
     places = set()
     for sizes, policies, rows, lengths, words, last in cases():
         said, stored = table_calls(sizes, policies, rows, lengths, words, last)
         word, *spot = said.split()
         if word in RULES:
-            spots = World(sizes).count if word == "b" else lengths[0]
+            spots = World(mentioned(sizes, policies)).count if word == "b" else lengths[0]
             places.add((word, spot[0] == "0", int(spot[0]) == spots - 1))
         yield from stored
     yield from record_calls()

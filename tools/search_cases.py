@@ -1,23 +1,27 @@
 """Searches, with what they answer and leave in the lists worked out from document 01, "States and rows" and "Causes, in the
-order tested", and document 02, A.1 to A.4; output and next by way of document 004's right spines."""
+order tested", and document 02, A.1 to A.4 and A.6; output and next by way of document 004's right spines."""
 import itertools
 import random
 
-from calls import SEARCH, TEXTS, call, cleared, lists_of, numbers_of, table_lists, total
-from engine_cases import DROP, DUP, EQ, ID, NE, SET, STAR, SUM, World, random_policy, stepped, terms
-from evidence_cases import NEGATED, NEGATED_ROWS, P2, P5, P10, damaged, dups, equal_negations, equal_pairs
-from evidence_cases import negation, seq_of, starred, sum_of
+from calls import SEARCH, TEXTS, call, cleared, distinct, lists_of, numbers_of, table_lists, total
+from engine_cases import DROP, DUP, EQ, ID, NE, SET, SUM, World, random_policy, stepped, terms
+from evidence_cases import MANY, MOST, NEGATED, NEGATED_ROWS, P2, P5, P10, damaged, dups, equal_negations, equal_pairs
+from evidence_cases import named, negation, seq_of, starred, starts, sum_of
 from policy_cases import answer as legality
-from policy_cases import chain, lists, negated, negations
-from tables import packets_refusal, tables_of
-from text_cases import Refused, joined, nodes_of, parts_of
+from policy_cases import chain, gathered, lists, negated, negations, stars
+from tables import mentioned, refusal, tables_of
+from text_cases import Refused, joined, naming_text, nodes_of, parts_of
 
 WORK = 16384
 
 
 def run(sizes, policies, room, most):
     """The answer as text, the rows with their parents, and the trace or nothing, with room for so many rows and packets."""
-    world = World(sizes)
+    return run_over(World(mentioned(sizes, policies)), policies, room, most)
+
+
+def run_over(world, policies, room, most):
+    """The same over any packets."""
     sides = [terms(list(zip(*policy))) for policy in policies]
     rows, depths, listed = [], [], set()
 
@@ -80,9 +84,9 @@ def sums_of(lengths, rows=(), trace=None, done=False):
 
 
 def texts_answer(fields, texts, lengths):
-    """The same of two texts as parts: the tables and 3, each text, then all else."""
+    """The same of two texts as parts: the tables, each text, then all else."""
     tables = tables_of(fields)
-    policies, refused = [], packets_refusal(tables)
+    policies, refused = [], refusal(tables)
     try:
         if refused:
             raise Refused(*refused)
@@ -135,9 +139,8 @@ def other(field, value):
     return [(NE, field, value)]
 
 
-def starts(count):
-    return [(alpha, 1, 1) for alpha in range(count)]
-
+# 33 packets, one more than a word of a packet set has
+SOME = [3, 11]
 
 # sizes, policies, answer, rows
 NEGATIONS = [
@@ -152,14 +155,14 @@ NEGATIONS = [
     ([2], negation(sum_of(test(0, 0), RECORD)), ONE, "refused 19 1 3", []),
     ([2], dups(64), negation(RECORD), "refused 19 2 1", []),
     ([2], negation(change(0, 1)), dups(64), "refused 19 1 1", []),
-    ([33], negations(500, (EQ, 0, 3)), test(0, 3), "equal 33", starts(33)),
-    ([33], negations(511, (EQ, 0, 3)), other(0, 3), "equal 33", starts(33)),
-    ([33], negations(500, (EQ, 0, 3)), negation(test(0, 3)), "right 1 0", starts(33)),
+    (SOME, negations(500, (EQ, 1, 3)), named(test(1, 3), SOME), "equal 33", starts(33)),
+    (SOME, negations(511, (EQ, 1, 3)), named(other(1, 3), SOME), "equal 33", starts(33)),
+    (SOME, negations(500, (EQ, 1, 3)), named(negation(test(1, 3)), SOME), "right 1 0", starts(33)),
     ([3], negation(test(0, 0)), test(0, 1), "left 1 2", starts(3)),
     ([2], negation(test(0, 0)), test(0, 0), "right 1 0", starts(2)),
-    ([2], negation(NONE), ONE, "equal 2", starts(2)),
-    ([2], negation(ONE), NONE, "equal 2", starts(2)),
-    ([65], negation(negation(test(0, 64))), negation(other(0, 64)), "equal 65", starts(65)),
+    ([2], negation(NONE), ONE, "equal 1", starts(1)),
+    ([2], negation(ONE), NONE, "equal 1", starts(1)),
+    (MANY, negation(negation(test(1, 12))), named(negation(other(1, 12)), MANY), "equal 65", starts(65)),
 ]
 
 
@@ -188,6 +191,10 @@ def sequence(parts):
     return nodes
 
 
+# sizes of random cases
+RANDOM = ([1], [2], [3], [2, 2], [5], [3, 11])
+
+
 def cases():
     """Sizes, two policies as lists, the lengths of the lent packet, left, right, parent, trace and work lists."""
     for sizes, left, right in PAIRS.values():
@@ -202,7 +209,7 @@ def cases():
     for rows in (0, 1, 2, 3, 4, 5, 65534, 65535, 65536, 65537):
         yield sizes, pair, [rows] * 4 + [5, WORK]
     for rows in (0, 32, 33, 34):
-        yield [33], (lists(ONE), lists(sum_of(ONE, test(0, 7)))), [rows] * 4 + [5, WORK]
+        yield SOME, (lists(ONE), lists(named(sum_of(ONE, test(1, 7)), SOME))), [rows] * 4 + [5, WORK]
     for odd in range(4):
         for length in (4, 6, 65536):
             yield sizes, pair, [length if column == odd else 5 for column in range(4)] + [5, WORK]
@@ -221,19 +228,22 @@ def cases():
         yield [7, 7, 7], long, [2000] * 4 + [most, WORK]
         yield [7, 7, 7], long[::-1], [65535] * 4 + [most, WORK]
     yield [7, 7, 7], long, [500] * 4 + [400, WORK]
-    # 511 nested stars at N = 1,024
-    stars = lists(ONE + [(STAR, i, 0) for i in range(511)])
-    yield [32, 32], (stars, stars), [65535] * 4 + [65535, WORK]
+    # 511 nested stars at N = 1,024, and more rows than the smaller index holds
+    yield MOST, (lists(stars(512)), lists(named(stars(400), MOST))), [65535] * 4 + [65535, WORK]
+    for rows in (8191, 8192):
+        yield MOST, (lists(dups(7)), lists(named(dups(7), MOST))), [rows] * 4 + [0, WORK]
     for given, a, b in damaged():
         yield given, (a, b), [4] * 5 + [WORK]
-    yield sizes, (pair[0], lists(dups(64))), [4, 4, 4, 5, 4, WORK]
+    yield sizes, (pair[0], lists(gathered(64))), [4, 4, 4, 5, 4, WORK]
     rng = random.Random(6)
     for sizes, left, right in equal_pairs(rng):
         yield sizes, (lists(left), lists(right)), [300] * 4 + [300, WORK]
     for count in range(60):
-        sizes = rng.choice(([1], [2], [3], [2, 2], [5], [33]))
+        sizes = rng.choice(RANDOM)
         left = random_policy(rng, sizes, rng.choice((3, 6, 12, 20)))
         right = random_policy(rng, sizes, rng.choice((3, 6, 12, 20))) if count % 2 else sum_of(left, random_policy(rng, sizes, 4))
+        if count % 3:
+            right = named(right, sizes)
         yield sizes, (lists(left), lists(right)), [rng.choice((7, 40, 400))] * 4 + [rng.choice((1, 8, 40)), WORK]
 
 
@@ -241,11 +251,11 @@ def wide_cases():
     """Policies with 32 to 63 dups."""
     chained, summed = dups(63), lists(chain(RECORD * 63, SUM))
     for rows in (127, 128, 129):
-        yield [2], (lists(chained), lists(chained)), [rows] * 4 + [9, WORK]
+        yield [2], (lists(chained), lists(named(chained, [2]))), [rows] * 4 + [9, WORK]
     yield [1], (lists(chained), lists(dups(62))), [99] * 4 + [99, WORK]
     for most in (62, 63):
         yield [1], (lists(dups(62)), lists(chained)), [99] * 4 + [most, WORK]
-    yield [2], (summed, lists(RECORD)), [9] * 4 + [9, WORK]
+    yield [2], (summed, lists(named(RECORD, [2]))), [9] * 4 + [9, WORK]
     yield [1], (lists(chain(RECORD * 32, SUM)), lists(chain(RECORD * 33, SUM))), [9] * 4 + [9, WORK]
     looped = starred(seq_of(chain(RECORD * 63, SUM), change(0, 1)))
     yield [2], (lists(looped), lists(starred(seq_of(RECORD, change(0, 1))))), [9] * 4 + [9, WORK]
@@ -269,7 +279,7 @@ def negation_cases():
         for policies in (pair, pair[::-1]):
             yield sizes, policies, [len(rows) + 2] * 4 + [9, WORK]
         yield sizes, pair, [len(rows) + 2] * 4 + [0, WORK]
-    yield [32, 32], (lists(negations(500, (EQ, 1, 31))), lists(test(1, 31))), [1024] * 4 + [0, WORK]
+    yield MOST, (lists(negations(500, (EQ, 7, 3))), lists(named(test(7, 3), MOST))), [1024] * 4 + [0, WORK]
     # the lists are full, or 10 refuses them; 19 goes before it
     sizes, left, right = NEGATED
     for rows in range(5):
@@ -281,10 +291,12 @@ def negation_cases():
     for sizes, left, right in equal_negations(rng):
         yield sizes, (lists(left), lists(right)), [300] * 4 + [300, WORK]
     for count in range(60):
-        sizes = rng.choice(([1], [2], [3], [2, 2], [5], [33]))
+        sizes = rng.choice(RANDOM)
         left, right = (negated(rng, random_policy(rng, sizes, rng.choice((3, 6, 12, 20)))) for _ in range(2))
         if count % 2:
             right = sum_of(left, negated(rng, random_policy(rng, sizes, 4)))
+        if count % 3:
+            right = named(right, sizes)
         yield sizes, (lists(left), lists(right)), [rng.choice((7, 40, 400))] * 4 + [rng.choice((1, 8, 40)), WORK]
 
 
@@ -296,11 +308,12 @@ RUN_OUT = [
     ([1], "dup;drop", "drop", [0, 0], "equal 2"),
     ([2], "dup;!f0=0", "!f0=0;dup", [0] * 4, "equal 4"),
     # no row but the starting rows
-    ([2, 2], "id", "drop", [0] * 4, "left 1 0"),
+    ([2, 2], "id", "drop", [0], "left 1 0"),
+    ([2, 2], "id", naming_text([2, 2]), [0] * 4, "left 1 0"),
     ([5], "f0!=4", "!f0=4", [0] * 5, "equal 5"),
     # each depth has a row for each packet
-    ([3], "dup;dup", "dup;(dup;id)", [0] * 6 + [1] * 3, "equal 9"),
-    ([2, 2], "dup;dup;dup", "dup;dup;dup", [0] * 8 + [1] * 4 + [2] * 4, "equal 16"),
+    ([3], "dup;dup", "dup;(dup;id)+" + naming_text([3]), [0] * 6 + [1] * 3, "equal 9"),
+    ([2, 2], "dup;dup;dup", "dup;dup;dup+" + naming_text([2, 2]), [0] * 8 + [1] * 4 + [2] * 4, "equal 16"),
     # the rows next of a row that is handled later are listed already
     ([2], "(f0<-0+f0<-1);dup;(f0<-0+f0<-1);dup", "(f0<-1+f0<-0);dup;(f0<-1+f0<-0);dup", [0] * 4 + [1] * 2, "equal 6"),
     # from packet 0 on, one after the other
@@ -323,10 +336,11 @@ def in_rounds(count):
 # sizes, two texts, numbers of rows; of the row order, the rows of each depth
 DEEP = [
     ([1], ";".join(["dup"] * 60), ";".join(["dup"] * 60), (0, 1, 2, 30, 59, 60, 61), 1),
-    ([2], ";".join(["dup"] * 60), ";".join(["dup"] * 61), (1, 2, 3, 4, 5, 119, 120, 121), 2),
+    ([2], ";".join(["dup"] * 60), ";".join(["dup"] * 61) + "+" + naming_text([2]), (1, 2, 3, 4, 5, 119, 120, 121), 2),
     ([1], in_rounds(5), in_rounds(7), (1, 2, 3, 20, 34, 35, 36), 1),
-    ([3], in_rounds(4), in_rounds(3), (2, 3, 4, 6, 7, 20, 37, 38, 39), 3),
-    ([33], "dup;dup", "dup;(id+drop);dup", (0, 1, 32, 33, 34, 65, 66, 67, 98, 99), 33),
+    ([3], in_rounds(4), in_rounds(3) + "+" + naming_text([3]), (2, 3, 4, 6, 7, 20, 37, 38, 39), 3),
+    (SOME, "dup;dup", "dup;(id+drop);dup+" + naming_text(SOME), (0, 1, 32, 33, 34, 65, 66, 67, 98, 99), 33),
+    (MOST, "dup", "dup+" + naming_text(MOST), (1023, 1024, 2048), 1024),
 ]
 
 
@@ -343,7 +357,8 @@ def run_out_cases():
         assert run(sizes, pair, len(lengths), 9)[0] == said
         for rows in range(len(lengths) + 2):
             yield sizes, (left, right), rows
-            yield sizes, (right, left), rows
+            if rows % 2:
+                yield sizes, (right, left), rows
     for sizes, left, right, numbers, wide in DEEP:
         for rows in numbers:
             said = run(sizes, policies_of(sizes, (left, right)), rows, 99)[0].split()
@@ -360,9 +375,8 @@ def random_run_out():
         pair = lists(seq_of(recorded, left)), lists(seq_of(recorded, right))
         if legality(sizes, pair).startswith("refused"):
             continue
-        starting, needed = World(sizes).count, len(run(sizes, pair, 200, 200)[1])
-        for rows in sorted({rng.randrange(starting + 1), rng.randrange(starting, needed), needed - 1}):
-            yield sizes, pair, rows
+        starting, needed = World(mentioned(sizes, pair)).count, len(run(sizes, pair, 200, 200)[1])
+        yield sizes, pair, rng.choice((rng.randrange(starting + 1), rng.randrange(starting, needed), needed - 1))
 
 
 def run_out_calls():
@@ -384,6 +398,7 @@ def run_out_calls():
     assert found >= set(range(5))
 
 
+@distinct
 def calls():
     found = set()
     for sizes, policies, lengths in itertools.chain(cases(), negation_cases(), wide_cases()):

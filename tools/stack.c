@@ -2,10 +2,10 @@
  * to touch every large local. Prints a line for each call; fails if one takes more than NETKAT_STACK, less a page.
  *
  * The inputs: policies as deep as 512 nodes allow (nested stars and negations, sequences that nest to either side, sums, and mixtures,
- * over a dup, a change or a test), with 63 dups where they have many, on 1,024 packets; tables and traces of these; a chain of 63 dups, whose
- * rows are one more than fit; the deepest parentheses; eight fields, most with long names, in tables of opposite orders. What lies below the frame that makes
- * the call is counted, so that of the smallest calls the thread's own end shows. Each call runs once unpainted, so that what
- * the loader does at a first call is not counted. */
+ * over a dup, a change or a test), with 63 dups where they have many, on 1,024 packets: one of two policies names of each field all values
+ * but the last; tables and traces of these; a chain of 63 dups, whose rows are one more than fit; the deepest parentheses; eight fields,
+ * most with long names, in tables of opposite orders. What lies below the frame that makes the call is counted, so that of the smallest
+ * calls the thread's own end shows. Each call runs once unpainted, so that what the loader does at a first call is not counted. */
 #define _GNU_SOURCE
 #include <pthread.h>
 #include <stdio.h>
@@ -38,6 +38,12 @@ static const uint8_t turned[FIELDS][NETKAT_CELL] = {
 static const uint16_t sizes[FIELDS] = {2, 2, 2, 2, 2, 2, 4, 4}, turned_sizes[FIELDS] = {4, 4, 2, 2, 2, 2, 2, 2};
 #define TABLES *names, sizeof names, sizes, FIELDS, *turned, sizeof turned, turned_sizes, FIELDS
 
+/* the same values named in a text */
+#define VALUE(field, value) ";fieldofaheader" field "=" value
+static const uint8_t naming[] = "dup+drop;f0=0;f1=0" VALUE("2", "0") VALUE("3", "0") VALUE("4", "0") VALUE("5", "0")
+    VALUE("6", "0") VALUE("6", "1") VALUE("6", "2") VALUE("7", "0") VALUE("7", "1") VALUE("7", "2");
+#define NAMES naming, sizeof naming - 1
+
 static struct policy one, other;
 static uint16_t packet[NETKAT_ROWS], parent[NETKAT_ROWS], trace[NETKAT_ROWS];
 static uint64_t left[NETKAT_ROWS], right[NETKAT_ROWS], answer[NETKAT_NUMBERS];
@@ -57,22 +63,37 @@ static size_t node(struct policy *p, unsigned kind, size_t first, size_t second)
 /* a leaf: a dup as long as there may be one, now and then, else a change or a test */
 static size_t leaf(struct policy *p, size_t i) {
     if (i % 3 == 0 && p->dups < DUPS) return node(p, 5, 0, 0);
-    return node(p, i % 3 == 1 ? 4 : 3, i % FIELDS, (i / FIELDS) % 2);
+    return node(p, i % 3 == 1 ? 4 : 3, i % FIELDS, (i / FIELDS) % sizes[i % FIELDS]);
 }
 
 /* a leaf that may be negated */
 static size_t test(struct policy *p, size_t i) {
-    return node(p, i % 2 ? 2 : 3, i % FIELDS, (i / FIELDS) % 2);
+    return node(p, i % 2 ? 2 : 3, i % FIELDS, (i / FIELDS) % sizes[i % FIELDS]);
+}
+
+/* nodes that name values */
+#define NAMING 26
+
+/* the policy, and beside it tests that no packet comes to and that name of each field all values but the last */
+static void name_values(struct policy *p) {
+    size_t policy = p->nodes - 1, top = node(p, 0, 0, 0);
+    for (size_t field = 0; field < FIELDS; field++)
+        for (size_t value = 0; value + 1 < sizes[field]; value++) {
+            size_t tested = node(p, 2, field, value);
+            top = node(p, 7, top, tested);
+        }
+    node(p, 6, policy, top);
 }
 
 /* shapes: 0 nested stars over a dup, 1 over id, 2 sequences that nest to the left, 3 to the right, 4 sums, 5 a star of a sequence of the
  * same, 6 a star of a sum of the same, 7 a sequence of a leaf and a star of the same, 8 nested negations, 9 a negation of a sequence of
  * the same, 10 a negation of a sum of the same */
 #define SHAPES 11
-static void build(struct policy *p, int shape) {
+static void build(struct policy *p, int shape, int names) {
     memset(p, 0, sizeof *p);
+    size_t most = names ? NETKAT_NODES - NAMING : NETKAT_NODES;
     size_t top = shape > 7 ? node(p, 2, 0, 0) : shape == 1 ? node(p, 1, 0, 0) : node(p, 5, 0, 0);
-    for (size_t i = 1; p->nodes + (shape < 2 || shape == 8 ? 1 : 3) <= NETKAT_NODES; i++) {
+    for (size_t i = 1; p->nodes + (shape < 2 || shape == 8 ? 1 : 3) <= most; i++) {
         switch (shape) {
         case 0: case 1: top = node(p, 8, top, 0); break;
         case 2: { size_t l = leaf(p, i); top = node(p, 7, top, l); break; }
@@ -86,6 +107,7 @@ static void build(struct policy *p, int shape) {
         default: { size_t l = leaf(p, i); top = node(p, 7, l, node(p, 8, top, 0)); break; }
         }
     }
+    if (names) name_values(p);
 }
 
 /* dups one after the other, which nest to the left: 64 rows for each packet */
@@ -98,13 +120,16 @@ static void chain(struct policy *p) {
 #define POLICY(p) (p).kind, (p).nodes, (p).first, (p).nodes, (p).second, (p).nodes
 #define LISTS(n) packet, n, left, n, right, n, parent, n, trace, n, work, NETKAT_WORK
 
-static void values(void) { uint16_t v[FIELDS]; netkat_values(TABLES, 1023, v, FIELDS, answer); }
-static void number(void) { uint16_t v[FIELDS] = {0}; netkat_number(TABLES, v, FIELDS, answer); }
+static void values(void) { uint16_t v[FIELDS]; netkat_values(TABLES, POLICY(one), POLICY(other), 1023, v, FIELDS, answer); }
+static void number(void) { uint16_t v[FIELDS] = {0}; netkat_number(TABLES, POLICY(one), POLICY(other), v, FIELDS, answer); }
 static void policy(void) { netkat_policy(TABLES, POLICY(one), answer); }
 static void policies(void) { netkat_policies(TABLES, POLICY(one), POLICY(other), answer); }
 static void reads(void) { netkat_read(TABLES, 2, text, text_length, other.kind, 512, other.first, 512, other.second, 512, answer); }
 static void search(void) { netkat_search(TABLES, POLICY(one), POLICY(other), LISTS(room), answer); }
-static void texts(void) { netkat_search_texts(TABLES, text, text_length, text, text_length, LISTS(room), answer); }
+static void texts(void) {
+    netkat_search_texts(TABLES, text, text_length, NAMES, LISTS(room), answer);
+    netkat_search_texts(TABLES, NAMES, text, text_length, LISTS(room), answer);
+}
 static void evidence(void) { netkat_evidence(TABLES, POLICY(one), POLICY(other), packet, rows, left, rows, right, rows, work, NETKAT_WORK, answer); }
 static void evidence_rows(void) { netkat_evidence_rows(TABLES, POLICY(one), POLICY(other), records, rows, work, NETKAT_WORK, answer); }
 static void traces(void) { netkat_trace(TABLES, POLICY(one), POLICY(other), 0, trace, 8, work, NETKAT_WORK, answer); }
@@ -156,6 +181,14 @@ static void measure(struct call *c) {
 
 static int of_table(const struct call *c) { return c->call == evidence || c->call == evidence_rows; }
 
+/* the two policies have as many packets as there may be */
+static void all_packets(void) {
+    values();
+    if (answer[0] == NETKAT_DONE) return;
+    fprintf(stderr, "two policies without packet 1,023\n");
+    exit(2);
+}
+
 /* the table that the search leaves, as far as it came */
 static void tables(void) {
     search();
@@ -175,9 +208,11 @@ static void say(const char *words, size_t times) {
 int main(void) {
     const char *innermost[] = {"dup", "f0<-1", "(dup+f0<-1;dup)*;f1=0"};
     for (int shape = 0; shape < SHAPES; shape++) {
-        for (int against = 0; against < 2; against++) {
-            build(&one, shape);
-            build(&other, against ? 1 : shape);
+        /* against the same and against stars; which of the two names the values */
+        for (int against = 0; against < 3; against++) {
+            build(&one, shape, against == 2);
+            build(&other, against == 1 ? 1 : shape, against != 2);
+            all_packets();
             for (size_t i = 0; i < CALLS; i++) {
                 if (calls[i].call == reads || calls[i].call == texts || of_table(&calls[i])) continue;
                 measure(&calls[i]);
@@ -189,6 +224,8 @@ int main(void) {
     room = NETKAT_ROWS;
     chain(&one);
     chain(&other);
+    name_values(&other);
+    all_packets();
     for (size_t i = 0; i < CALLS; i++)
         if (calls[i].call == search) measure(&calls[i]);
     tables();

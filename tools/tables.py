@@ -1,4 +1,4 @@
-"""Tables of names: cells, joint fields, and what tables are refused by, from document 02, A.4."""
+"""Tables of names: cells, joint fields, what tables are refused by, and which fields count, from document 02, A.4 and A.6."""
 CELL = 16
 LETTERS = b"abcdefghijklmnopqrstuvwxyz"
 DIGITS = b"0123456789"
@@ -96,14 +96,17 @@ def refusal(tables):
     return next(((2, 0, field) for field, size in enumerate(sizes) if size == 0), None)
 
 
-def packets_refusal(tables):
-    """The same, then 3."""
-    refused = refusal(tables)
-    if refused:
-        return refused
+def mentioned(sizes, policies):
+    """The fields that a test or a change in any of these policies is of, with their sizes. A policy is its three lists."""
+    found = {field for kinds, fields, _ in policies for kind, field in zip(kinds, fields) if kind in (2, 3, 4)}
+    return {field: size for field, size in enumerate(sizes) if field in found}
+
+
+def packets_refusal(counted):
+    """Cause 3 on the fields that count, given with their sizes."""
     count = 1
-    for field, size in enumerate(tables.sizes()):
-        count *= size
+    for field in sorted(counted):
+        count *= counted[field]
         if count > 1024:
             return (3, 0, field)
     return None

@@ -2,7 +2,7 @@
 import random
 import string
 
-from calls import READ, call, numbers_of, table_lists, total
+from calls import READ, call, distinct, numbers_of, table_lists, total
 from tables import numbered, refusal, tables_of
 
 WORD = set((string.ascii_letters + string.digits).encode())
@@ -168,6 +168,11 @@ def expected(tables, side, text, lengths):
         return "done %d" % len(nodes), nodes
     except Refused as refused:
         return "refused %d %d %d" % refused.answer, []
+
+
+def naming_text(sizes):
+    """A text that drops everything and names of each of f0, f1, .. every value but the last."""
+    return "drop" + "".join(";f%d=%d" % (field, value) for field, size in enumerate(sizes) for value in range(max(size - 1, 1)))
 
 
 def joined(parts):
@@ -386,6 +391,7 @@ def read_call(tables, side, parts, lengths):
     return call(READ, table_lists(tables) + [side] + numbers_of(parts) + list(lengths), said, *sums)
 
 
+@distinct
 def calls():
     for parts, lengths in all_cases():
         yield read_call(EIGHT, 1, parts, lengths)

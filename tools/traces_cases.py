@@ -1,27 +1,26 @@
-"""Traces checked, with what the trace checker answers worked out from documents 01 and 02 (A.1, A.2, A.4) by a reading of document 000's Figure 1: which
+"""Traces checked, with what the trace checker answers worked out from documents 01 and 02 (A.1, A.2, A.4, A.6) by a reading of document 000's Figure 1: which
 part of a trace each node of a policy can have written, and, for short traces, the sets of traces themselves."""
 import random
 import sys
 
-from calls import TRACE, call, cleared, lists_of, numbers_of
-from policy_cases import DROP, ID, EQ, NE, SET, DUP, SUM, SEQ, STAR, NOT, chain, legal, lists, negated, negations, stars
+from calls import TRACE, call, cleared, distinct, lists_of, numbers_of
+from policy_cases import DROP, ID, EQ, NE, SET, DUP, SUM, SEQ, STAR, NOT, chain, gathered, legal, lists, naming, negated, negations, stars
 from policy_cases import answer as legality
-from tables import tables_of
+from tables import mentioned, tables_of
 
 sys.setrecursionlimit(10000)
 WORDS = 16384
 
 
 class Packets:
-    """Packets as numbers, field 0 varying slowest."""
+    """Packets as numbers over the fields that count, given with their sizes, the first varying slowest."""
 
-    def __init__(self, sizes):
-        self.sizes = sizes
-        self.count = 1
-        self.strides = [0] * len(sizes)
-        for field in reversed(range(len(sizes))):
+    def __init__(self, counted):
+        self.sizes = counted
+        self.count, self.strides = 1, {}
+        for field in sorted(counted, reverse=True):
             self.strides[field] = self.count
-            self.count *= sizes[field]
+            self.count *= counted[field]
 
     def value(self, field, packet):
         return packet // self.strides[field] % self.sizes[field]
@@ -123,7 +122,7 @@ def answer(fields, left, right, entering, trace, words):
         return refused, False
     if words < WORDS:
         return "refused 10 0 0", False
-    packets = Packets(tables_of(fields).sizes())
+    packets = Packets(mentioned(tables_of(fields).sizes(), (left, right)))
     for place, packet in enumerate([entering] + trace):
         if packet >= packets.count:
             return "refused 13 0 %d" % place, True
@@ -168,10 +167,24 @@ def no(p):
     return p + [(NOT, len(p) - 1, 0)]
 
 
+def named(p, sizes):
+    """The policy, and beside it tests that no packet comes to and that name of each field every value but the last."""
+    return join(SUM, p, join(SEQ, drop, naming(sizes)))
+
+
+def packets_of(sizes, *policies):
+    """The packets of policies as nodes."""
+    return Packets(mentioned(sizes, [lists(p) for p in policies]))
+
+
+# 1,024 packets, and 33
+MOST, SOME = [2, 2, 2, 2, 2, 2, 4, 4], [3, 11]
+
+
 def pairs():
     """Document 01's pairs, each with the trace that tells it apart and with others."""
-    yield Case([2], drop, one, 0, [0])
-    yield Case([2], drop, one, 0, [1])
+    for no_field, packet in ((drop, 0), (drop, 1), (named(drop, [2]), 0), (named(drop, [2]), 1)):
+        yield Case([2], no_field, one, 0, [packet])
     first = join(SEQ, leaf(EQ, 0, 0), dup), join(SEQ, dup, leaf(EQ, 0, 0))
     for entering in (0, 1):
         for trace in ([0], [0, 0], [1, 0], [0, 0, 0]):
@@ -192,7 +205,7 @@ def pairs():
 
 def out_of_range():
     """Length 0, and 13 at each place."""
-    pair = star(dup), one
+    pair = star(dup), named(one, [2])
     yield Case([2], *pair, 0, [])
     yield Case([2], *pair, 1, [])
     for bad in (2, 3, 65535):
@@ -203,20 +216,21 @@ def out_of_range():
         yield Case([2], *pair, 0, [0, bad, 0])
         yield Case([2], *pair, 0, [0, bad, bad])
         yield Case([2], *pair, 0, [0, 0, bad])
-    yield Case([32, 32], *pair, 1023, [1023, 1023])
-    yield Case([32, 32], *pair, 1024, [1023, 1023])
-    yield Case([32, 32], *pair, 1023, [1023, 1024])
+    most = star(dup), named(one, MOST)
+    yield Case(MOST, *most, 1023, [1023, 1023])
+    yield Case(MOST, *most, 1024, [1023, 1023])
+    yield Case(MOST, *most, 1023, [1023, 1024])
     yield Case([1], one, one, 0, [1], times=65535, part=[0])
     # a packet out of range behind one that no policy has
-    yield Case([2], one, one, 0, [1, 2])
+    yield Case([2], one, named(one, [2]), 0, [1, 2])
 
 
 def work_lists():
     for words in (0, 1, WORDS - 1, WORDS, WORDS + 1, 20000):
-        yield Case([2], one, dup, 0, [0], words)
+        yield Case([2], one, named(dup, [2]), 0, [0], words)
         yield Case([2], one, dup, 0, [0, 0], words)
         yield Case([2], one, dup, 0, [], words)
-        yield Case([2], one, dup, 0, [2], words)
+        yield Case([2], one, named(dup, [2]), 0, [2], words)
 
 
 def refusals():
@@ -226,8 +240,9 @@ def refusals():
     bad += [lists(leaf(*node)) for node in ((10,), (ID, 0, 1), (EQ, 0, 2), (EQ, 1, 0), (STAR, 0, 0))]
     bad += [lists(one + one), lists(one + [(SUM, 0, 0)]), lists(chain(dup * 64))]
     for words in (WORDS - 1, WORDS):
-        for sizes in ([], [2] * 9, [2, 0], [0] * 9, [5, 205], [1024, 2, 0]):
+        for sizes in ([], [2] * 9, [2, 0], [0] * 9, [1024, 2, 0]):
             yield Case(sizes, bad[0], bad[0], 65535, [65535], words)
+        yield Case([5, 205], leaf(EQ, 0, 4), leaf(SET, 1, 0), 65535, [65535], words)
         for policy in bad:
             yield Case([2], policy, good, 65535, [65535], words)
             yield Case([2], good, policy, 65535, [65535], words)
@@ -237,10 +252,10 @@ def refusals():
         yield Case([2], good, good, 65535, [65535], words)
     yield Case([2], lists(stars(513)), good, 65535, [65535])
     yield Case([2], good, lists(stars(513)), 65535, [65535])
-    yield Case([2], lists(stars(512)), lists(chain(dup * 63)), 1, [1] * 64)
-    yield Case([2], lists(stars(512)), lists(chain(dup * 63)), 1, [1] * 63)
-    yield Case([2], lists(chain(dup * 63)), lists(chain(dup * 62)), 1, [1] * 64)
-    yield Case([2], lists(chain(dup * 63, SUM)), lists(chain(dup * 32, SUM)), 1, [1] * 2)
+    yield Case([2], stars(512), named(chain(dup * 63), [2]), 1, [1] * 64)
+    yield Case([2], stars(512), named(chain(dup * 63), [2]), 1, [1] * 63)
+    yield Case([2], chain(dup * 63), named(chain(dup * 62), [2]), 1, [1] * 64)
+    yield Case([2], chain(dup * 63, SUM), named(chain(dup * 32, SUM), [2]), 1, [1] * 2)
 
 
 def counter(n):
@@ -261,19 +276,22 @@ def long():
     yield Case([5], turn, star(join(SUM, turn, dup)), 3, [3, 4, 0, 0, 0], times=70, part=[3, 4, 0, 1, 2])
     yield Case([1], star(dup), star(join(SEQ, dup, dup)), 0, [0], times=65535, part=[0])
     yield Case([1], star(dup), star(join(SEQ, dup, dup)), 0, [0, 0], times=65534, part=[0])
-    yield Case([2], star(dup), star(dup), 0, [1], times=65535, part=[0])
-    yield Case([2], star(dup), star(dup), 0, [0, 0], times=65535, part=[0])
+    loops = star(dup), named(star(dup), [2])
+    yield Case([2], *loops, 0, [1], times=65535, part=[0])
+    yield Case([2], *loops, 0, [0, 0], times=65535, part=[0])
     # the wrong packet comes early, and both states are 0 from then on
-    yield Case([2], star(dup), star(dup), 0, [0], times=65535, part=[1])
+    yield Case([2], *loops, 0, [0], times=65535, part=[1])
 
 
 def random_pairs():
     rng = random.Random(4)
-    for sizes in ([1], [2], [3], [2, 2], [2, 3], [3, 2], [2, 1, 2], [31], [33], [32, 32]):
-        packets = Packets(sizes)
+    for sizes in ([1], [2], [3], [2, 2], [2, 3], [3, 2], [2, 1, 2], [31], SOME, MOST):
         for leaves in (2, 3, 4, 7):
-            for _ in range(3 if leaves < 7 else 2):
+            for count in range(3 if leaves < 7 else 2):
                 left, right = legal(rng, sizes, leaves), legal(rng, sizes, leaves)
+                if len(sizes) > 1 and count:
+                    right = named(right, sizes)
+                packets = packets_of(sizes, left, right)
                 entering = rng.randrange(packets.count)
                 short = packets.count <= 6 and leaves <= 4
                 found = [
@@ -305,11 +323,12 @@ def negation_pairs():
         for last in range(3):
             yield Case([3], *turned, entering, [last])
     for count in (500, 511):
-        for packet in (3, 4):
-            yield Case([1024], negations(count, (EQ, 0, 3)), leaf(EQ, 0, 3), packet, [packet])
-    yield Case([5], star(join(SEQ, no(leaf(EQ, 0, 4)), dup)), star(dup), 3, [3], times=65535, part=[3])
-    yield Case([5], star(join(SEQ, no(leaf(EQ, 0, 4)), dup)), star(dup), 4, [4], times=500, part=[4])
-    good, many = lists(one), lists(chain(dup * 64))
+        for packet in (3, 4, 1023):
+            yield Case(MOST, negations(count, (EQ, 7, 3)), named(leaf(EQ, 7, 3), MOST), packet, [packet])
+    guarded = star(join(SEQ, no(leaf(EQ, 0, 4)), dup)), named(star(dup), [5])
+    yield Case([5], *guarded, 3, [3], times=65535, part=[3])
+    yield Case([5], *guarded, 4, [4], times=500, part=[4])
+    good, many = lists(one), lists(gathered(64))
     bad = [lists(no(p)) for p in (no(dup), star(zero), join(SUM, zero, dup), leaf(SET, 0, 1))]
     for words in (WORDS - 1, WORDS):
         for policy in bad:
@@ -321,11 +340,13 @@ def negation_pairs():
         yield Case([2], bad[2], bad[1], 0, [0], words)
         yield Case([2, 0], bad[0], bad[1], 0, [0], words)
     rng = random.Random(14)
-    for sizes in ([1], [2], [3], [2, 2], [2, 3], [33]):
-        packets = Packets(sizes)
+    for sizes in ([1], [2], [3], [2, 2], [2, 3], SOME):
         for leaves in (2, 3, 4, 7):
-            for _ in range(3):
+            for count in range(3):
                 left, right = (negated(rng, legal(rng, sizes, leaves)) for _ in range(2))
+                if len(sizes) > 1 and count:
+                    right = named(right, sizes)
+                packets = packets_of(sizes, left, right)
                 entering = rng.randrange(packets.count)
                 short = packets.count <= 6 and leaves <= 4
                 for p in (left, right) if short else ():
@@ -335,6 +356,7 @@ def negation_pairs():
                 yield Case(sizes, left, right, entering, [entering] * rng.randrange(4) + [rng.randrange(packets.count)])
 
 
+@distinct
 def calls():
     groups = (pairs, out_of_range, work_lists, refusals, long, random_pairs, negation_pairs)
     cases = [c.call() for group in groups for c in group()]

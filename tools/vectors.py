@@ -10,6 +10,7 @@ import pathlib
 import sys
 
 import evidence_cases
+import mention_cases
 import names_cases
 import policy_cases
 import search_cases
@@ -18,7 +19,7 @@ import traces_cases
 import turning_cases
 from calls import RECORDS
 
-SCRIPTS = (turning_cases, policy_cases, text_cases, search_cases, evidence_cases, traces_cases, names_cases)
+SCRIPTS = (turning_cases, policy_cases, text_cases, search_cases, evidence_cases, traces_cases, names_cases, mention_cases)
 ROOT = pathlib.Path(__file__).resolve().parent.parent
 # each folder, and whether its calls are those on records
 FOLDERS = {"crates/vectors": False, "differential/records": True}

@@ -13,6 +13,7 @@ mod plot;
 mod report;
 mod tables;
 mod traces;
+mod unmentioned;
 mod workload;
 
 use std::env;

@@ -4,7 +4,6 @@ use std::time::{Duration, Instant};
 
 use netkat_reference::answer::Numbers;
 use netkat_reference::case::Case;
-use netkat_reference::names;
 
 use crate::clock;
 use crate::report::thousands;
@@ -147,9 +146,9 @@ fn clocked(case: &mut Case, runner: Runner) -> (Numbers, f64) {
 fn rows_of(case: &Case, answer: Numbers) -> (Option<usize>, Option<usize>) {
     match (case, answer) {
         (Case::Search { .. }, [0, rows, ..]) => (Some(rows as usize), Some(rows as usize)),
-        (Case::Search { tables, lists, .. }, [9, 11, _, rows, ..]) => {
+        (Case::Search { lists, .. }, [9, 11, _, rows, ..]) => {
             let rows = rows as usize;
-            let starting = names::packets(tables.lend()).map_or(0, |packets| packets.count());
+            let starting = case.packets().unwrap_or(0);
             let handled = (starting < rows).then(|| usize::from(lists.parent[rows - 1]) + 1);
             (Some(rows), handled)
         }
@@ -182,6 +181,8 @@ fn in_words(case: &Case, answer: Numbers) -> String {
             format!("rejected by ({rule}), row {}", thousands(row as usize))
         }
         (Case::Read { .. }, [0, nodes, ..]) => format!("{nodes} nodes"),
+        (Case::Values { .. }, [0, ..]) => "values".to_string(),
+        (Case::Number { .. }, [0, number, ..]) => format!("packet {}", thousands(number as usize)),
         (Case::Evidence { .. } | Case::Records { .. }, _) => "accepted".to_string(),
         (_, [0, ..]) => "equal".to_string(),
         (_, [_, length, ..]) => format!("different, trace of {length}"),

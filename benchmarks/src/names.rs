@@ -7,7 +7,7 @@ use netkat_reference::policy::{OwnedLists, MOST_NODES};
 use netkat_reference::search::{Lists, LEAST_WORK, MOST_ROWS};
 
 use crate::report::thousands;
-use crate::workload::{Benchmark, Extent, Group, MEGABYTE};
+use crate::workload::{nodes, Benchmark, Extent, Group, MEGABYTE};
 
 /// A field's name, of the greatest length; two differ in their last byte alone.
 fn long_name(field: usize) -> String {
@@ -79,8 +79,13 @@ fn number(name: &str, tables: OwnedTables) -> Benchmark {
         "{} names a table, {name}",
         thousands(tables.left.sizes.len())
     );
-    let values = Vec::new();
-    Benchmark::new(Group::Names, &title, Case::Number { tables, values })
+    let case = Case::Number {
+        tables,
+        left: nodes("id"),
+        right: nodes("id"),
+        values: Vec::new(),
+    };
+    Benchmark::new(Group::Names, &title, case)
 }
 
 /// Tables that are refused when all their names have been compared: by 1, by 21 at the last name, by 20 at the last one.

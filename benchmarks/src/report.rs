@@ -274,8 +274,8 @@ The verified library, called through the C interface, against the second impleme
 in one run and by turns, up to {rounds} rounds, fewer where one takes seconds. Times are processor times, the best of the
 rounds; the ratio is that of the best times, and beside it stand the lowest and the highest ratio of a round. A ratio over 1
 says that the library is slower; the ratio before is that of the last run published before the library compiled policies,
-and empty where the benchmark is newer. Before anything is timed, both must give the same answer and leave the same in every
-list.
+and empty where the benchmark is newer or has had other policies since. Before anything is timed, both must give the same answer and
+leave the same in every list.
 
 ![Ratios, and time per row](benchmarks.svg)
 
@@ -331,23 +331,26 @@ and what else does, has not been measured.
 ";
 
 const WHAT: &str = "\
+Of each field that a pair mentions it names all values but one, at least, so that no two of its packets are alike; where its policies
+have no use for that, a test that all packets pass names them. Random pairs name what they name.
+
 - combinatorial: inc, flip and nondet of document 000, section 7.2. There are at most eight fields and 1,024 packets; so
   besides eight bits they run over larger digits. Flip to base 4 turns each digit on by one, four times.
 - networks: shortest-path forwarding by destination on a ring and on a binary tree, as large as 512 nodes allow: one
   switch reachable from another; all paths recorded, with the rules in two orders; two slices side by side, isolated, and
   with a leak from one to the other.
-- heavy pairs: 500 nested stars; 31 dups and 1,024 packets, each next to each; 31 dups under one star, each followed by a
+- heavy pairs: 500 nested stars at 1,024 packets; 31 dups and 1,024 packets, each next to each; 31 dups under one star, each followed by a
   change or a test of its own, against the summands in reverse order; a window over recorded packets.
 - negations: 48 packets of 1,024 blocked, by the negation of their sum against the same spelled out with `!=`; a list of 40
   rules of which the first that matches counts, with the pattern negated before the rest of the list against the same
-  spelled out; 500 and 501 negations of one test against the test that they are.
+  spelled out; 500 and 501 negations of one test against the test that they are, at 1,024 packets.
 - 63 dups: the pairs of many dups and of own continuations with 63 of them; `dup*` in rounds of 32 and of 31 dups at 65
   packets; a chain of 63 dups at 1,023 packets, grouped to the left and to the right; a pair whose rows are the longest lines
   of the program. Then tables: those of rounds, chain and many dups in row order, and 65,535 rows that share a bucket of the
   library's index and the lower 52 bits of each state.
 - small: searches of one to ten rows, with one field and 16 rows lent, and one that ends at the first row, on policies of
   several hundred nodes. A call takes microseconds: some hundred are timed together, and the time is that of one.
-- rows: cycles (271 packets, 241 pairs of states, one next row a row) and many states (two packets, two next rows a
+- rows: cycles (270 packets, 241 pairs of states, one next row a row) and many states (two packets, two next rows a
   row), with 1,000 to 65,535 rows lent. Where the lists are too short the answer is refusal 11, with the length d to which the
   traces are known to agree.
 - rows run out: searches that end in refusal 11. The long way goes from packet 0 through 1,001 packets and round again, each
@@ -369,9 +372,12 @@ const WHAT: &str = "\
 - names: texts over eight names of fifteen letters that differ in the last one, in both tables, in opposite orders: the combinatorial pairs
   of eight fields searched, and a megabyte of tests read; then tables of thousands of names, refused when all of them have been compared: by
   1, by 21 at the last name, and by 20 at the last name of the right table.
+- unmentioned: eight fields, those that nobody mentions with 65,535 values each. Searches of a pair that mentions no field, of
+  networks, of the list of rules and of many dups over two to five of the fields; on texts, a table and a trace of some of these;
+  and packets turned into values and back, by policies of a few nodes and of several hundred.
 - forty checks: texts checked one after the other, with 4,096 rows lent: document 01's pairs, the networks, and random
-  pairs.
+  pairs of which the right policy names the values.
 - random sweep: pairs of random policies from a fixed seed, made as for the comparison of library and second implementation
   but none damaged, each searched by both with 65,535 rows lent. They have one to 1,024 packets and mostly fewer than 120
-  nodes; the right policy is mostly the left one rewritten by laws of NetKAT.
+  nodes; the right policy is mostly the left one rewritten by laws of NetKAT. Half of them declare fields that policies are not made over.
 ";

@@ -3,7 +3,7 @@
 use netkat_reference::answer::Verdict;
 use netkat_reference::automaton::State;
 use netkat_reference::case::Case;
-use netkat_reference::generate::heavy::{self, Pair};
+use netkat_reference::generate::heavy::{self, Pair, THOUSAND};
 use netkat_reference::generate::network;
 use netkat_reference::policy::MOST_DUPS;
 use netkat_reference::random::Random;
@@ -12,10 +12,10 @@ use netkat_reference::search::{self, Lists, LEAST_WORK, MOST_ROWS};
 use crate::workload::{nodes, Benchmark, Extent, Group};
 
 /// Packet, left state, right state.
-type Row = (u16, State, State);
+pub type Row = (u16, State, State);
 
 /// The row order of an equal pair, and the last row's parent.
-fn row_order(pair: &Pair) -> (Vec<Row>, usize) {
+pub fn row_order(pair: &Pair) -> (Vec<Row>, usize) {
     let mut lists = Lists::new(MOST_ROWS, 0, LEAST_WORK);
     let (left, right) = (nodes(&pair.left), nodes(&pair.right));
     let answer = search::search(
@@ -32,7 +32,7 @@ fn row_order(pair: &Pair) -> (Vec<Row>, usize) {
     (order.collect(), lists.parent[rows - 1].into())
 }
 
-fn evidence(name: &str, pair: &Pair, rows: &[Row]) -> Benchmark {
+pub fn evidence(name: &str, pair: &Pair, rows: &[Row]) -> Benchmark {
     let case = Case::Evidence {
         tables: pair.tables(),
         left: nodes(&pair.left),
@@ -161,9 +161,9 @@ fn every_dup(dups: usize) -> Pair {
     let policy = format!("({})*", vec!["dup"; dups].join("+"));
     Pair {
         name: "every dup".to_string(),
-        sizes: vec![PACKETS],
-        left: policy.clone(),
-        right: policy,
+        sizes: THOUSAND.to_vec(),
+        right: format!("{};{policy}", heavy::naming(&THOUSAND)),
+        left: policy,
     }
 }
 

@@ -4,13 +4,12 @@ use netkat_reference::answer::Verdict;
 use netkat_reference::case::Case;
 use netkat_reference::generate::heavy::{self, Pair};
 use netkat_reference::generate::network;
-use netkat_reference::names::OwnedTables;
 use netkat_reference::packets;
 use netkat_reference::search::{self, Lists, LEAST_WORK, MOST_ROWS};
 
 use crate::workload::{nodes, Benchmark, Group};
 
-fn check(name: &str, pair: &Pair, entering: u16, trace: Vec<u16>) -> Benchmark {
+pub fn check(name: &str, pair: &Pair, entering: u16, trace: Vec<u16>) -> Benchmark {
     let case = Case::Trace {
         tables: pair.tables(),
         left: nodes(&pair.left),
@@ -23,7 +22,7 @@ fn check(name: &str, pair: &Pair, entering: u16, trace: Vec<u16>) -> Benchmark {
 }
 
 /// Entering packet and trace by which the search tells two policies apart.
-fn difference(pair: &Pair) -> (u16, Vec<u16>) {
+pub fn difference(pair: &Pair) -> (u16, Vec<u16>) {
     let mut lists = Lists::new(MOST_ROWS, MOST_ROWS, LEAST_WORK);
     let (left, right) = (nodes(&pair.left), nodes(&pair.right));
     let answer = search::search(
@@ -41,13 +40,15 @@ fn difference(pair: &Pair) -> (u16, Vec<u16>) {
 }
 
 /// Everything that a counter of bits records on its way from 0 to its highest number, which then leaves.
-fn counted(tables: &OwnedTables) -> Vec<u16> {
-    let bits = tables.left.sizes.len();
+fn counted(pair: &Pair) -> Vec<u16> {
+    let bits = pair.sizes.len();
+    let (left, right) = (nodes(&pair.left), nodes(&pair.right));
     let packet = |count: u32| {
         let values: Vec<u16> = (0..bits)
             .map(|field| (count >> (bits - 1 - field) & 1) as u16)
             .collect();
-        packets::number(tables.lend(), &values).expect("a packet")
+        let (left, right) = (left.lists(), right.lists());
+        packets::number(pair.tables().lend(), left, right, &values).expect("a packet")
     };
     let last = (1 << bits) - 1;
     (1..=last).chain([last]).map(packet).collect()
@@ -59,7 +60,7 @@ pub fn benchmarks() -> Vec<Benchmark> {
     let leak = network::tree(3).leak();
     let (entering, found) = difference(&leak);
     let (both, one) = (heavy::long_counters("f0=1"), heavy::long_counters("f0=0"));
-    let count = counted(&both.tables());
+    let count = counted(&both);
     vec![
         check("1 packet", &ring, 0, vec![0]),
         check("of the leak in a tree of 15", &leak, entering, found),

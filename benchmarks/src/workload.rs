@@ -14,6 +14,7 @@ use crate::names;
 use crate::report::thousands;
 use crate::tables;
 use crate::traces;
+use crate::unmentioned;
 
 /// How much is run.
 #[derive(Clone, Copy, Debug, PartialEq, Eq)]
@@ -87,6 +88,8 @@ pub enum Group {
     Text,
     /// Long names, and many.
     Names,
+    /// Few fields mentioned among wide ones.
+    Unmentioned,
     /// Checks one after the other.
     Checks,
     /// Random pairs.
@@ -110,6 +113,7 @@ impl Group {
             Group::Traces => "traces",
             Group::Text => "text",
             Group::Names => "names",
+            Group::Unmentioned => "unmentioned",
             Group::Checks => "forty checks",
             Group::Sweep => "random sweep",
         }
@@ -163,6 +167,7 @@ pub fn benchmarks(extent: Extent) -> Vec<Benchmark> {
     all.extend(traces::benchmarks());
     all.extend(texts());
     all.extend(names::benchmarks(extent));
+    all.extend(unmentioned::benchmarks());
     all.push(checks());
     all
 }
@@ -357,11 +362,12 @@ fn checks() -> Benchmark {
     let mut random = Random::new(40);
     while cases.len() < CHECKS {
         let sizes = random.pick(&[&[2u16, 3][..], &[4, 4, 4], &[16, 16], &[8, 8, 8]]);
-        let policy = tree::plain(&mut random, sizes, 24, 6);
+        let policy = tree::tree(&mut random, sizes, 24, 6);
         let other = match cases.len() % 2 {
             0 => tree::same(&mut random, sizes, &policy),
             _ => tree::changed(&mut random, sizes, &policy),
         };
+        let other = tree::sequence(tree::naming(sizes), other);
         let names: Vec<String> = (0..sizes.len()).map(|field| format!("f{field}")).collect();
         let left = tree::text(&mut random, &names, &policy);
         let right = tree::text(&mut random, &names, &other);

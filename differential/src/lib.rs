@@ -59,10 +59,17 @@ pub fn run(case: &mut Case) -> Option<Numbers> {
     Some(match case {
         Case::Values {
             tables,
+            left,
+            right,
             number,
             values,
-        } => lists::values(both(tables), *number, values),
-        Case::Number { tables, values } => lists::number(both(tables), values),
+        } => lists::values(both(tables), nodes(left), nodes(right), *number, values),
+        Case::Number {
+            tables,
+            left,
+            right,
+            values,
+        } => lists::number(both(tables), nodes(left), nodes(right), values),
         Case::Policy { tables, policy } => lists::policy(both(tables), nodes(policy)),
         Case::Policies {
             tables,

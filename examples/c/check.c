@@ -1,4 +1,5 @@
-/* Three checks: one that ends in equal, whose table is then checked, one that ends in a telling trace, and one that runs out of rows. */
+/* Three checks: one that ends in equal, whose table is then checked, one that ends in a telling trace, whose packets are then shown by their
+ * values, and one that runs out of rows. */
 #include <inttypes.h>
 #include <stdio.h>
 #include <stdlib.h>
@@ -20,10 +21,12 @@ static uint64_t left[ROWS], right[ROWS], answer[NETKAT_NUMBERS];
 static uint32_t work[NETKAT_WORK];
 static netkat_row records[ROWS];
 
-/* One field, sw with two values, in both tables: a name's length, the name, and what nobody reads. */
-static const uint8_t names[NETKAT_CELL] = {2, 's', 'w'};
-static const uint16_t sizes[] = {2};
-#define TABLE names, NETKAT_CELL, sizes, 1
+/* Two fields in both tables, vlan with 1,000 values and sw with two: a name's length, the name, and what nobody reads. No policy here
+ * mentions vlan, so the packets are 0 and 1, the values of sw, or 0 alone. */
+#define FIELDS 2
+static const uint8_t names[FIELDS][NETKAT_CELL] = {{4, 'v', 'l', 'a', 'n'}, {2, 's', 'w'}};
+static const uint16_t sizes[FIELDS] = {1000, 2};
+#define TABLE *names, sizeof names, sizes, FIELDS
 
 /* A policy's three lists, as arguments. */
 #define LISTS(p) (p).kind, (p).nodes, (p).first, (p).nodes, (p).second, (p).nodes
@@ -42,6 +45,14 @@ static policy read_policy(uint8_t side, const char *text) {
     stop_if_refused();
     p.nodes = answer[1];
     return p;
+}
+
+/* A packet of the two policies by its values; a field that neither mentions shows 0. */
+static void show_packet(const policy *one, const policy *other, uint16_t number) {
+    uint16_t values[FIELDS];
+    netkat_values(TABLE, TABLE, LISTS(*one), LISTS(*other), number, values, FIELDS, answer);
+    stop_if_refused();
+    printf("  %" PRIu16 ": vlan %" PRIu16 ", sw %" PRIu16 "\n", number, values[0], values[1]);
 }
 
 static void check(const char *left_text, const char *right_text, size_t lent) {
@@ -81,12 +92,16 @@ static void check(const char *left_text, const char *right_text, size_t lent) {
         netkat_trace(TABLE, TABLE, LISTS(one), LISTS(other), entering, trace, length, work, NETKAT_WORK, answer);
         stop_if_refused();
         printf("\n  the trace is %s alone\n", answer[0] == NETKAT_LEFT ? "left's" : answer[0] == NETKAT_RIGHT ? "right's" : "not one policy's");
+        show_packet(&one, &other, entering);
+        for (size_t i = 0; i < length; i++) {
+            show_packet(&one, &other, trace[i]);
+        }
     }
 }
 
 int main(void) {
     check("sw=0;dup", "dup;sw=0", ROWS);
-    check("dup", "dup;dup", ROWS);
-    check("dup*", "id+dup;dup*", 4);
+    check("dup;sw<-1", "sw<-1;dup", ROWS);
+    check("dup*", "id+dup;dup*", 2);
     return 0;
 }

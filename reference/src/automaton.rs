@@ -29,9 +29,9 @@ enum Point {
     Fork(usize, usize),
     /// Passes on what is in a set of packets, kept at this place of `Automaton::filters`.
     Filter { filter: usize, to: usize },
-    /// Changes a field.
+    /// Changes a digit.
     Set {
-        field: usize,
+        digit: usize,
         value: usize,
         to: usize,
     },
@@ -451,9 +451,9 @@ impl<'a> Automaton<'a> {
                     .keep(&self.filters[filter..filter + packets.words()]);
                 self.flow.arrive(to);
             }
-            Point::Set { field, value, to } => {
+            Point::Set { digit, value, to } => {
                 self.flow.change(&mut self.changed, |packet| {
-                    packets.with(packet, field, value)
+                    packets.with(packet, digit, value)
                 });
                 self.flow.arrive(to);
             }
@@ -546,8 +546,9 @@ impl Compiler<'_> {
             Node::Id => set::complement(&mut passed, self.packets.count()),
             Node::Field { act, field, value } => {
                 let keep = act == Act::Equals;
+                let digit = self.packets.digit(field);
                 for packet in 0..self.packets.count() {
-                    if self.packets.test(packet, field, value) == keep {
+                    if self.packets.test(packet, digit, value) == keep {
                         set::insert(&mut passed, packet);
                     }
                 }
@@ -593,7 +594,8 @@ impl Compiler<'_> {
         if to == NOWHERE {
             return NOWHERE;
         }
-        self.point(Point::Set { field, value, to })
+        let digit = self.packets.digit(field);
+        self.point(Point::Set { digit, value, to })
     }
 }
 
@@ -601,7 +603,8 @@ impl Compiler<'_> {
 mod tests {
     use super::*;
     use crate::generate::tree::tree;
-    use crate::policy::single;
+    use crate::names::{Fields, OwnedTables};
+    use crate::policy::pair;
     use crate::random::Random;
 
     /// A memo that forgets gives the same steps.
@@ -609,12 +612,13 @@ mod tests {
     fn forgetting_changes_nothing() {
         let mut random = Random::new(21);
         let sizes = [3, 50];
-        let packets = Packets::new(&sizes).unwrap();
-        let (mut one, mut other) = (Step::new(&packets), Step::new(&packets));
+        let fields = Fields::new(OwnedTables::numbered(&sizes).lend()).unwrap();
         for _ in 0..300 {
             let nodes = random.between(5, 40);
-            let policy = tree(&mut random, &sizes, nodes, 8);
-            let policy = single(&packets, policy.lists().lists()).unwrap();
+            let lists = tree(&mut random, &sizes, nodes, 8).lists();
+            let pair = pair(&fields, lists.lists(), lists.lists()).unwrap();
+            let (packets, policy) = (Packets::new(pair.numbering), pair.left);
+            let (mut one, mut other) = (Step::new(&packets), Step::new(&packets));
             let mut remembering = Automaton::new(&packets, &policy);
             let mut forgetting = Automaton::new(&packets, &policy);
             forgetting.memo.most = 0;

@@ -5,8 +5,8 @@ use std::fmt::Write;
 use crate::answer::{Numbered, Numbers, Side};
 use crate::automaton::State;
 use crate::evidence::{self, Record, Table};
-use crate::names::{OwnedTable, OwnedTables};
-use crate::policy::{self, OwnedLists};
+use crate::names::{Fields, OwnedTable, OwnedTables};
+use crate::policy::{self, OwnedLists, MOST_NODES};
 use crate::search::{self, Lists};
 use crate::{packets, program, text, traces};
 
@@ -17,6 +17,10 @@ pub enum Case {
     Values {
         /// Tables of names.
         tables: OwnedTables,
+        /// Left policy.
+        left: OwnedLists,
+        /// Right policy.
+        right: OwnedLists,
         /// The number turned.
         number: u16,
         /// Lent for the values.
@@ -26,6 +30,10 @@ pub enum Case {
     Number {
         /// Tables of names.
         tables: OwnedTables,
+        /// Left policy.
+        left: OwnedLists,
+        /// Right policy.
+        right: OwnedLists,
         /// The values turned.
         values: Vec<u16>,
     },
@@ -265,6 +273,126 @@ impl Case {
         }
     }
 
+    /// The tables and the two policies that the call takes as lists, if it does.
+    pub fn policies(&self) -> Option<(&OwnedTables, &OwnedLists, &OwnedLists)> {
+        match self {
+            Case::Values {
+                tables,
+                left,
+                right,
+                ..
+            }
+            | Case::Number {
+                tables,
+                left,
+                right,
+                ..
+            }
+            | Case::Policies {
+                tables,
+                left,
+                right,
+            }
+            | Case::Search {
+                tables,
+                left,
+                right,
+                ..
+            }
+            | Case::Evidence {
+                tables,
+                left,
+                right,
+                ..
+            }
+            | Case::Records {
+                tables,
+                left,
+                right,
+                ..
+            }
+            | Case::Trace {
+                tables,
+                left,
+                right,
+                ..
+            } => Some((tables, left, right)),
+            _ => None,
+        }
+    }
+
+    /// How many packets the two policies of the call make, or its two texts, if they are legal.
+    pub fn packets(&self) -> Option<usize> {
+        let count = |fields: &Fields, left: &OwnedLists, right: &OwnedLists| {
+            let pair = policy::pair(fields, left.lists(), right.lists()).ok()?;
+            Some(pair.numbering.count())
+        };
+        if let Some((tables, left, right)) = self.policies() {
+            return count(&Fields::new(tables.lend()).ok()?, left, right);
+        }
+        match self {
+            Case::Texts {
+                tables,
+                left,
+                right,
+                ..
+            } => {
+                let fields = Fields::new(tables.lend()).ok()?;
+                let left = text::nodes(&fields, Side::Left, left, MOST_NODES).ok()?;
+                let right = text::nodes(&fields, Side::Right, right, MOST_NODES).ok()?;
+                count(&fields, &left, &right)
+            }
+            _ => None,
+        }
+    }
+
+    /// Of a search on two policies that has found a difference: the packet that it shows as the entering one, and the last of
+    /// its trace, to be turned into values.
+    pub fn shown(&self, answer: Numbers) -> Vec<Case> {
+        match (self, answer) {
+            (
+                Case::Search {
+                    tables,
+                    left,
+                    right,
+                    lists,
+                },
+                [1 | 2, length, entering, ..],
+            ) => {
+                let fields = Fields::new(tables.lend()).map_or(0, |fields| fields.sizes().len());
+                let last = lists.trace[length as usize - 1];
+                let turned = |number| Case::Values {
+                    tables: tables.clone(),
+                    left: left.clone(),
+                    right: right.clone(),
+                    number,
+                    values: vec![0; fields],
+                };
+                [entering as u16, last].map(turned).to_vec()
+            }
+            _ => Vec::new(),
+        }
+    }
+
+    /// Of a number that has been turned into values: the values, to be turned back.
+    pub fn turned_back(&self) -> Option<Case> {
+        match self {
+            Case::Values {
+                tables,
+                left,
+                right,
+                values,
+                ..
+            } => Some(Case::Number {
+                tables: tables.clone(),
+                left: left.clone(),
+                right: right.clone(),
+                values: values.clone(),
+            }),
+            _ => None,
+        }
+    }
+
     /// The same table lent the other way, if it can be: three lists as records, with any parents, records as three lists.
     pub fn lent_otherwise(&self) -> Option<Case> {
         match self {
@@ -340,10 +468,23 @@ impl Case {
         match self {
             Case::Values {
                 tables,
+                left,
+                right,
                 number,
                 values,
-            } => packets::values(tables.lend(), *number, values).numbers(),
-            Case::Number { tables, values } => packets::number(tables.lend(), values).numbers(),
+            } => {
+                let (left, right) = (left.lists(), right.lists());
+                packets::values(tables.lend(), left, right, *number, values).numbers()
+            }
+            Case::Number {
+                tables,
+                left,
+                right,
+                values,
+            } => {
+                let (left, right) = (left.lists(), right.lists());
+                packets::number(tables.lend(), left, right, values).numbers()
+            }
             Case::Policy { tables, policy } => {
                 policy::check(tables.lend(), policy.lists()).numbers()
             }
@@ -422,14 +563,25 @@ impl Case {
         match self {
             Case::Values {
                 tables,
+                left,
+                right,
                 number,
                 values,
             } => {
                 fields.extend(names(tables));
+                fields.extend(nodes(left));
+                fields.extend(nodes(right));
                 fields.extend([number.to_string(), list(values)]);
             }
-            Case::Number { tables, values } => {
+            Case::Number {
+                tables,
+                left,
+                right,
+                values,
+            } => {
                 fields.extend(names(tables));
+                fields.extend(nodes(left));
+                fields.extend(nodes(right));
                 fields.push(list(values));
             }
             Case::Policy { tables, policy } => {

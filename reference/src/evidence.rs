@@ -3,7 +3,7 @@
 use crate::answer::{Refusal, Ruling};
 use crate::automaton::{Automaton, State, Step, START};
 use crate::index::RowSet;
-use crate::names::{self, Tables};
+use crate::names::{Fields, Tables};
 use crate::packets::Packets;
 use crate::policy::{self, NodeLists};
 use crate::search::test_lists;
@@ -63,7 +63,7 @@ impl Rows for [Record] {
     }
 }
 
-/// Checks a table in three lists. Tests the tables of names, 3, 4 to 8, 19, 9 and 10, then the rules.
+/// Checks a table in three lists. Tests the tables of names, 4 to 8, 19, 9, 3 and 10, then the rules.
 pub fn check(
     tables: Tables,
     left: NodeLists,
@@ -95,12 +95,12 @@ fn check_rows<R: Rows + ?Sized>(
     lengths: &[usize],
     work: &mut [u32],
 ) -> Result<Ruling, Refusal> {
-    let packets = names::packets(tables)?;
-    let (left, right) = policy::pair(&packets, left, right)?;
+    let pair = policy::pair(&Fields::new(tables)?, left, right)?;
     test_lists(lengths, work.len())?;
     work.fill(0);
-    let mut left = Automaton::new(&packets, &left);
-    let mut right = Automaton::new(&packets, &right);
+    let packets = Packets::new(pair.numbering);
+    let mut left = Automaton::new(&packets, &pair.left);
+    let mut right = Automaton::new(&packets, &pair.right);
     Ok(rule(&packets, &mut left, &mut right, rows)
         .err()
         .unwrap_or(Ruling::Accepted))

@@ -3,7 +3,6 @@
 use std::collections::{HashMap, HashSet};
 
 use crate::answer::{Refusal, Side};
-use crate::packets::Packets;
 
 /// Bytes of a cell: a name's length, then the name.
 pub const CELL: usize = 16;
@@ -187,9 +186,10 @@ impl Fields {
         &self.sizes
     }
 
-    /// Their packets. Tests 3.
-    pub fn packets(&self) -> Result<Packets, Refusal> {
-        Packets::new(&self.sizes)
+    /// Is this a field with this value?
+    pub fn has(&self, field: u16, value: u16) -> bool {
+        let size = self.sizes.get(usize::from(field));
+        size.map_or(false, |&size| value < size)
     }
 
     /// The joint number of a field that a side's table names.
@@ -200,11 +200,6 @@ impl Fields {
         };
         names.get(name).copied()
     }
-}
-
-/// The joint sizes of two tables, once they have passed T, and their packets. Tests T and 3.
-pub fn packets(tables: Tables) -> Result<Packets, Refusal> {
-    Fields::new(tables)?.packets()
 }
 
 /// 4: cells that are not one for each size.

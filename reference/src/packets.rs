@@ -1,49 +1,60 @@
-//! Packets: joint fields, numbers in mixed radix, sets of packets.
+//! Packets: numbers in mixed radix over the fields that a call's policies mention, and sets of packets.
 
 use crate::answer::Refusal;
-use crate::names::{self, Tables};
+use crate::names::{Fields, Tables};
+use crate::policy::{self, NodeLists, Policy};
 
-/// Most packets that sizes may declare.
+/// Most packets that mentioned fields may make.
 pub const MOST_PACKETS: usize = 1024;
 
-/// Joint fields: legal sizes with what follows from them.
-#[derive(Clone, Debug)]
-pub struct Packets {
-    sizes: Vec<usize>,
-    /// What one step of a field's value adds to the packet's number; field 0 varies slowest.
-    strides: Vec<usize>,
-    count: usize,
-    /// By field, then packet: the packet with that field 0.
-    cleared: Vec<u16>,
+/// A mentioned field as a digit of packet numbers.
+#[derive(Clone, Copy, Debug)]
+struct Digit {
+    field: usize,
+    size: usize,
+    /// What one step of the field's value adds to the number; the first digit varies slowest.
+    stride: usize,
 }
 
-impl Packets {
-    /// Packets over joint fields of these sizes, none of them 0. Tests 3.
-    pub fn new(sizes: &[u16]) -> Result<Packets, Refusal> {
-        let sizes: Vec<usize> = sizes.iter().copied().map(usize::from).collect();
+/// How packets are numbered: over the mentioned fields in their order.
+#[derive(Clone, Debug)]
+pub struct Numbering {
+    /// By joint field.
+    declared: Vec<u16>,
+    digits: Vec<Digit>,
+    count: usize,
+}
+
+impl Numbering {
+    /// Of policies over joint fields. Tests 3.
+    pub fn new(fields: &Fields, policies: &[&Policy]) -> Result<Numbering, Refusal> {
+        let declared = fields.sizes().to_vec();
+        let mut digits = Vec::new();
         let mut count = 1;
-        for (field, size) in sizes.iter().enumerate() {
+        for (field, &size) in declared.iter().enumerate() {
+            if !policies.iter().any(|policy| policy.mentions(field)) {
+                continue;
+            }
+            let size = usize::from(size);
             count *= size;
             if count > MOST_PACKETS {
                 return Err(Refusal::new(3, field));
             }
+            digits.push(Digit {
+                field,
+                size,
+                stride: 1,
+            });
         }
-        let mut strides = vec![1; sizes.len()];
-        for field in (1..sizes.len()).rev() {
-            strides[field - 1] = strides[field] * sizes[field];
+        let mut stride = 1;
+        for digit in digits.iter_mut().rev() {
+            digit.stride = stride;
+            stride *= digit.size;
         }
-        let cleared = sizes
-            .iter()
-            .zip(&strides)
-            .flat_map(|(size, stride)| {
-                (0..count).map(move |packet| (packet - packet / stride % size * stride) as u16)
-            })
-            .collect();
-        Ok(Packets {
-            sizes,
-            strides,
+        Ok(Numbering {
+            declared,
+            digits,
             count,
-            cleared,
         })
     }
 
@@ -52,71 +63,113 @@ impl Packets {
         self.count
     }
 
-    /// How many fields there are.
-    pub fn fields(&self) -> usize {
-        self.sizes.len()
+    /// 13: a value list that does not have an entry for each joint field.
+    fn test_length(&self, length: usize) -> Result<(), Refusal> {
+        let fields = self.declared.len();
+        if length == fields {
+            Ok(())
+        } else {
+            Err(Refusal::new(13, fields))
+        }
     }
 
-    /// Is this a field with this value?
-    pub fn has(&self, field: u16, value: u16) -> bool {
-        self.sizes
-            .get(usize::from(field))
-            .map_or(false, |&size| usize::from(value) < size)
+    /// The values of a packet: those of its digits, and 0 of a field that nobody mentions.
+    fn write_values(&self, number: u16, values: &mut [u16]) -> Result<(), Refusal> {
+        self.test_length(values.len())?;
+        let number = usize::from(number);
+        if number >= self.count {
+            return Err(Refusal::new(13, 0));
+        }
+        values.fill(0);
+        for digit in &self.digits {
+            values[digit.field] = (number / digit.stride % digit.size) as u16;
+        }
+        Ok(())
     }
 
-    /// The value of a field in a packet.
-    pub fn value(&self, packet: usize, field: usize) -> usize {
-        packet / self.strides[field] % self.sizes[field]
+    /// The number of a packet with these values, all of which are tested; those of mentioned fields count.
+    fn number(&self, values: &[u16]) -> Result<u16, Refusal> {
+        self.test_length(values.len())?;
+        let outside = |(value, size): (&u16, &u16)| value >= size;
+        if let Some(field) = values.iter().zip(&self.declared).position(outside) {
+            return Err(Refusal::new(13, field));
+        }
+        let counted = |digit: &Digit| usize::from(values[digit.field]) * digit.stride;
+        Ok(self.digits.iter().map(counted).sum::<usize>() as u16)
+    }
+}
+
+/// Turns a packet's number into the values of all joint fields. Tests the tables and the policies as a search does, then 13.
+pub fn values(
+    tables: Tables,
+    left: NodeLists,
+    right: NodeLists,
+    number: u16,
+    values: &mut [u16],
+) -> Result<(), Refusal> {
+    let pair = policy::pair(&Fields::new(tables)?, left, right)?;
+    pair.numbering.write_values(number, values)
+}
+
+/// Turns the values of all joint fields into the packet's number. Tests the same.
+pub fn number(
+    tables: Tables,
+    left: NodeLists,
+    right: NodeLists,
+    values: &[u16],
+) -> Result<u16, Refusal> {
+    let pair = policy::pair(&Fields::new(tables)?, left, right)?;
+    pair.numbering.number(values)
+}
+
+/// The packets of a numbering, with what steps ask of them.
+#[derive(Clone, Debug)]
+pub struct Packets {
+    numbering: Numbering,
+    /// By digit, then packet: the packet with that digit 0.
+    cleared: Vec<u16>,
+}
+
+impl Packets {
+    /// All packets of a numbering.
+    pub fn new(numbering: Numbering) -> Packets {
+        let count = numbering.count;
+        let cleared = numbering
+            .digits
+            .iter()
+            .flat_map(|&Digit { size, stride, .. }| {
+                (0..count).map(move |packet| (packet - packet / stride % size * stride) as u16)
+            })
+            .collect();
+        Packets { numbering, cleared }
     }
 
-    /// The packet with a field changed.
-    pub fn with(&self, packet: usize, field: usize, value: usize) -> usize {
-        usize::from(self.cleared[field * self.count + packet]) + value * self.strides[field]
+    /// How many packets there are.
+    pub fn count(&self) -> usize {
+        self.numbering.count
     }
 
-    /// Has the field this value in the packet?
-    pub fn test(&self, packet: usize, field: usize, value: usize) -> bool {
-        self.with(packet, field, value) == packet
+    /// A mentioned field's place among the digits.
+    pub fn digit(&self, field: usize) -> usize {
+        let digits = self.numbering.digits.iter();
+        digits.take_while(|digit| digit.field < field).count()
+    }
+
+    /// The packet with a digit changed.
+    pub fn with(&self, packet: usize, digit: usize, value: usize) -> usize {
+        let cleared = self.cleared[digit * self.count() + packet];
+        usize::from(cleared) + value * self.numbering.digits[digit].stride
+    }
+
+    /// Has the digit this value in the packet?
+    pub fn test(&self, packet: usize, digit: usize, value: usize) -> bool {
+        self.with(packet, digit, value) == packet
     }
 
     /// Words of a set of packets.
     pub fn words(&self) -> usize {
-        (self.count + 63) / 64
+        (self.count() + 63) / 64
     }
-}
-
-/// Turns a packet's number into the values of its fields. Tests the tables, 3, then 13.
-pub fn values(tables: Tables, number: u16, values: &mut [u16]) -> Result<(), Refusal> {
-    let packets = names::packets(tables)?;
-    if values.len() != packets.fields() {
-        return Err(Refusal::new(13, packets.fields()));
-    }
-    let number = usize::from(number);
-    if number >= packets.count() {
-        return Err(Refusal::new(13, 0));
-    }
-    for (field, value) in values.iter_mut().enumerate() {
-        *value = packets.value(number, field) as u16;
-    }
-    Ok(())
-}
-
-/// Turns the values of all fields into the packet's number. Tests the tables, 3, then 13.
-pub fn number(tables: Tables, values: &[u16]) -> Result<u16, Refusal> {
-    let packets = names::packets(tables)?;
-    if values.len() != packets.fields() {
-        return Err(Refusal::new(13, packets.fields()));
-    }
-    let outside = |(&value, &size): (&u16, &usize)| usize::from(value) >= size;
-    if let Some(field) = values.iter().zip(&packets.sizes).position(outside) {
-        return Err(Refusal::new(13, field));
-    }
-    let number: usize = values
-        .iter()
-        .zip(&packets.strides)
-        .map(|(&value, stride)| usize::from(value) * stride)
-        .sum();
-    Ok(number as u16)
 }
 
 /// Sets of packets as slices of 64-bit words.

@@ -1,8 +1,8 @@
 //! Policies as node lists, and when a list is legal.
 
 use crate::answer::Refusal;
-use crate::names::{self, Tables};
-use crate::packets::Packets;
+use crate::names::{Fields, Tables, MOST_FIELDS};
+use crate::packets::Numbering;
 
 /// Most nodes of a policy.
 pub const MOST_NODES: usize = 512;
@@ -118,6 +118,8 @@ pub enum Node {
 pub struct Policy {
     nodes: Vec<Node>,
     dups: usize,
+    /// By joint field.
+    mentioned: [bool; MOST_FIELDS],
 }
 
 impl Policy {
@@ -131,16 +133,25 @@ impl Policy {
         self.dups
     }
 
+    /// Does a test or a change of this joint field stand anywhere in it?
+    pub fn mentions(&self, field: usize) -> bool {
+        self.mentioned[field]
+    }
+
     /// Reads lists that have passed 4 to 8, 19 and 9.
     fn from_legal(lists: NodeLists) -> Policy {
         let mut dups = 0;
+        let mut mentioned = [false; MOST_FIELDS];
         let nodes = (0..lists.kind.len())
             .map(|node| {
                 let (first, second) = (lists.first[node].into(), lists.second[node].into());
-                let field = |act| Node::Field {
-                    act,
-                    field: first,
-                    value: second,
+                let mut field = |act| {
+                    mentioned[first] = true;
+                    Node::Field {
+                        act,
+                        field: first,
+                        value: second,
+                    }
                 };
                 match lists.kind[node] {
                     kind::DROP => Node::Drop,
@@ -159,12 +170,16 @@ impl Policy {
                 }
             })
             .collect();
-        Policy { nodes, dups }
+        Policy {
+            nodes,
+            dups,
+            mentioned,
+        }
     }
 }
 
 /// One cause: the lowest place where it holds. Each may rely on the causes before it.
-type Cause = fn(&Packets, NodeLists) -> Option<usize>;
+type Cause = fn(&Fields, NodeLists) -> Option<usize>;
 
 /// The causes of a policy in their order.
 const CAUSES: [(u8, Cause); 7] = [
@@ -177,7 +192,7 @@ const CAUSES: [(u8, Cause); 7] = [
     (9, too_many_dups),
 ];
 
-fn wrong_lengths(_: &Packets, lists: NodeLists) -> Option<usize> {
+fn wrong_lengths(_: &Fields, lists: NodeLists) -> Option<usize> {
     let nodes = lists.kind.len();
     let legal = (1..=MOST_NODES).contains(&nodes)
         && lists.first.len() == nodes
@@ -185,15 +200,15 @@ fn wrong_lengths(_: &Packets, lists: NodeLists) -> Option<usize> {
     (!legal).then_some(0)
 }
 
-fn unknown_kind(_: &Packets, lists: NodeLists) -> Option<usize> {
+fn unknown_kind(_: &Fields, lists: NodeLists) -> Option<usize> {
     lists.kind.iter().position(|&kind| kind > kind::NOT)
 }
 
-fn wrong_entry(packets: &Packets, lists: NodeLists) -> Option<usize> {
+fn wrong_entry(fields: &Fields, lists: NodeLists) -> Option<usize> {
     (0..lists.kind.len()).find(|&node| {
         let (first, second) = (lists.first[node], lists.second[node]);
         match lists.kind[node] {
-            kind::EQUALS | kind::DIFFERS | kind::SET => !packets.has(first, second),
+            kind::EQUALS | kind::DIFFERS | kind::SET => !fields.has(first, second),
             kind::SUM | kind::SEQUENCE => false,
             kind::STAR | kind::NOT => second != 0,
             _ => first != 0 || second != 0,
@@ -214,11 +229,11 @@ fn children(lists: NodeLists, node: usize) -> impl Iterator<Item = usize> {
         .map(usize::from)
 }
 
-fn child_not_below(_: &Packets, lists: NodeLists) -> Option<usize> {
+fn child_not_below(_: &Fields, lists: NodeLists) -> Option<usize> {
     (0..lists.kind.len()).find(|&node| children(lists, node).any(|child| child >= node))
 }
 
-fn not_child_once(_: &Packets, lists: NodeLists) -> Option<usize> {
+fn not_child_once(_: &Fields, lists: NodeLists) -> Option<usize> {
     let nodes = lists.kind.len();
     let mut parents = vec![0u32; nodes];
     for child in (0..nodes).flat_map(|node| children(lists, node)) {
@@ -228,7 +243,7 @@ fn not_child_once(_: &Packets, lists: NodeLists) -> Option<usize> {
 }
 
 /// A negation with a change, a dup or a star anywhere below it.
-fn negates_no_test(_: &Packets, lists: NodeLists) -> Option<usize> {
+fn negates_no_test(_: &Fields, lists: NodeLists) -> Option<usize> {
     let nodes = lists.kind.len();
     // By node: is it tests alone? A child stands below its parent.
     let mut tests = vec![true; nodes];
@@ -243,17 +258,17 @@ fn negates_no_test(_: &Packets, lists: NodeLists) -> Option<usize> {
     None
 }
 
-fn too_many_dups(_: &Packets, lists: NodeLists) -> Option<usize> {
+fn too_many_dups(_: &Fields, lists: NodeLists) -> Option<usize> {
     (0..lists.kind.len())
         .filter(|&node| lists.kind[node] == kind::DUP)
         .nth(MOST_DUPS)
 }
 
 /// Tests cause by cause, and within a cause policy by policy; each policy comes with the side it is named by.
-fn test(packets: &Packets, policies: &[(u8, NodeLists)]) -> Result<(), Refusal> {
+fn test(fields: &Fields, policies: &[(u8, NodeLists)]) -> Result<(), Refusal> {
     for (number, cause) in CAUSES {
         for &(side, lists) in policies {
-            if let Some(place) = cause(packets, lists) {
+            if let Some(place) = cause(fields, lists) {
                 return Err(Refusal::new(number, place).on(side));
             }
         }
@@ -261,33 +276,43 @@ fn test(packets: &Packets, policies: &[(u8, NodeLists)]) -> Result<(), Refusal> 
     Ok(())
 }
 
-/// Two policies, tested by 4 to 8, 19 and 9.
-pub fn pair(
-    packets: &Packets,
-    left: NodeLists,
-    right: NodeLists,
-) -> Result<(Policy, Policy), Refusal> {
-    test(packets, &[(1, left), (2, right)])?;
-    Ok((Policy::from_legal(left), Policy::from_legal(right)))
+/// Two legal policies, and how their packets are numbered.
+#[derive(Clone, Debug)]
+pub struct Pair {
+    /// Over the fields that either mentions.
+    pub numbering: Numbering,
+    /// Left policy.
+    pub left: Policy,
+    /// Right policy.
+    pub right: Policy,
 }
 
-/// One policy, tested by 4 to 8, 19 and 9.
-pub fn single(packets: &Packets, lists: NodeLists) -> Result<Policy, Refusal> {
-    test(packets, &[(0, lists)])?;
-    Ok(Policy::from_legal(lists))
+/// Two policies, tested by 4 to 8, 19, 9 and 3.
+pub fn pair(fields: &Fields, left: NodeLists, right: NodeLists) -> Result<Pair, Refusal> {
+    test(fields, &[(1, left), (2, right)])?;
+    let (left, right) = (Policy::from_legal(left), Policy::from_legal(right));
+    Ok(Pair {
+        numbering: Numbering::new(fields, &[&left, &right])?,
+        left,
+        right,
+    })
 }
 
-/// Tests the tables, 3, then two policies by 4 to 8, 19 and 9, and answers the number of dups of each.
+/// Tests the tables, then two policies by 4 to 8, 19, 9 and 3, and answers the number of dups of each.
 pub fn check_pair(
     tables: Tables,
     left: NodeLists,
     right: NodeLists,
 ) -> Result<(usize, usize), Refusal> {
-    let (left, right) = pair(&names::packets(tables)?, left, right)?;
-    Ok((left.dups(), right.dups()))
+    let pair = pair(&Fields::new(tables)?, left, right)?;
+    Ok((pair.left.dups(), pair.right.dups()))
 }
 
-/// Tests the tables, 3, then one policy by 4 to 8, 19 and 9, and answers its number of dups.
+/// Tests the tables, then one policy by 4 to 8, 19, 9 and 3, over the fields that it mentions, and answers its number of dups.
 pub fn check(tables: Tables, lists: NodeLists) -> Result<usize, Refusal> {
-    Ok(single(&names::packets(tables)?, lists)?.dups())
+    let fields = Fields::new(tables)?;
+    test(&fields, &[(0, lists)])?;
+    let policy = Policy::from_legal(lists);
+    Numbering::new(&fields, &[&policy])?;
+    Ok(policy.dups())
 }

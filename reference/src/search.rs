@@ -3,9 +3,9 @@
 use crate::answer::{Refusal, Side, Verdict};
 use crate::automaton::{Automaton, State, Step, START};
 use crate::index::RowSet;
-use crate::names::{self, Fields, Tables};
+use crate::names::{Fields, Tables};
 use crate::packets::{set, Packets};
-use crate::policy::{self, NodeLists, Policy, MOST_NODES};
+use crate::policy::{self, NodeLists, Pair, Policy, MOST_NODES};
 use crate::text;
 
 /// Most rows that lists may hold.
@@ -90,17 +90,17 @@ pub(crate) fn test_work(work: usize) -> Result<(), Refusal> {
     Ok(())
 }
 
-/// Searches two policies. Tests the tables, 3, then 4 to 8, 19, 9 to 12.
+/// Searches two policies. Tests the tables, then 4 to 8, 19, 9, 3, 10 to 12.
 pub fn search(
     tables: Tables,
     left: NodeLists,
     right: NodeLists,
     lent: Lent,
 ) -> Result<Verdict, Refusal> {
-    compare(&names::packets(tables)?, left, right, lent)
+    compare(&Fields::new(tables)?, left, right, lent)
 }
 
-/// Searches two texts. Tests the tables, 3, then 14 to 17 on each text, then 4 to 8, 19, 9 to 12.
+/// Searches two texts. Tests the tables, then 14 to 17 on each text, then 4 to 8, 19, 9, 3, 10 to 12.
 pub fn search_texts(
     tables: Tables,
     left: &[u8],
@@ -108,20 +108,23 @@ pub fn search_texts(
     lent: Lent,
 ) -> Result<Verdict, Refusal> {
     let fields = Fields::new(tables)?;
-    let packets = fields.packets()?;
     let left = text::nodes(&fields, Side::Left, left, MOST_NODES)?;
     let right = text::nodes(&fields, Side::Right, right, MOST_NODES)?;
-    compare(&packets, left.lists(), right.lists(), lent)
+    compare(&fields, left.lists(), right.lists(), lent)
 }
 
-/// Tests 4 to 8, 19, 9 and 10, and searches.
+/// Tests 4 to 8, 19, 9, 3 and 10, and searches.
 fn compare(
-    packets: &Packets,
+    fields: &Fields,
     left: NodeLists,
     right: NodeLists,
     lent: Lent,
 ) -> Result<Verdict, Refusal> {
-    let (left, right) = policy::pair(packets, left, right)?;
+    let Pair {
+        numbering,
+        left,
+        right,
+    } = policy::pair(fields, left, right)?;
     let rows = [
         lent.packet.len(),
         lent.left.len(),
@@ -130,7 +133,7 @@ fn compare(
     ];
     test_lists(&rows, lent.work.len())?;
     lent.work.fill(0);
-    Search::new(packets, &left, &right, lent).run()
+    Search::new(&Packets::new(numbering), &left, &right, lent).run()
 }
 
 /// A search under way.

@@ -2,12 +2,12 @@
 
 use crate::answer::{Holders, Refusal};
 use crate::automaton::{Automaton, Step, START};
-use crate::names::{self, Tables};
+use crate::names::{Fields, Tables};
 use crate::packets::{set, Packets};
 use crate::policy::{self, NodeLists, Policy};
 use crate::search::test_work;
 
-/// Checks a trace. Tests the tables, 3, 4 to 8, 19, 9, 10 for the work list, then 13.
+/// Checks a trace. Tests the tables, 4 to 8, 19, 9, 3, 10 for the work list, then 13.
 pub fn check(
     tables: Tables,
     left: NodeLists,
@@ -16,19 +16,20 @@ pub fn check(
     trace: &[u16],
     work: &mut [u32],
 ) -> Result<Holders, Refusal> {
-    let packets = names::packets(tables)?;
-    let (left, right) = policy::pair(&packets, left, right)?;
+    let pair = policy::pair(&Fields::new(tables)?, left, right)?;
     test_work(work.len())?;
     work.fill(0);
-    let out_of_range = |&packet: &u16| usize::from(packet) >= packets.count();
+    let count = pair.numbering.count();
+    let out_of_range = |&packet: &u16| usize::from(packet) >= count;
     if out_of_range(&entering) {
         return Err(Refusal::new(13, 0));
     }
     if let Some(at) = trace.iter().position(out_of_range) {
         return Err(Refusal::new(13, at + 1));
     }
-    let left = has_trace(&packets, &left, entering.into(), trace);
-    let right = has_trace(&packets, &right, entering.into(), trace);
+    let packets = Packets::new(pair.numbering);
+    let left = has_trace(&packets, &pair.left, entering.into(), trace);
+    let right = has_trace(&packets, &pair.right, entering.into(), trace);
     Ok(match (left, right) {
         (true, true) => Holders::Both,
         (true, false) => Holders::Left,

@@ -1,10 +1,13 @@
 //! The generator reaches every refusal and every kind of answer, and the calls keep their lists as they should.
 
+mod common;
+
 use std::collections::BTreeMap;
 
+use common::told_apart;
 use netkat_reference::case::Case;
 use netkat_reference::generate::{case, fixed, Extent};
-use netkat_reference::names;
+use netkat_reference::names::Fields;
 use netkat_reference::policy::{kind, OwnedLists};
 use netkat_reference::random::Random;
 
@@ -91,8 +94,8 @@ fn every_answer_occurs(seen: &BTreeMap<(&'static str, u64, u64), usize>) {
     }
     let refused =
         |call, numbers: &[u64]| numbers.iter().for_each(|&number| occurs(call, 9, number));
-    refused("values", &[1, 2, 3, 4, 13, 20, 21]);
-    refused("number", &[1, 2, 3, 4, 13, 20, 21]);
+    refused("values", &[1, 2, 3, 4, 5, 6, 7, 8, 9, 13, 19, 20, 21]);
+    refused("number", &[1, 2, 3, 4, 5, 6, 7, 8, 9, 13, 19, 20, 21]);
     refused("policy", &[1, 2, 3, 4, 5, 6, 7, 8, 9, 19, 20, 21]);
     refused("read", &[1, 2, 4, 14, 15, 16, 17, 20, 21]);
     refused(
@@ -151,6 +154,68 @@ fn many_dups_and_the_highest_bit_occur() {
     );
 }
 
+/// Joint sizes and policies of a call that takes two as lists, if its tables are legal.
+fn policies(case: &Case) -> Option<(Vec<u16>, &OwnedLists, &OwnedLists)> {
+    let (tables, left, right) = case.policies()?;
+    let sizes = Fields::new(tables.lend()).ok()?.sizes().to_vec();
+    Some((sizes, left, right))
+}
+
+/// Does a test or a change of a field stand in the policy?
+fn mentions(lists: &OwnedLists, field: usize) -> bool {
+    let mut nodes = lists.kind.iter().zip(&lists.first);
+    nodes.any(|(&kind, &first)| {
+        matches!(kind, kind::EQUALS | kind::DIFFERS | kind::SET) && usize::from(first) == field
+    })
+}
+
+#[test]
+fn mentions_of_every_kind_occur() {
+    let mut random = Random::new(7);
+    // By call: wide fields that nobody mentions, fields that one policy alone mentions, answered; and those refused by 3.
+    let mut seen: BTreeMap<&str, [usize; 4]> = BTreeMap::new();
+    for _ in 0..9000 {
+        let mut case = case(&mut random, Extent::Small);
+        let answer = case.run();
+        let (sizes, left, right) = match policies(&case) {
+            Some(given) => given,
+            None => continue,
+        };
+        let counts = seen.entry(case.name()).or_default();
+        let by = |field| (mentions(left, field), mentions(right, field));
+        if answer[0] < 9 {
+            let any = |test: &dyn Fn(usize) -> bool| usize::from((0..sizes.len()).any(test));
+            counts[0] += any(&|field| sizes[field] > 1024 && by(field) == (false, false));
+            counts[1] += any(&|field| by(field) == (true, false));
+            counts[2] += any(&|field| by(field) == (false, true));
+        }
+        counts[3] += usize::from(answer[..2] == [9, 3]);
+    }
+    assert_eq!(seen.len(), 6);
+    let enough = |counts: &[usize; 4]| counts.iter().zip([20, 20, 20, 5]).all(|(c, n)| *c > n);
+    assert!(seen.values().all(enough), "{seen:?}");
+}
+
+#[test]
+fn many_packets_of_which_no_two_are_alike_occur() {
+    let mut random = Random::new(8);
+    let (mut many, mut most) = (0, 0);
+    for _ in 0..600 {
+        let mut case = case(&mut random, Extent::Large);
+        let (packets, all) = match (case.packets(), policies(&case)) {
+            (Some(packets), Some((sizes, left, right))) => {
+                (packets, packets == told_apart(&sizes, left, right))
+            }
+            _ => continue,
+        };
+        if all && case.run()[0] < 9 {
+            many += usize::from(packets > 60);
+            most += usize::from(packets > 1000);
+        }
+    }
+    assert!(many > 10 && most > 4, "{many} {most}");
+}
+
 #[test]
 fn rows_run_out_at_many_depths() {
     let mut random = Random::new(6);
@@ -174,13 +239,8 @@ fn rows_run_out_at_many_depths() {
 
 /// Are there more packets than rows lent?
 fn starts_do_not_fit(case: &Case, rows: u64) -> bool {
-    match case {
-        Case::Search { tables, .. } | Case::Texts { tables, .. } => {
-            let packets = names::packets(tables.lend()).expect("legal tables");
-            rows < packets.count() as u64
-        }
-        _ => false,
-    }
+    let packets = case.packets().expect("legal policies");
+    rows < packets as u64
 }
 
 #[test]

@@ -1,5 +1,7 @@
-//! The search against the definitions, followed to the letter and without any automaton: trace sets enumerated as in
-//! Figure 1 up to a length, right spines as terms, the row order by scanning.
+//! The calls against the definitions, followed to the letter and without any automaton: trace sets enumerated as in
+//! Figure 1 up to a length, right spines as terms, the row order by scanning. Figure 1 is read over declared packets, which have
+//! a value for every declared field; rows and traces number packets over the mentioned fields. What is shown for a number has 0 in
+//! the other fields; a trace is lifted along a declared packet if they keep that packet's values.
 
 mod common;
 
@@ -7,12 +9,13 @@ use std::collections::BTreeSet;
 
 use netkat_reference::answer::{Holders, Refusal, Ruling, Side, Verdict};
 use netkat_reference::evidence::{self, Record, Table};
+use netkat_reference::generate::named::over;
 use netkat_reference::generate::run_out;
 use netkat_reference::generate::tree::{changed, renumbered, same, tree, widened, Tree};
 use netkat_reference::policy::{kind, OwnedLists};
 use netkat_reference::random::Random;
 use netkat_reference::search::{search, Lists, LEAST_WORK};
-use netkat_reference::traces;
+use netkat_reference::{packets, traces};
 
 use common::tables;
 
@@ -58,12 +61,12 @@ fn term(lists: &OwnedLists) -> Term {
     terms.pop().expect("a policy has a node")
 }
 
-/// A packet as a list of values.
+/// A packet as a list of values, one for each declared field.
 type Packet = Vec<usize>;
 type Traces = BTreeSet<Vec<Packet>>;
 
-/// All packets in the order of their numbers.
-fn packets(sizes: &[u16]) -> Vec<Packet> {
+/// All declared packets, the first field varying slowest.
+fn declared(sizes: &[u16]) -> Vec<Packet> {
     let mut packets = vec![Vec::new()];
     for &size in sizes {
         packets = packets
@@ -74,6 +77,96 @@ fn packets(sizes: &[u16]) -> Vec<Packet> {
             .collect();
     }
     packets
+}
+
+/// The fields of which a test or a change stands in node lists.
+fn mentioned(lists: &OwnedLists) -> BTreeSet<usize> {
+    let nodes = lists.kind.iter().zip(&lists.first);
+    nodes
+        .filter(|(kind, _)| matches!(**kind, kind::EQUALS | kind::DIFFERS | kind::SET))
+        .map(|(_, &field)| field.into())
+        .collect()
+}
+
+/// Two policies over declared fields.
+struct Pair {
+    sizes: Vec<u16>,
+    left: OwnedLists,
+    right: OwnedLists,
+    terms: [Term; 2],
+    mentioned: BTreeSet<usize>,
+    /// By number, the packet that is shown: those with 0 in every field that neither policy mentions.
+    shown: Vec<Packet>,
+}
+
+impl Pair {
+    fn new(sizes: &[u16], left: OwnedLists, right: OwnedLists) -> Pair {
+        let mentioned = &mentioned(&left) | &mentioned(&right);
+        let mut shown = declared(sizes);
+        shown.retain(|packet| {
+            let mut fields = packet.iter().enumerate();
+            fields.all(|(field, &value)| value == 0 || mentioned.contains(&field))
+        });
+        Pair {
+            sizes: sizes.to_vec(),
+            terms: [term(&left), term(&right)],
+            left,
+            right,
+            mentioned,
+            shown,
+        }
+    }
+
+    /// A declared packet with the mentioned fields as they are in another.
+    fn lifted(&self, shown: &Packet, along: &Packet) -> Packet {
+        let value = |field| match self.mentioned.contains(&field) {
+            true => shown[field],
+            false => along[field],
+        };
+        (0..along.len()).map(value).collect()
+    }
+
+    /// The declared packets of a number: those that are the shown one in the mentioned fields.
+    fn alike(&self, number: usize) -> Vec<Packet> {
+        let mut alike = declared(&self.sizes);
+        alike.retain(|packet| self.lifted(&self.shown[number], packet) == *packet);
+        alike
+    }
+
+    /// A trace of numbers lifted along a declared packet.
+    fn lifted_trace(&self, trace: &[u16], along: &Packet) -> Vec<Packet> {
+        let lifted = |&number: &u16| self.lifted(&self.shown[usize::from(number)], along);
+        trace.iter().map(lifted).collect()
+    }
+
+    /// Which policies have a trace from a declared packet?
+    fn holders(&self, from: &Packet, trace: &[Packet]) -> Holders {
+        let [left, right] = &self.terms;
+        let has = |term| meaning(term, from, trace.len()).contains(trace);
+        match (has(left), has(right)) {
+            (true, false) => Holders::Left,
+            (false, true) => Holders::Right,
+            (true, true) => Holders::Both,
+            (false, false) => Holders::Neither,
+        }
+    }
+
+    /// Have both policies the same traces of at most so many packets from every declared packet?
+    fn same_to(&self, most: usize) -> bool {
+        let [left, right] = &self.terms;
+        let same = |from: &Packet| meaning(left, from, most) == meaning(right, from, most);
+        declared(&self.sizes).iter().all(same)
+    }
+
+    /// A search's answer, and the lists that it leaves.
+    fn search(&self, rows: usize) -> (Result<Verdict, Refusal>, Lists) {
+        let mut lists = Lists::new(rows, 5000, LEAST_WORK);
+        lists.packet.fill(77);
+        lists.parent.fill(78);
+        let (left, right) = (self.left.lists(), self.right.lists());
+        let answer = search(tables(&self.sizes).lend(), left, right, lists.lend());
+        (answer, lists)
+    }
 }
 
 /// Figure 1: the traces of a term from a packet, those of at most so many packets.
@@ -197,17 +290,17 @@ fn next(term: &Term, state: u64, from: &Packet, at: &Packet) -> u64 {
 type Row = (usize, u64, u64, usize);
 
 /// The row order, up to a bound on its length, and whether it ends at a row whose outputs differ.
-fn row_order(sizes: &[u16], left: &Term, right: &Term, most: usize) -> (Vec<Row>, Option<usize>) {
-    let packets = packets(sizes);
-    let mut rows: Vec<Row> = (0..packets.len()).map(|at| (at, 1, 1, at)).collect();
+fn row_order(pair: &Pair, most: usize) -> (Vec<Row>, Option<usize>) {
+    let [left, right] = &pair.terms;
+    let mut rows: Vec<Row> = (0..pair.shown.len()).map(|at| (at, 1, 1, at)).collect();
     let mut handled = 0;
     while handled < rows.len() && rows.len() < most {
         let (packet, l, r, _) = rows[handled];
-        let from = &packets[packet];
+        let from = &pair.shown[packet];
         if output(left, l, from) != output(right, r, from) {
             return (rows, Some(handled));
         }
-        for (number, at) in packets.iter().enumerate() {
+        for (number, at) in pair.shown.iter().enumerate() {
             let (l, r) = (next(left, l, from, at), next(right, r, from, at));
             let listed = rows
                 .iter()
@@ -221,17 +314,48 @@ fn row_order(sizes: &[u16], left: &Term, right: &Term, most: usize) -> (Vec<Row>
     (rows, None)
 }
 
+const SIZES: [&[u16]; 9] = [
+    &[1],
+    &[2],
+    &[3],
+    &[2, 2],
+    &[1, 2],
+    &[4],
+    &[3, 2],
+    &[2, 1, 2],
+    &[2, 2, 2],
+];
+
+/// Declared sizes, and the fields that policies are made over: all, or some.
+fn fields(random: &mut Random) -> (&'static [u16], Vec<u16>) {
+    let sizes = random.pick(&SIZES);
+    let mut spoken: Vec<u16> = (0..sizes.len() as u16).collect();
+    if random.one_in(2) {
+        random.shuffle(&mut spoken);
+        spoken.truncate(random.between(1, sizes.len()));
+        spoken.sort_unstable();
+    }
+    (sizes, spoken)
+}
+
+fn sizes_of(sizes: &[u16], spoken: &[u16]) -> Vec<u16> {
+    let size = |&field: &u16| sizes[usize::from(field)];
+    spoken.iter().map(size).collect()
+}
+
 /// A random pair of small policies.
-fn pair(random: &mut Random, sizes: &[u16]) -> (OwnedLists, OwnedLists) {
+fn pair(random: &mut Random) -> Pair {
+    let (sizes, spoken) = fields(random);
+    let own = sizes_of(sizes, &spoken);
     let nodes = random.between(1, 9);
-    let left = tree(random, sizes, nodes, 3);
+    let left = tree(random, &own, nodes, 3);
     let right = match random.below(4) {
         0 => {
             let nodes = random.between(1, 9);
-            tree(random, sizes, nodes, 3)
+            tree(random, &own, nodes, 3)
         }
-        1 => changed(random, sizes, &left),
-        _ => same(random, sizes, &left),
+        1 => changed(random, &own, &left),
+        _ => same(random, &own, &left),
     };
     // Some with many dups, of which most mean the same.
     let (left, right) = match random.below(6) {
@@ -239,9 +363,9 @@ fn pair(random: &mut Random, sizes: &[u16]) -> (OwnedLists, OwnedLists) {
         1 => (wide(random, &left), wide(random, &right)),
         _ => (left, right),
     };
-    let (left, right) = (left.lists(), right.lists());
+    let [left, right] = [left, right].map(|policy| over(&spoken, &policy).lists());
     let left = renumbered(random, left.lists());
-    (left, right)
+    Pair::new(sizes, left, right)
 }
 
 fn wide(random: &mut Random, policy: &Tree) -> Tree {
@@ -250,12 +374,14 @@ fn wide(random: &mut Random, policy: &Tree) -> Tree {
 }
 
 /// A random pair that may list many rows, some of them deep.
-fn recording_pair(random: &mut Random, sizes: &[u16]) -> (OwnedLists, OwnedLists) {
+fn recording_pair(random: &mut Random) -> Pair {
     if random.one_in(2) {
-        return pair(random, sizes);
+        return pair(random);
     }
-    let (left, right) = run_out::pair(random, sizes);
-    (left.lists(), right.lists())
+    let (sizes, spoken) = fields(random);
+    let (left, right) = run_out::pair(random, &sizes_of(sizes, &spoken));
+    let [left, right] = [left, right].map(|policy| over(&spoken, &policy).lists());
+    Pair::new(sizes, left, right)
 }
 
 /// Steps from a starting row to this one.
@@ -268,64 +394,108 @@ fn depth(rows: &[Row], mut row: usize) -> usize {
     steps
 }
 
-const SIZES: [&[u16]; 6] = [&[1], &[2], &[3], &[2, 2], &[1, 2], &[4]];
-
-/// Traces as numbers.
-fn numbered(sizes: &[u16], trace: &[u16]) -> Vec<Packet> {
-    let packets = packets(sizes);
-    trace
-        .iter()
-        .map(|&packet| packets[usize::from(packet)].clone())
-        .collect()
-}
-
 #[test]
 fn verdicts_agree_with_figure_one() {
     const MOST: usize = 4;
     let mut random = Random::new(11);
-    let (mut equal, mut different) = (0, 0);
-    for _ in 0..1500 {
-        let sizes = random.pick(&SIZES);
-        let (left, right) = pair(&mut random, sizes);
-        let (left_term, right_term) = (term(&left), term(&right));
-        let mut lists = Lists::new(5000, 5000, LEAST_WORK);
-        let answer = search(
-            tables(sizes).lend(),
-            left.lists(),
-            right.lists(),
-            lists.lend(),
-        )
-        .unwrap();
-        let same_to = |most| {
-            packets(sizes)
-                .iter()
-                .all(|from| meaning(&left_term, from, most) == meaning(&right_term, from, most))
-        };
-        match answer {
+    // Equal and different ones, and those of either with a field that nobody mentions and that has several values.
+    let mut seen = [[0; 2]; 2];
+    for _ in 0..2000 {
+        let pair = pair(&mut random);
+        let fewer = usize::from(pair.shown.len() < declared(&pair.sizes).len());
+        let (answer, lists) = pair.search(5000);
+        match answer.unwrap() {
             Verdict::Equal { .. } => {
-                equal += 1;
-                assert!(same_to(MOST), "{left:?} {right:?}");
+                seen[0][fewer] += 1;
+                assert!(pair.same_to(MOST), "{:?} {:?}", pair.left, pair.right);
             }
             Verdict::Different {
                 side,
                 length,
                 entering,
             } => {
-                different += 1;
-                let trace = numbered(sizes, &lists.trace[..length]);
-                let from = &packets(sizes)[usize::from(entering)];
-                let in_left = meaning(&left_term, from, length).contains(&trace);
-                let in_right = meaning(&right_term, from, length).contains(&trace);
+                seen[1][fewer] += 1;
                 let expected = match side {
-                    Side::Left => (true, false),
-                    Side::Right => (false, true),
+                    Side::Left => Holders::Left,
+                    Side::Right => Holders::Right,
                 };
-                assert_eq!((in_left, in_right), expected);
-                assert!(same_to(length - 1), "{left:?} {right:?}");
+                let trace = &lists.trace[..length];
+                let shown = &pair.shown[usize::from(entering)];
+                let shown_trace: Vec<Packet> = trace
+                    .iter()
+                    .map(|&number| pair.shown[usize::from(number)].clone())
+                    .collect();
+                assert_eq!(pair.holders(shown, &shown_trace), expected);
+                for from in pair.alike(entering.into()) {
+                    let lifted = pair.lifted_trace(trace, &from);
+                    assert_eq!(pair.holders(&from, &lifted), expected);
+                }
+                // No shorter trace tells them apart, from any declared packet.
+                assert!(pair.same_to(length - 1), "{:?} {:?}", pair.left, pair.right);
             }
         }
     }
-    assert!(equal > 300 && different > 300, "{equal} {different}");
+    assert!(seen.iter().flatten().all(|&count| count > 150), "{seen:?}");
+}
+
+#[test]
+fn traces_keep_what_nobody_mentions() {
+    let mut random = Random::new(16);
+    let (mut kept, mut lifted) = (0, 0);
+    for _ in 0..600 {
+        let pair = pair(&mut random);
+        for from in declared(&pair.sizes) {
+            let shown = pair.lifted(&from, &vec![0; from.len()]);
+            for term in &pair.terms {
+                // The traces from a declared packet are those from its shown one, lifted.
+                let traces = meaning(term, &from, 3);
+                let of_shown = meaning(term, &shown, 3);
+                kept += traces.len();
+                lifted += usize::from(from != shown && !traces.is_empty());
+                let along = |trace: &Vec<Packet>| -> Vec<Packet> {
+                    let lift = |packet| pair.lifted(packet, &from);
+                    trace.iter().map(lift).collect()
+                };
+                assert_eq!(traces, of_shown.iter().map(along).collect());
+            }
+        }
+    }
+    assert!(kept > 3000 && lifted > 1000, "{kept} {lifted}");
+}
+
+#[test]
+fn packets_are_turned_over_the_mentioned_fields() {
+    let mut random = Random::new(17);
+    let mut uncounted = 0;
+    for _ in 0..1500 {
+        let pair = pair(&mut random);
+        let tables = tables(&pair.sizes);
+        let (left, right) = (pair.left.lists(), pair.right.lists());
+        for (number, shown) in pair.shown.iter().enumerate() {
+            let mut values = vec![9; pair.sizes.len()];
+            let answer = packets::values(tables.lend(), left, right, number as u16, &mut values);
+            assert_eq!(answer, Ok(()));
+            let values: Packet = values.iter().map(|&value| value.into()).collect();
+            assert_eq!(values, *shown);
+            for packet in pair.alike(number) {
+                uncounted += usize::from(packet != *shown);
+                let values: Vec<u16> = packet.iter().map(|&value| value as u16).collect();
+                let answer = packets::number(tables.lend(), left, right, &values);
+                assert_eq!(answer, Ok(number as u16));
+            }
+        }
+        let mut values = vec![9; pair.sizes.len()];
+        let count = pair.shown.len() as u16;
+        let answer = packets::values(tables.lend(), left, right, count, &mut values);
+        assert_eq!(answer, Err(Refusal::new(13, 0)));
+        for (field, &size) in pair.sizes.iter().enumerate() {
+            let mut values = vec![0; pair.sizes.len()];
+            values[field] = size;
+            let answer = packets::number(tables.lend(), left, right, &values);
+            assert_eq!(answer, Err(Refusal::new(13, field)));
+        }
+    }
+    assert!(uncounted > 1000, "{uncounted}");
 }
 
 #[test]
@@ -334,24 +504,15 @@ fn rows_are_the_row_order() {
     let mut random = Random::new(12);
     let (mut longer, mut full, mut deep) = (0, 0, 0);
     for _ in 0..1500 {
-        let sizes = random.pick(&SIZES);
-        let (left, right) = recording_pair(&mut random, sizes);
-        let (expected, telling) = row_order(sizes, &term(&left), &term(&right), MOST);
+        let pair = recording_pair(&mut random);
+        let (expected, telling) = row_order(&pair, MOST);
         if telling.is_none() && expected.len() >= MOST {
             continue;
         }
-        longer += usize::from(expected.len() > packets(sizes).len() + 2);
+        longer += usize::from(expected.len() > pair.shown.len() + 2);
         let room = random.below(expected.len() + 3);
         full += usize::from(room < expected.len());
-        let mut lists = Lists::new(room, 100, LEAST_WORK);
-        lists.packet.fill(77);
-        lists.parent.fill(78);
-        let answer = search(
-            tables(sizes).lend(),
-            left.lists(),
-            right.lists(),
-            lists.lend(),
-        );
+        let (answer, lists) = pair.search(room);
         for row in 0..room {
             let listed = (
                 lists.packet[row].into(),
@@ -366,7 +527,7 @@ fn rows_are_the_row_order() {
             (Err(refusal), _) => {
                 assert!(room < expected.len());
                 // The row being handled is the parent of the first row that does not fit.
-                let agreed = match room < packets(sizes).len() {
+                let agreed = match room < pair.shown.len() {
                     true => 0,
                     false => depth(&expected, expected[room].3),
                 };
@@ -394,29 +555,26 @@ fn where_rows_run_out_the_traces_agree_to_a_length() {
     // Pairs that are different, and those of them that the next length tells apart.
     let (mut different, mut next_tells) = (0, 0);
     for _ in 0..2500 {
-        let sizes = random.pick(&SIZES);
-        let (left, right) = recording_pair(&mut random, sizes);
-        let ample = run(sizes, &left, &right, 3000);
+        let pair = recording_pair(&mut random);
+        let (ample, lists) = pair.search(3000);
+        // No row has two empty states.
+        let states = lists.left.iter().zip(&lists.right);
+        let listed = states.take_while(|&(left, right)| left | right != 0);
         let rows = match ample {
-            (Ok(_), rows) => random.below(rows),
+            Ok(_) => random.below(listed.count()),
             _ => continue,
         };
-        let agreed = match run(sizes, &left, &right, rows) {
-            (Err(refusal), _) => refusal.agreed as usize,
+        let agreed = match pair.search(rows).0 {
+            Err(refusal) => refusal.agreed as usize,
             other => panic!("{other:?}"),
         };
         by_length[agreed.min(MOST)] += 1;
-        if let Ok(Verdict::Different { length, .. }) = ample.0 {
+        if let Ok(Verdict::Different { length, .. }) = ample {
             assert!(agreed < length);
             different += 1;
             next_tells += usize::from(agreed + 1 == length);
         }
-        let (left_term, right_term) = (term(&left), term(&right));
-        for from in packets(sizes) {
-            let [left, right] =
-                [&left_term, &right_term].map(|term| meaning(term, &from, agreed.min(MOST)));
-            assert_eq!(left, right);
-        }
+        assert!(pair.same_to(agreed.min(MOST)));
     }
     assert!(by_length.iter().all(|&count| count > 20), "{by_length:?}");
     assert!(
@@ -425,91 +583,67 @@ fn where_rows_run_out_the_traces_agree_to_a_length() {
     );
 }
 
-/// A search's answer with so many rows lent, and the rows that it listed.
-fn run(
-    sizes: &[u16],
-    left: &OwnedLists,
-    right: &OwnedLists,
-    rows: usize,
-) -> (Result<Verdict, Refusal>, usize) {
-    let mut lists = Lists::new(rows, 3000, LEAST_WORK);
-    let answer = search(
-        tables(sizes).lend(),
-        left.lists(),
-        right.lists(),
-        lists.lend(),
-    );
-    // No row has two empty states.
-    let states = lists.left.iter().zip(&lists.right);
-    let listed = states.take_while(|&(left, right)| left | right != 0);
-    (answer, listed.count())
-}
-
 #[test]
 fn traces_agree_with_figure_one() {
     let mut random = Random::new(13);
     let mut seen = [0; 4];
+    let mut lifted = 0;
     for _ in 0..4000 {
-        let sizes = random.pick(&SIZES[..4]);
-        let (left, right) = pair(&mut random, sizes);
-        let all = packets(sizes);
+        let pair = pair(&mut random);
         let length = random.below(4);
-        let entering = random.below(all.len()) as u16;
-        let trace: Vec<u16> = (0..length)
-            .map(|_| random.below(all.len()) as u16)
-            .collect();
-        let has = |lists: &OwnedLists| {
-            let from = &all[usize::from(entering)];
-            meaning(&term(lists), from, length).contains(&numbered(sizes, &trace))
-        };
-        let (expected, kind) = match (has(&left), has(&right)) {
-            (true, false) => (Holders::Left, 0),
-            (false, true) => (Holders::Right, 1),
-            (true, true) => (Holders::Both, 2),
-            (false, false) => (Holders::Neither, 3),
-        };
-        seen[kind] += 1;
+        let count = pair.shown.len();
+        let entering = random.below(count);
+        let trace: Vec<u16> = (0..length).map(|_| random.below(count) as u16).collect();
         let mut work = vec![1; LEAST_WORK];
-        let (left, right) = (left.lists(), right.lists());
+        let (left, right) = (pair.left.lists(), pair.right.lists());
         let answer = traces::check(
-            tables(sizes).lend(),
+            tables(&pair.sizes).lend(),
             left,
             right,
-            entering,
+            entering as u16,
             &trace,
             &mut work,
         );
-        assert_eq!(answer, Ok(expected));
+        let answer = answer.unwrap();
+        seen[match answer {
+            Holders::Left => 0,
+            Holders::Right => 1,
+            Holders::Both => 2,
+            Holders::Neither => 3,
+        }] += 1;
+        // The shown packet is one of them.
+        for from in pair.alike(entering) {
+            let along = pair.lifted_trace(&trace, &from);
+            assert_eq!(pair.holders(&from, &along), answer);
+            lifted += usize::from(from != pair.shown[entering]);
+        }
     }
     assert!(seen.iter().all(|&count| count > 20), "{seen:?}");
+    assert!(lifted > 1000, "{lifted}");
 }
 
 /// The row rules, one after the other.
-fn ruling(
-    sizes: &[u16],
-    left: &Term,
-    right: &Term,
-    dups: [usize; 2],
-    rows: &[(usize, u64, u64)],
-) -> Ruling {
-    let packets = packets(sizes);
+fn ruling(pair: &Pair, rows: &[(usize, u64, u64)]) -> Ruling {
+    let [left, right] = &pair.terms;
+    let dups = |lists: &OwnedLists| lists.kind.iter().filter(|&&k| k == kind::DUP).count();
+    let dups = [dups(&pair.left), dups(&pair.right)];
     let in_range = |mask: u64, dups: usize| u128::from(mask) < 1 << (dups + 1);
     for (row, &(packet, l, r)) in rows.iter().enumerate() {
-        if packet >= packets.len() || !in_range(l, dups[0]) || !in_range(r, dups[1]) {
+        if packet >= pair.shown.len() || !in_range(l, dups[0]) || !in_range(r, dups[1]) {
             return Ruling::OutOfRange { row };
         }
     }
-    for packet in 0..packets.len() {
+    for packet in 0..pair.shown.len() {
         if !rows.contains(&(packet, 1, 1)) {
             return Ruling::NoStart { packet };
         }
     }
     for (row, &(packet, l, r)) in rows.iter().enumerate() {
-        let from = &packets[packet];
+        let from = &pair.shown[packet];
         if output(left, l, from) != output(right, r, from) {
             return Ruling::OutputsDiffer { row };
         }
-        for (packet, at) in packets.iter().enumerate() {
+        for (packet, at) in pair.shown.iter().enumerate() {
             let (l, r) = (next(left, l, from, at), next(right, r, from, at));
             if (l, r) != (0, 0) && !rows.contains(&(packet, l, r)) {
                 return Ruling::NextMissing { row, packet };
@@ -521,18 +655,17 @@ fn ruling(
 
 #[test]
 fn tables_are_ruled_on_by_the_row_rules() {
+    const MOST: usize = 4;
     let mut random = Random::new(14);
     let mut seen = [0; 5];
     for _ in 0..3000 {
-        let sizes = random.pick(&SIZES);
-        let (left, right) = pair(&mut random, sizes);
-        let (left_term, right_term) = (term(&left), term(&right));
-        let (order, _) = row_order(sizes, &left_term, &right_term, 40);
+        let pair = pair(&mut random);
+        let (order, _) = row_order(&pair, 40);
         let mut rows: Vec<(usize, u64, u64)> =
             order.iter().map(|row| (row.0, row.1, row.2)).collect();
         random.shuffle(&mut rows);
         if random.one_in(3) {
-            rows.push((random.below(packets(sizes).len()), 0, 0));
+            rows.push((random.below(pair.shown.len()), 0, 0));
             rows.push(rows[0]);
         }
         let place = random.below(rows.len());
@@ -543,9 +676,7 @@ fn tables_are_ruled_on_by_the_row_rules() {
             3 => rows[place].0 += 1,
             _ => {}
         }
-        let dups =
-            [&left, &right].map(|lists| lists.kind.iter().filter(|&&k| k == kind::DUP).count());
-        let expected = ruling(sizes, &left_term, &right_term, dups, &rows);
+        let expected = ruling(&pair, &rows);
         seen[match expected {
             Ruling::Accepted => 0,
             Ruling::OutOfRange { .. } => 1,
@@ -553,6 +684,10 @@ fn tables_are_ruled_on_by_the_row_rules() {
             Ruling::OutputsDiffer { .. } => 3,
             Ruling::NextMissing { .. } => 4,
         }] += 1;
+        // Accepted says the same traces from every declared packet.
+        if expected == Ruling::Accepted {
+            assert!(pair.same_to(MOST));
+        }
         let packet: Vec<u16> = rows.iter().map(|row| row.0 as u16).collect();
         let left_states: Vec<u64> = rows.iter().map(|row| row.1).collect();
         let right_states: Vec<u64> = rows.iter().map(|row| row.2).collect();
@@ -562,13 +697,9 @@ fn tables_are_ruled_on_by_the_row_rules() {
             right: &right_states,
         };
         let mut work = vec![1; LEAST_WORK];
-        let answer = evidence::check(
-            tables(sizes).lend(),
-            left.lists(),
-            right.lists(),
-            table,
-            &mut work,
-        );
+        let (left, right) = (pair.left.lists(), pair.right.lists());
+        let names = tables(&pair.sizes);
+        let answer = evidence::check(names.lend(), left, right, table, &mut work);
         assert_eq!(answer, Ok(expected));
         let record = |&(packet, left, right): &(usize, u64, u64)| Record {
             packet: packet as u16,
@@ -577,10 +708,35 @@ fn tables_are_ruled_on_by_the_row_rules() {
             parent: random.bits() as u16,
         };
         let records: Vec<Record> = rows.iter().map(record).collect();
-        let (left, right) = (left.lists(), right.lists());
-        let answer =
-            evidence::check_records(tables(sizes).lend(), left, right, &records, &mut work);
+        let answer = evidence::check_records(names.lend(), left, right, &records, &mut work);
         assert_eq!(answer, Ok(expected));
     }
     assert!(seen.iter().all(|&count| count > 50), "{seen:?}");
+}
+
+#[test]
+fn the_row_order_of_an_equal_pair_is_accepted() {
+    let mut random = Random::new(18);
+    let (mut accepted, mut rejected) = (0, 0);
+    for _ in 0..1500 {
+        let pair = pair(&mut random);
+        let (answer, lists) = pair.search(3000);
+        let states = lists.left.iter().zip(&lists.right);
+        let rows = states.take_while(|&(left, right)| left | right != 0);
+        let rows = rows.count();
+        let table = Table {
+            packet: &lists.packet[..rows],
+            left: &lists.left[..rows],
+            right: &lists.right[..rows],
+        };
+        let mut work = vec![1; LEAST_WORK];
+        let (left, right) = (pair.left.lists(), pair.right.lists());
+        let names = tables(&pair.sizes);
+        let ruled = evidence::check(names.lend(), left, right, table, &mut work);
+        let equal = matches!(answer, Ok(Verdict::Equal { .. }));
+        assert_eq!(ruled == Ok(Ruling::Accepted), equal);
+        accepted += usize::from(equal);
+        rejected += usize::from(!equal);
+    }
+    assert!(accepted > 300 && rejected > 300, "{accepted} {rejected}");
 }

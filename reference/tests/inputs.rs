@@ -2,9 +2,9 @@
 
 mod common;
 
-use common::{nodes, read, tables};
+use common::{mentioning, nodes, read, tables};
 use netkat_reference::answer::{Refusal, Side};
-use netkat_reference::generate::heavy;
+use netkat_reference::generate::{fixed, heavy};
 use netkat_reference::policy::{self, OwnedLists};
 use netkat_reference::program;
 use netkat_reference::{packets, search, text};
@@ -15,7 +15,18 @@ fn refusal<T>(number: u8, place: usize) -> Result<T, Refusal> {
 
 #[test]
 fn sizes() {
-    let check = |sizes: &[u16]| packets::values(tables(sizes).lend(), 0, &mut vec![9; sizes.len()]);
+    // All fields are mentioned.
+    let check = |sizes: &[u16]| {
+        let (left, right) = (nodes("id"), mentioning(sizes.len().clamp(1, 8)));
+        let (left, right) = (left.lists(), right.lists());
+        packets::values(
+            tables(sizes).lend(),
+            left,
+            right,
+            0,
+            &mut vec![9; sizes.len()],
+        )
+    };
     assert_eq!(check(&[]), refusal(1, 0));
     assert_eq!(check(&[0; 9]), refusal(1, 0));
     assert_eq!(check(&[2; 8]), Ok(()));
@@ -31,20 +42,24 @@ fn sizes() {
 fn turning() {
     let tables = tables(&[2, 3, 4]);
     let tables = tables.lend();
-    for number in 0..24 {
-        let mut values = [9; 3];
-        assert_eq!(packets::values(tables, number, &mut values), Ok(()));
-        assert_eq!(values, [number / 12, number / 4 % 3, number % 4]);
-        assert_eq!(packets::number(tables, &values), Ok(number));
+    let (left, right) = (nodes("f0=0;f2!=1"), nodes("f1<-0"));
+    let (left, right) = (left.lists(), right.lists());
+    let values = |number, values: &mut [u16]| packets::values(tables, left, right, number, values);
+    let number = |values: &[u16]| packets::number(tables, left, right, values);
+    for packet in 0..24 {
+        let mut found = [9; 3];
+        assert_eq!(values(packet, &mut found), Ok(()));
+        assert_eq!(found, [packet / 12, packet / 4 % 3, packet % 4]);
+        assert_eq!(number(&found), Ok(packet));
     }
-    let mut values = [9; 3];
-    assert_eq!(packets::values(tables, 24, &mut values), refusal(13, 0));
-    assert_eq!(values, [9; 3]);
-    assert_eq!(packets::values(tables, 99, &mut [9; 2]), refusal(13, 3));
-    assert_eq!(packets::number(tables, &[9; 4]), refusal(13, 3));
-    assert_eq!(packets::number(tables, &[]), refusal(13, 3));
-    assert_eq!(packets::number(tables, &[0, 3, 4]), refusal(13, 1));
-    assert_eq!(packets::number(tables, &[2, 3, 4]), refusal(13, 0));
+    let mut found = [9; 3];
+    assert_eq!(values(24, &mut found), refusal(13, 0));
+    assert_eq!(found, [9; 3]);
+    assert_eq!(values(99, &mut [9; 2]), refusal(13, 3));
+    assert_eq!(number(&[9; 4]), refusal(13, 3));
+    assert_eq!(number(&[]), refusal(13, 3));
+    assert_eq!(number(&[0, 3, 4]), refusal(13, 1));
+    assert_eq!(number(&[2, 3, 4]), refusal(13, 0));
 }
 
 /// Lists from nodes.
@@ -508,10 +523,12 @@ fn program_inputs() {
         ("f0=2, f1=2\nf0=2\nid\nid", 20, 1),
         ("f0=02\nf0=02\nid\nid", 18, 0),
         ("f0=65536\nf0=65536\nid\nid", 18, 0),
-        ("f0=65535\nf0=65535\n?\nid", 3, 0),
+        ("f0=65535\nf0=65535\n?\nid", 14, 0),
+        ("f0=65535\nf0=65535\nid\nf0=65534", 3, 0),
         ("f0=0\nf0=0\n?\nid", 2, 0),
         ("f0=1,f1=1,f2=1,f3=1,f4=1,f5=1,f6=1,f7=1,f8=0\nf0=1,f1=1,f2=1,f3=1,f4=1,f5=1,f6=1,f7=1,f8=0\n?\nid", 1, 0),
-        ("f0=5,f1=205\nf0=5,f1=205\n?\nid", 3, 1),
+        ("f0=5,f1=205\nf0=5,f1=205\n?\nid", 14, 0),
+        ("f0=5,f1=205\nf0=5,f1=205\nf0=0\nf1=0", 3, 1),
         ("f0=2\nf0=2\n?\n?", 14, 0),
         ("f0=2\nf0=2\nid\n id ?", 14, 4),
         ("f0=2\nf0=2\nid;f0=2\nf0=2", 6, 1),
@@ -531,15 +548,14 @@ fn program_inputs() {
         input.push_str(&" ".repeat(length - input.len()));
         program(&input)
     };
-    assert_eq!(padded(32_768), "equal,2,0\r\n0,1,1\r\n1,1,1\r\n");
+    assert_eq!(padded(32_768), "equal,1,0\r\n0,1,1\r\n");
     assert_eq!(padded(32_769), "refused,18,0\r\n");
 }
 
 #[test]
 fn the_program_lends_4096_rows() {
     // The starting rows and three more for each fit, four don't.
-    let chain = |dups: usize| vec!["dup"; dups].join(";");
-    let run = |dups| program(&format!("f0=1024\nf0=1024\n{0}\n{0}", chain(dups)));
+    let run = |dups| program(&fixed::recorded(dups).input());
     assert!(run(3).starts_with("equal,4096,0\r\n"));
     assert_eq!(run(4), "refused,11,4096\r\n");
 }

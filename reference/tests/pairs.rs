@@ -4,10 +4,11 @@ mod common;
 
 use std::collections::BTreeSet;
 
-use common::{nodes, search, search_with, tables, Outcome};
+use common::{nodes, search, search_with, tables, told_apart, Outcome};
 use netkat_reference::answer::{Holders, Numbered, Refusal, Ruling, Side, Verdict};
+use netkat_reference::case::Case;
 use netkat_reference::evidence::{self, Record, Table};
-use netkat_reference::generate::{case, heavy, Extent};
+use netkat_reference::generate::{case, fixed, heavy, Extent};
 use netkat_reference::policy;
 use netkat_reference::random::Random;
 use netkat_reference::search::{search_texts, Lists, LEAST_WORK};
@@ -109,8 +110,10 @@ fn negations() {
     let (left, right) = ("(f0<-0+f0<-1);!f0=0", "f0<-1");
     equal(&[3], left, right, &starting[..3]);
     equal(&[2], "!!f0=1", "f0=1", &starting[..2]);
-    equal(&[2], "!drop", "id", &starting[..2]);
-    equal(&[2], "!id", "drop", &starting[..2]);
+    equal(&[2], "!(drop;f0=0)", "id", &starting[..2]);
+    equal(&[2], "!(id+f0=0)", "drop", &starting[..2]);
+    equal(&[2], "!drop", "id", &starting[..1]);
+    equal(&[2], "!id", "drop", &starting[..1]);
     different(&[2], "!f0=0", "f0=0", Side::Right, 0, &[0]);
     different(&[3], "!f0=0", "f0=1", Side::Left, 2, &[2]);
     different(&[2], "dup;!f0=0", "dup", Side::Right, 0, &[0, 0]);
@@ -118,10 +121,14 @@ fn negations() {
 
 #[test]
 fn the_sets_of_negations_end_at_the_last_packet() {
-    for size in [1, 63, 64, 65, 127, 128, 129, 1024] {
-        let starting: Vec<(u16, u64, u64)> = (0..size).map(|packet| (packet, 1, 1)).collect();
-        equal(&[size], "!drop", "id", &starting);
-        equal(&[size], "!!f0=0", "f0=0", &starting);
+    let one_field = [1, 63, 64, 65, 127, 128, 129].map(|size| vec![size]);
+    for sizes in one_field.into_iter().chain([heavy::THOUSAND.to_vec()]) {
+        let starting: Vec<(u16, u64, u64)> = (0..sizes.iter().product())
+            .map(|packet| (packet, 1, 1))
+            .collect();
+        let naming = heavy::naming(&sizes);
+        equal(&sizes, &naming, "id", &starting);
+        equal(&sizes, &format!("{naming};!!f0=0"), "f0=0", &starting);
     }
 }
 
@@ -170,7 +177,8 @@ fn nested_negations_cost_nothing() {
     let start = std::time::Instant::now();
     for (count, once) in [(500, "f0=3"), (501, "f0!=3"), (511, "!f0=3")] {
         let text = format!("{}f0=3", "!".repeat(count));
-        let outcome = search(&[1024], &text, once);
+        let once = format!("{};{once}", heavy::naming(&heavy::THOUSAND));
+        let outcome = search(&heavy::THOUSAND, &text, &once);
         assert_eq!(outcome.answer, Ok(Verdict::Equal { rows: 1024 }));
     }
     assert!(start.elapsed().as_secs() < 5);
@@ -424,7 +432,7 @@ fn lists_of_10() {
 
 #[test]
 fn starting_rows_that_do_not_fit() {
-    let Outcome { answer, lists } = search_with(&[2, 2], "id", "drop", 3, 9);
+    let Outcome { answer, lists } = search_with(&[2, 2], "f0=0", "f1=1", 3, 9);
     assert_eq!(answer, Err(Refusal::new(11, 3)));
     assert_eq!(lists.packet, [0, 1, 2]);
     assert_eq!(lists.left, [1, 1, 1]);
@@ -451,14 +459,15 @@ fn how_far_the_traces_agree_where_rows_run_out() {
     assert_eq!(agreed(&[1], left, right, 3), 2);
     // The starting rows don't fit, or just fit.
     for rows in 0..=4 {
-        assert_eq!(agreed(&[2, 2], "dup", "dup;id", rows), 0);
+        assert_eq!(agreed(&[2, 2], "dup;f0=0*", "f1=0*;dup", rows), 0);
     }
     // Each depth has a row for each packet, and the first row of a depth is handled when the next depth's first is listed.
     let chain = ["dup"; 60].join(";");
+    let mentioning = format!("f0=0*;{chain}");
     for packets in 1..4usize {
         for rows in 0..61 * packets {
             let length = (rows / packets).saturating_sub(1);
-            let found = agreed(&[packets as u16], &chain, &chain, rows);
+            let found = agreed(&[packets as u16], &chain, &mentioning, rows);
             assert_eq!(found, length as u64);
         }
     }
@@ -502,14 +511,14 @@ fn texts_are_tested_before_policies() {
     assert_eq!(answer(&dups, "id"), Refusal::new(9, 125).on(1));
     assert_eq!(answer("id", &dups), Refusal::new(9, 125).on(2));
     assert_eq!(search(&[], "?", "?").answer, Err(Refusal::new(1, 0)));
-    assert_eq!(search(&[5, 205], "?", "?").answer, Err(Refusal::new(3, 1)));
+    assert_eq!(search(&[5, 205], "?", "?").answer, Err(Refusal::new(14, 0)));
     let dups = ["dup"; 63].join(";");
     assert!(search(&[2], &dups, &dups).answer.is_ok());
 }
 
 #[test]
 fn the_trace_checker() {
-    let (left, right) = (nodes("dup*"), nodes("dup;dup*"));
+    let (left, right) = (nodes("f0=0*;dup*"), nodes("dup;dup*"));
     let check = |entering, trace: &[u16], work| {
         let mut work = vec![1; work];
         let answer = traces::check(
@@ -550,9 +559,9 @@ fn traces_of_negations() {
 
 #[test]
 fn nested_stars_cost_nothing() {
-    let text = format!("id{}", "*".repeat(511));
+    let pair = heavy::nested_stars(511, "id");
     let start = std::time::Instant::now();
-    let outcome = search(&[1024], &text, "id");
+    let outcome = search(&pair.sizes, &pair.left, &pair.right);
     assert_eq!(outcome.answer, Ok(Verdict::Equal { rows: 1024 }));
     assert!(start.elapsed().as_secs() < 20);
 }
@@ -568,6 +577,72 @@ fn heavy_pairs_are_equal() {
         let rows = outcome.rows(rows);
         let ruling = ruling(&pair.sizes, &pair.left, &pair.right, &rows);
         assert_eq!(ruling, Ruling::Accepted, "{}", pair.name);
+    }
+}
+
+/// How many packets a pair has.
+fn packets(pair: &heavy::Pair) -> usize {
+    let case = Case::Texts {
+        tables: pair.tables(),
+        left: pair.left.clone().into_bytes(),
+        right: pair.right.clone().into_bytes(),
+        lists: Lists::new(0, 0, 0),
+    };
+    case.packets().expect("legal policies")
+}
+
+#[test]
+fn no_two_packets_are_alike_to_heavy_pairs() {
+    let mut pairs = heavy::pairs();
+    pairs.extend(heavy::leaks());
+    pairs.extend(heavy::small());
+    pairs.extend(["id", "dup"].map(|body| heavy::nested_stars(500, body)));
+    pairs.extend([heavy::long_counters("f0=1"), heavy::all_but_first()]);
+    pairs.extend([fixed::recorded(3), fixed::recorded(4)]);
+    for pair in &pairs {
+        let (left, right) = (nodes(&pair.left), nodes(&pair.right));
+        let told_apart = told_apart(&pair.sizes, &left, &right);
+        assert_eq!(packets(pair), told_apart, "{}", pair.name);
+    }
+}
+
+#[test]
+fn heavy_pairs_have_as_many_packets_as_they_say() {
+    for (pair, count) in [
+        (heavy::nested_stars(511, "id"), 1024),
+        (heavy::nested_stars(500, "dup"), 1024),
+        (heavy::full_table(), 771),
+        (heavy::cycles(), 270),
+        (heavy::wide_cycles(), 65),
+        (heavy::chain(), 1023),
+        (heavy::long_way(), 1001),
+        (heavy::many_dups(63), 1024),
+        (heavy::own_continuations(31), 1024),
+        (heavy::many_rows(5), 1024),
+        (heavy::many_states(14), 2),
+        (heavy::long_lines(), 5),
+    ] {
+        assert_eq!(packets(&pair), count, "{}", pair.name);
+    }
+    let counts = |pairs: Vec<heavy::Pair>| pairs.iter().map(packets).collect::<Vec<_>>();
+    assert_eq!(counts(heavy::negations()), [1024; 4]);
+    assert_eq!(counts(heavy::among_wide()), [1, 196, 450, 1024, 1024]);
+}
+
+#[test]
+fn wide_fields_that_nobody_mentions_change_nothing() {
+    for (pair, places) in [
+        (heavy::leaks().remove(0), [1, 4, 6]),
+        (heavy::leaks().remove(1), [0, 1, 7]),
+        (heavy::long_way(), [2, 3, 5]),
+    ] {
+        let among = pair.among_wide(&places);
+        assert_eq!(among.sizes.len(), 8);
+        assert_eq!(packets(&among), packets(&pair));
+        let (one, other) = (&pair, &among);
+        let [one, other] = [one, other].map(|p| search(&p.sizes, &p.left, &p.right));
+        assert_eq!(one.answer, other.answer);
+        assert!(one.lists == other.lists);
     }
 }
 

@@ -1,11 +1,13 @@
-//! Three checks: one that ends in equal, whose table is then checked, one that ends in a telling trace, and one that runs out of rows.
+//! Three checks: one that ends in equal, whose table is then checked, one that ends in a telling trace, whose packets are then shown by their
+//! values, and one that runs out of rows.
 
 use std::error::Error;
 
-use netkat::{Checker, Holders, Refusal, Row, Rows, Ruling, Side, Tables, Verdict};
+use netkat::{Checker, Holders, Policy, Refusal, Row, Rows, Ruling, Side, Tables, Verdict};
 
 fn check(left_text: &str, right_text: &str, lent: usize) -> Result<(), Box<dyn Error>> {
-    let mut checker = Checker::new(Tables::shared(&[("sw", 2)]));
+    // no policy here mentions vlan, so the packets are 0 and 1, the values of sw, or 0 alone
+    let mut checker = Checker::new(Tables::shared(&[("vlan", 1000), ("sw", 2)]));
     let left = checker.read(Side::Left, left_text.as_bytes())?;
     let right = checker.read(Side::Right, right_text.as_bytes())?;
 
@@ -59,8 +61,24 @@ fn check(left_text: &str, right_text: &str, lent: usize) -> Result<(), Box<dyn E
                 Holders::Only(Side::Right) => println!("  the trace is right's alone"),
                 Holders::Both | Holders::Neither => println!("  the trace is not one policy's"),
             }
+            show_packet(&checker, &left, &right, entering)?;
+            for packet in trace {
+                show_packet(&checker, &left, &right, packet)?;
+            }
         }
     }
+    Ok(())
+}
+
+/// A packet of the two policies by its values; a field that neither mentions shows 0.
+fn show_packet(
+    checker: &Checker,
+    left: &Policy,
+    right: &Policy,
+    number: u16,
+) -> Result<(), Refusal> {
+    let values = checker.values(left, right, number)?;
+    println!("  {number}: vlan {}, sw {}", values[0], values[1]);
     Ok(())
 }
 
@@ -87,6 +105,6 @@ fn said(ruling: Ruling) -> &'static str {
 
 fn main() -> Result<(), Box<dyn Error>> {
     check("sw=0;dup", "dup;sw=0", 4096)?;
-    check("dup", "dup;dup", 4096)?;
-    check("dup*", "id+dup;dup*", 4)
+    check("dup;sw<-1", "sw<-1;dup", 4096)?;
+    check("dup*", "id+dup;dup*", 2)
 }

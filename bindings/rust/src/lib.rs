@@ -76,7 +76,10 @@ impl Refusal {
         match self.number {
             1 => ("a table without names, or more than 8 fields", None),
             2 => ("a size is 0", Some("field")),
-            3 => ("more than 1,024 packets", Some("up to field")),
+            3 => (
+                "more than 1,024 packets over the mentioned fields",
+                Some("up to field"),
+            ),
             4 => (
                 "lists that don't match, or a policy that is empty or over 512 nodes",
                 None,
@@ -236,6 +239,13 @@ pub struct Policy {
     pub second: Vec<u16>,
 }
 
+/// Passes every packet.
+const ID: Nodes = Nodes {
+    kind: &[1],
+    first: &[0],
+    second: &[0],
+};
+
 impl Policy {
     fn nodes(&self) -> Nodes<'_> {
         Nodes {
@@ -300,7 +310,10 @@ pub enum Holders {
 }
 
 /// Calls over the fields of two tables, with a work list that serves them all. Every call is refused by 4 without a side, 20, 21, 1 or
-/// 2 where the tables are not legal, and all but [`Checker::read`] by 3.
+/// 2 where the tables are not legal; one on policies by 3 where the fields that these mention make more than 1,024 packets.
+///
+/// A packet is a number over the mentioned fields, so it belongs to the policies of its call: with others the same number may be another
+/// packet. [`Checker::values`] shows what it stands for.
 #[derive(Clone, Debug)]
 pub struct Checker {
     tables: Tables,
@@ -342,26 +355,31 @@ impl Checker {
 
     /// How many fields both tables together have.
     pub fn fields(&self) -> Result<usize, Refusal> {
-        // there is a field, so that an empty list is refused by 13, which says how many there are
-        match self.number(&[]) {
+        // id is legal; there is a field, so that an empty list is refused by 13, which says how many there are
+        match accepted(lists::number(self.tables.lists(), ID, ID, &[])) {
             Err(Refusal {
                 number: 13, place, ..
             }) => Ok(place as usize),
             Err(refusal) => Err(refusal),
-            Ok(number) => not_answered([0, number.into(), 0, 0, 0, 0, 0, 0]),
+            Ok(answer) => not_answered(answer),
         }
     }
 
-    /// The values of a packet's fields. Refused by 13, and where the tables are.
-    pub fn values(&self, number: u16) -> Result<Vec<u16>, Refusal> {
+    /// The values of a packet's fields, from its number over the fields that two policies mention; any other field shows 0. Refused by 4 to
+    /// 9, 19, each with its side, 13.
+    pub fn values(&self, left: &Policy, right: &Policy, number: u16) -> Result<Vec<u16>, Refusal> {
         let mut values = vec![0; self.fields()?];
-        accepted(lists::values(self.tables.lists(), number, &mut values))?;
+        let (left, right) = (left.nodes(), right.nodes());
+        let answer = lists::values(self.tables.lists(), left, right, number, &mut values);
+        accepted(answer)?;
         Ok(values)
     }
 
-    /// The number of the packet with these values. Refused by 13, and where the tables are.
-    pub fn number(&self, values: &[u16]) -> Result<u16, Refusal> {
-        Ok(accepted(lists::number(self.tables.lists(), values))?[1] as u16)
+    /// The number of the packet with these values over the fields that two policies mention; values of other fields are tested and not
+    /// counted. Refused by 4 to 9, 19, each with its side, 13.
+    pub fn number(&self, left: &Policy, right: &Policy, values: &[u16]) -> Result<u16, Refusal> {
+        let answer = lists::number(self.tables.lists(), left.nodes(), right.nodes(), values);
+        Ok(accepted(answer)?[1] as u16)
     }
 
     /// The number of dups of a policy. Refused by 4 to 9, 19.

@@ -65,8 +65,14 @@ pub struct Columns<'a> {
     pub right: &'a [u64],
 }
 
-/// A packet's number turned into values.
-pub fn values(tables: Tables, number: u16, values: &mut [u16]) -> Numbers {
+/// A packet's number, over the fields that two policies mention, turned into values.
+pub fn values(
+    tables: Tables,
+    left: Nodes,
+    right: Nodes,
+    number: u16,
+    values: &mut [u16],
+) -> Numbers {
     let mut answer = [0; 8];
     // SAFETY: the slices and the answer are valid for the call, and those written overlap no other.
     unsafe {
@@ -79,6 +85,18 @@ pub fn values(tables: Tables, number: u16, values: &mut [u16]) -> Numbers {
             tables.right.cells.len(),
             tables.right.sizes.as_ptr(),
             tables.right.sizes.len(),
+            left.kind.as_ptr(),
+            left.kind.len(),
+            left.first.as_ptr(),
+            left.first.len(),
+            left.second.as_ptr(),
+            left.second.len(),
+            right.kind.as_ptr(),
+            right.kind.len(),
+            right.first.as_ptr(),
+            right.first.len(),
+            right.second.as_ptr(),
+            right.second.len(),
             number,
             values.as_mut_ptr(),
             values.len(),
@@ -88,8 +106,8 @@ pub fn values(tables: Tables, number: u16, values: &mut [u16]) -> Numbers {
     answer
 }
 
-/// Values turned into a packet's number.
-pub fn number(tables: Tables, values: &[u16]) -> Numbers {
+/// Values turned into a packet's number, over the fields that two policies mention.
+pub fn number(tables: Tables, left: Nodes, right: Nodes, values: &[u16]) -> Numbers {
     let mut answer = [0; 8];
     // SAFETY: as in `values`.
     unsafe {
@@ -102,6 +120,18 @@ pub fn number(tables: Tables, values: &[u16]) -> Numbers {
             tables.right.cells.len(),
             tables.right.sizes.as_ptr(),
             tables.right.sizes.len(),
+            left.kind.as_ptr(),
+            left.kind.len(),
+            left.first.as_ptr(),
+            left.first.len(),
+            left.second.as_ptr(),
+            left.second.len(),
+            right.kind.as_ptr(),
+            right.kind.len(),
+            right.first.as_ptr(),
+            right.first.len(),
+            right.second.as_ptr(),
+            right.second.len(),
             values.as_ptr(),
             values.len(),
             answer.as_mut_ptr(),

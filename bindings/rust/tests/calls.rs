@@ -1,5 +1,6 @@
 //! Every call of the safe wrapper, the calls of `examples/c/calls.c`, on threads with the stack that the wrapper states. Three switches
-//! with two ports each, so six packets; the two tables name the fields in different orders, and the left one's counts.
+//! with two ports each, so six packets where both fields are mentioned; the two tables name the fields in different orders, and the
+//! left one's counts.
 
 use std::thread;
 
@@ -29,6 +30,19 @@ fn over(left: &[(&str, u16)], right: &[(&str, u16)]) -> Checker {
 /// Over one field of this size.
 fn one_field(size: u16) -> Checker {
     Checker::new(Tables::shared(&[("sw", size)]))
+}
+
+/// Over f0, f1, .. of these sizes.
+fn numbered(sizes: &[u16]) -> Checker {
+    let names = ["f0", "f1", "f2", "f3", "f4", "f5", "f6", "f7"];
+    let fields: Vec<(&str, u16)> = names.into_iter().zip(sizes.iter().copied()).collect();
+    Checker::new(Tables::shared(&fields))
+}
+
+/// Two texts read, of the left policy and of the right one.
+fn pair(checker: &Checker, left: &str, right: &str) -> (Policy, Policy) {
+    let read = |side, text: &str| checker.read(side, text.as_bytes()).expect("a legal text");
+    (read(Side::Left, left), read(Side::Right, right))
 }
 
 fn checker() -> Checker {
@@ -71,13 +85,112 @@ fn policies() -> (Policy, Policy, Policy) {
 #[test]
 fn packets_turned() {
     within_bound(|| {
-        assert_eq!(checker().values(5), Ok(vec![2, 1]));
-        assert_eq!(checker().number(&[2, 1]), Ok(5));
-        assert_eq!(checker().values(6), Err(refusal(13, None, 0)));
-        assert_eq!(checker().number(&[1, 2]), Err(refusal(13, None, 1)));
-        assert_eq!(checker().number(&[1]), Err(refusal(13, None, 2)));
-        assert_eq!(checker().fields(), Ok(2));
-        assert_eq!(one_field(1025).values(0), Err(refusal(3, None, 0)));
+        let checker = checker();
+        let (id, mut bad) = (policy("id"), policy("id"));
+        let both = policy("sw=0;port<-1");
+        for (left, right) in [(&both, &id), (&id, &both), (&both, &both)] {
+            let values = |number| checker.values(left, right, number);
+            let number = |values: &[u16]| checker.number(left, right, values);
+            assert_eq!(values(5), Ok(vec![2, 1]));
+            assert_eq!(number(&[2, 1]), Ok(5));
+            assert_eq!(values(6), Err(refusal(13, None, 0)));
+            assert_eq!(number(&[1, 2]), Err(refusal(13, None, 1)));
+            assert_eq!(number(&[1]), Err(refusal(13, None, 2)));
+        }
+        assert_eq!(checker.fields(), Ok(2));
+        bad.kind[0] = 10;
+        let refused = refusal(5, Some(Side::Left), 0);
+        assert_eq!(checker.values(&bad, &id, 9), Err(refused));
+        assert_eq!(checker.number(&bad, &bad, &[]), Err(refused));
+        let refused = refusal(5, Some(Side::Right), 0);
+        assert_eq!(checker.values(&id, &bad, 9), Err(refused));
+    });
+}
+
+/// Every call on two policies refuses these so, whatever packets and lists it is lent.
+fn refused_by_all(checker: &mut Checker, left: &str, right: &str, refused: Refusal) {
+    let (one, other) = pair(checker, left, right);
+    let rows = Rows {
+        packet: vec![9],
+        left: vec![0],
+        right: Vec::new(),
+    };
+    assert_eq!(checker.values(&one, &other, 65_535), Err(refused));
+    assert_eq!(checker.number(&one, &other, &[]), Err(refused));
+    assert_eq!(checker.dups_of_both(&one, &other), Err(refused));
+    let verdict = checker.search(&one, &other, usize::MAX);
+    assert_eq!(verdict, Err(refused));
+    let verdict = checker.search_texts(left.as_bytes(), right.as_bytes(), usize::MAX);
+    assert_eq!(verdict, Err(refused));
+    let ruling = checker.evidence(&one, &other, &rows);
+    assert_eq!(ruling, Err(refused));
+    let ruling = checker.evidence_rows(&one, &other, &[]);
+    assert_eq!(ruling, Err(refused));
+    let holders = checker.trace(&one, &other, 65_535, &[65_535]);
+    assert_eq!(holders, Err(refused));
+}
+
+#[test]
+fn fields_nobody_mentions() {
+    within_bound(|| {
+        let different = |side, entering, trace| {
+            Ok(Verdict::Different {
+                side,
+                entering,
+                trace,
+            })
+        };
+        let mut checker = numbered(&[1000, 2]);
+        let (one, id) = pair(&checker, "f1=0", "id");
+        let verdict = checker.search(&one, &id, ROWS);
+        assert_eq!(verdict, different(Side::Right, 1, vec![1]));
+        let holders = checker.trace(&one, &id, 1, &[1]);
+        assert_eq!(holders, Ok(Holders::Only(Side::Right)));
+        assert_eq!(checker.values(&one, &id, 1), Ok(vec![0, 1]));
+        assert_eq!(checker.values(&one, &id, 2), Err(refusal(13, None, 0)));
+        let number = |values: &[u16]| checker.number(&one, &id, values);
+        assert_eq!(number(&[999, 1]), Ok(1));
+        assert_eq!(number(&[1000, 1]), Err(refusal(13, None, 0)));
+        assert_eq!(number(&[999]), Err(refusal(13, None, 2)));
+        // with other policies the same number is another packet
+        let (other, _) = pair(&checker, "f0=0", "id");
+        assert_eq!(checker.values(&other, &id, 1), Ok(vec![1, 0]));
+        assert_eq!(checker.values(&id, &id, 1), Err(refusal(13, None, 0)));
+
+        let mut checker = numbered(&[5000, 2, 3]);
+        let (one, other) = pair(&checker, "f1=1;f2<-2;dup", "f1=1;dup;f2<-2");
+        let verdict = checker.search(&one, &other, ROWS);
+        assert_eq!(verdict, different(Side::Right, 3, vec![3, 5]));
+        assert_eq!(checker.values(&one, &other, 3), Ok(vec![0, 1, 0]));
+        assert_eq!(checker.values(&one, &other, 5), Ok(vec![0, 1, 2]));
+
+        let verdict = numbered(&[65_535, 65_535]).search_texts(b"id", b"dup", ROWS);
+        assert_eq!(verdict, different(Side::Left, 0, vec![0]));
+    });
+}
+
+#[test]
+fn packets_of_mentioned_fields() {
+    within_bound(|| {
+        let mut checker = numbered(&[5, 205]);
+        let one_row = Rows {
+            packet: vec![0],
+            left: vec![1],
+            right: vec![1],
+        };
+        let verdict = checker.search_texts(b"id", b"id", ROWS);
+        assert_eq!(verdict, Ok(Verdict::Equal(one_row)));
+        let (wide, id) = pair(&checker, "f0=0;f1=0", "id");
+        assert_eq!(checker.dups(&wide), Err(refusal(3, None, 1)));
+        assert_eq!(checker.dups(&id), Ok(0));
+        for (left, right) in [("f0=0;f1=0", "id"), ("id", "f0=0;f1=0"), ("f0=0", "f1<-0")] {
+            refused_by_all(&mut checker, left, right, refusal(3, None, 1));
+        }
+        // a policy's own causes come first
+        let refused = refusal(6, Some(Side::Right), 0);
+        refused_by_all(&mut checker, "f0=0;f1=0", "f1=205", refused);
+        let refused = refusal(3, None, 2);
+        refused_by_all(&mut numbered(&[1024, 5000, 2]), "f0=0;f2=0", "id", refused);
     });
 }
 
@@ -87,7 +200,8 @@ fn fields_named() {
         let (left, right) = ([("sw", 2), ("port", 3)], [("vlan", 5), ("port", 3)]);
         let checker = over(&left, &right);
         assert_eq!(checker.fields(), Ok(3));
-        assert_eq!(checker.values(28), Ok(vec![1, 2, 3]));
+        let (one, other) = pair(&checker, "sw=0;port=0", "vlan=0");
+        assert_eq!(checker.values(&one, &other, 28), Ok(vec![1, 2, 3]));
         let read = |side, text: &str| checker.read(side, text.as_bytes());
         let field = |side, text| read(side, text).map(|policy| policy.first[0]);
         assert_eq!(field(Side::Left, "sw=1"), Ok(0));
@@ -114,14 +228,12 @@ fn tables_refused() {
         let refused = |left: &[(&str, u16)], right: &[(&str, u16)]| {
             let mut checker = over(left, right);
             let refusal = checker.fields().expect_err("a refusal");
-            assert_eq!(checker.number(&[0]), Err(refusal));
+            let (negated, id) = (policy("!dup"), policy("id"));
+            assert_eq!(checker.number(&negated, &id, &[0]), Err(refusal));
             assert_eq!(checker.read(Side::Right, b"?"), Err(refusal));
-            assert_eq!(checker.dups(&policy("!dup")), Err(refusal));
+            assert_eq!(checker.dups(&negated), Err(refusal));
             assert_eq!(checker.search_texts(b"?", b"?", 0), Err(refusal));
-            assert_eq!(
-                checker.trace(&policy("!dup"), &policy("id"), 9, &[]),
-                Err(refusal)
-            );
+            assert_eq!(checker.trace(&negated, &id, 9, &[]), Err(refusal));
             refusal
         };
         let sw = ("sw", 2);
@@ -176,9 +288,9 @@ fn equal_with_evidence() {
         let (one, same, _) = policies();
         let mut checker = checker();
         let expected = Rows {
-            packet: vec![0, 1, 2, 3, 4, 5, 0, 1, 2, 3, 4, 5],
-            left: vec![1, 1, 1, 1, 1, 1, 2, 2, 0, 0, 0, 0],
-            right: vec![1, 1, 1, 1, 1, 1, 2, 2, 2, 2, 2, 2],
+            packet: vec![0, 1, 2, 0, 1, 2],
+            left: vec![1, 1, 1, 2, 0, 0],
+            right: vec![1, 1, 1, 2, 2, 2],
         };
         let verdict = checker.search(&one, &same, ROWS);
         assert_eq!(verdict, Ok(Verdict::Equal(expected.clone())));
@@ -190,7 +302,7 @@ fn equal_with_evidence() {
         short.left.pop();
         short.right.pop();
         let ruling = checker.evidence(&one, &same, &short);
-        assert_eq!(ruling, Ok(Ruling::NextMissing(5, 5)));
+        assert_eq!(ruling, Ok(Ruling::NextMissing(2, 2)));
 
         short.packet.pop();
         let ruling = checker.evidence(&one, &same, &short);
@@ -223,16 +335,16 @@ fn evidence_of_records() {
             let mut table = records(&rows, parent);
             let ruling = checker.evidence_rows(&one, &same, &table);
             assert_eq!(ruling, Ok(Ruling::Accepted));
-            let ruling = checker.evidence_rows(&one, &same, &table[..11]);
-            assert_eq!(ruling, Ok(Ruling::NextMissing(5, 5)));
+            let ruling = checker.evidence_rows(&one, &same, &table[..5]);
+            assert_eq!(ruling, Ok(Ruling::NextMissing(2, 2)));
             let ruling = checker.evidence_rows(&one, &same, &table[1..]);
             assert_eq!(ruling, Ok(Ruling::NoStart(0)));
-            table[7].right = 1;
+            table[4].right = 1;
             let ruling = checker.evidence_rows(&one, &same, &table);
             assert_eq!(ruling, Ok(Ruling::NextMissing(1, 1)));
-            table[7].left = 1 << 63;
+            table[4].left = 1 << 63;
             let ruling = checker.evidence_rows(&one, &same, &table);
-            assert_eq!(ruling, Ok(Ruling::OutOfRange(7)));
+            assert_eq!(ruling, Ok(Ruling::OutOfRange(4)));
             table.resize(netkat::MOST_ROWS + 1, table[0]);
             let ruling = checker.evidence_rows(&one, &same, &table);
             assert_eq!(ruling, Err(refusal(10, None, 0)));
@@ -328,7 +440,7 @@ fn refusals_name_a_side() {
         let verdict = checker.search(&other, &one, ROWS);
         assert_eq!(verdict, Err(refusal(5, Some(Side::Left), 1)));
         assert_eq!(checker.dups(&other), Err(refusal(5, None, 1)));
-        let trace = checker.trace(&one, &one, 0, &[0, 6]);
+        let trace = checker.trace(&one, &one, 0, &[0, 3]);
         assert_eq!(trace, Err(refusal(13, None, 2)));
     });
 }
@@ -338,14 +450,15 @@ fn rows_run_out() {
     within_bound(|| {
         let (one, same, _) = policies();
         let mut checker = checker();
-        // six packets: 0 to 5 rows don't hold the starting rows, and 6 to 11 run out while these are handled
-        for rows in 0..12 {
+        // three packets: 0 to 2 rows don't hold the starting rows, and 3 to 5 run out while these are handled
+        for rows in 0..6 {
             let verdict = checker.search(&one, &same, rows);
             assert_eq!(verdict, Err(full(rows as u64, 0)));
         }
-        // the rows after a second dup are needed by the first row of depth 1
+        // six packets, mentioned where none comes: the rows after a second dup are needed by the first row of depth 1
+        let mentioning = b"dup*+drop;sw=0;sw=1;port=0";
         for (rows, length) in [(11, 0), (12, 1), (17, 1)] {
-            let verdict = checker.search_texts(b"dup*", b"id+dup;dup*", rows);
+            let verdict = checker.search_texts(mentioning, b"id+dup;dup*", rows);
             assert_eq!(verdict, Err(full(rows as u64, length)));
         }
         let mut one_packet = one_field(1);
@@ -380,7 +493,7 @@ fn negated_tests() {
         };
         let ruling = checker.evidence(&before, &behind, &rows);
         assert_eq!(ruling, Ok(Ruling::Accepted));
-        let holders = checker.trace(&before, &policy("dup;sw=0"), 5, &[5, 5]);
+        let holders = checker.trace(&before, &policy("dup;sw=0"), 2, &[2, 2]);
         assert_eq!(holders, Ok(Holders::Only(Side::Left)));
 
         let negated = policy("!(sw=0+dup)");
@@ -403,6 +516,10 @@ fn refusals_in_words() {
     assert_eq!(
         said(6, Some(Side::Right), 3),
         "refused by 6 on the right: a wrong field, value or unused entry, node 3"
+    );
+    assert_eq!(
+        said(3, None, 1),
+        "refused by 3: more than 1,024 packets over the mentioned fields, up to field 1"
     );
     assert_eq!(
         said(1, None, 0),
@@ -435,17 +552,25 @@ fn deep_policies_within_bound() {
     within_bound(|| {
         let deep = policy(&("(".repeat(64) + "dup" + &")*".repeat(64) + &"*".repeat(447)));
         assert_eq!(deep.kind.len(), 512);
-        let mut fields = ["a", "b", "c", "d", "e", "f", "g", "h"].map(|name| (name, 2));
-        (fields[6].1, fields[7].1) = (4, 4);
-        let mut checker = Checker::new(Tables::shared(&fields));
-        let rows = match checker.search(&deep, &policy("dup*"), 4096) {
+        // 1,024 packets: of each field all values but one are named
+        let mut checker = numbered(&[2, 2, 2, 2, 2, 2, 4, 4]);
+        let named = "f0=0;f1=0;f2=0;f3=0;f4=0;f5=0;f6=0;f6=1;f6=2;f7=0;f7=1;f7=2";
+        let (_, loops) = pair(&checker, "id", &format!("dup*+drop;{named}"));
+        let rows = match checker.search(&deep, &loops, 4096) {
             Ok(Verdict::Equal(rows)) => rows,
             other => panic!("equal policies, and {other:?}"),
         };
-        let ruling = checker.evidence(&deep, &policy("dup*"), &rows);
+        assert_eq!(rows.packet.len(), 2048);
+        let ruling = checker.evidence(&deep, &loops, &rows);
         assert_eq!(ruling, Ok(Ruling::Accepted));
-        let holders = checker.trace(&deep, &policy("dup"), 3, &[3, 3]);
+        let holders = checker.trace(&deep, &loops, 1023, &[1023, 1023]);
         assert_eq!(holders, Ok(Holders::Both));
+        let holders = checker.trace(&deep, &loops, 1023, &[1024]);
+        assert_eq!(holders, Err(refusal(13, None, 1)));
+        assert_eq!(
+            checker.values(&deep, &loops, 1023),
+            Ok(vec![1, 1, 1, 1, 1, 1, 3, 3])
+        );
     });
 }
 

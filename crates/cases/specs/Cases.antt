@@ -7,12 +7,11 @@ use Prim.Native.String.{String, [] as noText, _∷_ as _thenText_}
 use mathlib.Core.List.{List, [], _∷_, _++_}
 use lib.ListN.{length, replicate}
 use Rattle.packet.specs.Refusals.{refusal}
-use Rattle.packet.specs.Packets.{numberOf}
-use Rattle.fields.specs.Tables.{Table, table, jointSizes}
+use Rattle.fields.specs.Tables.{Table, table}
 use Rattle.policy.specs.NodeLists.{NodeLists}
 use Rattle.policy.specs.AsLists.{asLists}
 use Rattle.policy.specs.NodesOfTree.{nodesOf}
-use Rattle.turning.specs.Turning.{valuesTests, valuesAnswer, valuesLeft, numberTests, numberAnswer}
+use Rattle.turning.specs.Turning.{valuesTests, valuesAnswer, valuesLeft, numberCall}
 use Rattle.turning.specs.declared.Values.{Values}
 use Rattle.turning.specs.declared.Values.the-variants.{Written, Refused as ValuesRefused}
 use Rattle.turning.specs.declared.Number.{Number}
@@ -50,8 +49,8 @@ pub data Call : Type 0 where
   callBoth : (t u : Table) (left right : NodeLists) → Call
   callOne : (t u : Table) (policy : NodeLists) → Call
   callRead : (t u : Table) (side : ℕ) (text kind first second : List ℕ) → Call
-  callValues : (t u : Table) (number : ℕ) (values : List ℕ) → Call
-  callNumber : (t u : Table) (values : List ℕ) → Call
+  callValues : (t u : Table) (left right : NodeLists) (number : ℕ) (values : List ℕ) → Call
+  callNumber : (t u : Table) (left right : NodeLists) (values : List ℕ) → Call
 
 -- an answer, and every lent list that the call may write
 pub data Result : Type 0 where
@@ -85,8 +84,8 @@ resultOf (callOne t u policy) = legalityOfOne (policyLegality (t ∷ u ∷ []) p
 resultOf (callRead t u side text kind first second) =
     let r = readAnswer t u side text (shortest kind first second) in
     readAs r (nodesLeft (textNames t u side) text r (asLists kind first second))
-resultOf (callValues t u number values) = turned (valuesAnswer (valuesTests (t ∷ u ∷ []) number (length values))) (valuesLeft (t ∷ u ∷ []) number values)
-resultOf (callNumber t u values) = numbered (numberAnswer (numberTests (t ∷ u ∷ []) values) (numberOf (jointSizes (t ∷ u ∷ [])) values))
+resultOf (callValues t u l r number values) = turned (valuesAnswer (valuesTests (t ∷ u ∷ []) l r number (length values))) (valuesLeft (t ∷ u ∷ []) l r number values)
+resultOf (callNumber t u l r values) = numbered (numberCall (t ∷ u ∷ []) l r values)
 
 pub record Case : Type 0 where
   pub call : Call
@@ -146,10 +145,10 @@ bothLegal sizes = callBoth (f sizes) (f sizes)
 abbrev oneLegal : List ℕ → NodeLists → Call
 oneLegal sizes = callOne (f sizes) (f sizes)
 
-abbrev valuesOf : List ℕ → ℕ → List ℕ → Call
+abbrev valuesOf : List ℕ → NodeLists → NodeLists → ℕ → List ℕ → Call
 valuesOf sizes = callValues (f sizes) (f sizes)
 
-abbrev numberFor : List ℕ → List ℕ → Call
+abbrev numberFor : List ℕ → NodeLists → NodeLists → List ℕ → Call
 numberFor sizes = callNumber (f sizes) (f sizes)
 
 abbrev read : List ℕ → List ℕ → List ℕ → List ℕ → Call
@@ -259,6 +258,13 @@ readWith b value = gives (read (afterOne b) (nines 2) (nines 2) (nines 2)) (read
 abbrev refusedWith : ℕ → ℕ → ℕ → Case
 refusedWith b number place = unread (afterOne b) 2 number place
 
+-- a test of each of two fields, and of each of three
+abbrev bothFields : NodeLists
+bothFields = nodes "f0=0;f1=0"
+
+abbrev threeFields : NodeLists
+threeFields = asLists (2 ∷ 2 ∷ 7 ∷ 2 ∷ 7 ∷ []) (0 ∷ 1 ∷ 0 ∷ 2 ∷ 2 ∷ []) (0 ∷ 0 ∷ 1 ∷ 0 ∷ 3 ∷ [])
+
 abbrev P2-left : NodeLists
 P2-left = nodes "f0=0;dup"
 
@@ -274,7 +280,10 @@ A1-rows = columns (0 ∷ 1 ∷ 0 ∷ 1 ∷ []) (1 ∷ 1 ∷ 2 ∷ 2 ∷ []) (1 �
 abbrev P5 : ℕ → Verdict → Columns → List Case
 P5 rows verdict held = compares (1 ∷ []) "dup*" "id+dup;dup*" rows 2 verdict held []
 
--- the starting rows of 2 and 3 packets
+-- the starting rows of 1, 2 and 3 packets
+abbrev starts1 : Columns
+starts1 = columns (0 ∷ []) (1 ∷ []) (1 ∷ []) (0 ∷ [])
+
 abbrev starts2 : Columns
 starts2 = columns (0 ∷ 1 ∷ []) (1 ∷ 1 ∷ []) (1 ∷ 1 ∷ []) (0 ∷ 1 ∷ [])
 
@@ -300,12 +309,12 @@ switches = "sw" of 2 then "port" of 2 then noName
 abbrev lans : Table
 lans = "vlan" of 2 then "port" of 2 then "sw" of 2 then noName
 
--- ---- the table, in three parts: each is held against the definitions by a computation of its own
+-- ---- the table, in four parts: each is held against the definitions by a computation of its own
 
 unfoldable pub ofDocument01 : List Case
 ofDocument01 =
-    -- P1
-    compares (2 ∷ []) "drop" "id" 5 3 (Right 1 0) starts2 (0 ∷ [])
+    -- P1, with one row, since nothing is mentioned (A.6)
+    compares (2 ∷ []) "drop" "id" 5 3 (Right 1 0) starts1 (0 ∷ [])
     -- P2
     ++ compares (2 ∷ []) "f0=0;dup" "dup;f0=0" 5 3 (Equal 4) P2-rows []
     ++ judges (2 ∷ []) P2-left P2-right (0 ∷ 1 ∷ 0 ∷ 1 ∷ []) (1 ∷ 1 ∷ 2 ∷ 0 ∷ []) (1 ∷ 1 ∷ 2 ∷ 2 ∷ []) Accepted
@@ -328,10 +337,10 @@ ofDocument01 =
     ++ compares (1 ∷ []) "dup;drop" "drop" 5 3 (Equal 2) (columns (0 ∷ 0 ∷ []) (1 ∷ 2 ∷ []) (1 ∷ 0 ∷ []) (0 ∷ 0 ∷ [])) []
     -- P11
     ++ judges (2 ∷ []) P2-left P2-right (0 ∷ 1 ∷ 0 ∷ []) (1 ∷ 1 ∷ 2 ∷ []) (1 ∷ 1 ∷ 2 ∷ []) (RuleD 1 1)
-    -- sizes 32, 32 pass and 5, 205 give 3 at field 1
-    ∷ gives (bothLegal (32 ∷ 32 ∷ []) pass pass) (legality (Legal 0 0))
-    ∷ gives (bothLegal (5 ∷ 205 ∷ []) pass pass) (legality (PairRefused (refusal 3 0 1)))
-    ∷ gives (search (5 ∷ 205 ∷ []) pass pass (lending 5 3)) (searched (Refused (refusal 3 0 1)) (lending 5 3))
+    -- sizes 32, 32 pass and 5, 205 give 3 at field 1, where both fields are mentioned (A.6)
+    ∷ gives (bothLegal (32 ∷ 32 ∷ []) bothFields pass) (legality (Legal 0 0))
+    ∷ gives (bothLegal (5 ∷ 205 ∷ []) bothFields pass) (legality (PairRefused (refusal 3 0 1)))
+    ∷ gives (search (5 ∷ 205 ∷ []) bothFields pass (lending 5 3)) (searched (Refused (refusal 3 0 1)) (lending 5 3))
     -- 63 dups pass, 64 don't: the 64th dup is node 125
     ∷ gives (bothLegal (1 ∷ []) (textPolicy (dups 62)) (textPolicy (dups 62))) (legality (Legal 63 63))
     ∷ gives (bothLegal (1 ∷ []) (textPolicy (dups 62)) (textPolicy (dups 63))) (legality (PairRefused (refusal 9 2 125)))
@@ -348,11 +357,11 @@ ofDocument01 =
     ∷ follows (2 ∷ []) P2-left P2-right 2 [] (NotFollowed (refusal 13 0 0))
     ∷ follows (2 ∷ []) P2-left P2-right 0 (0 ∷ 2 ∷ []) (NotFollowed (refusal 13 0 2))
     -- packet 4 of sizes 2 and 3 is (1, 1), field 0 counting slowest; 13 turning: the number, a value's field, a list of another length
-    ∷ gives (valuesOf (2 ∷ 3 ∷ []) 4 (nines 2)) (turned Written (1 ∷ 1 ∷ []))
-    ∷ gives (numberFor (2 ∷ 3 ∷ []) (1 ∷ 1 ∷ [])) (numbered (Packet 4))
-    ∷ gives (valuesOf (2 ∷ 3 ∷ []) 6 (nines 2)) (turned (ValuesRefused (refusal 13 0 0)) (nines 2))
-    ∷ gives (valuesOf (2 ∷ 3 ∷ []) 6 (nines 1)) (turned (ValuesRefused (refusal 13 0 2)) (nines 1))
-    ∷ gives (numberFor (2 ∷ 3 ∷ []) (1 ∷ 3 ∷ [])) (numbered (NumberRefused (refusal 13 0 1)))
+    ∷ gives (valuesOf (2 ∷ 3 ∷ []) bothFields pass 4 (nines 2)) (turned Written (1 ∷ 1 ∷ []))
+    ∷ gives (numberFor (2 ∷ 3 ∷ []) bothFields pass (1 ∷ 1 ∷ [])) (numbered (Packet 4))
+    ∷ gives (valuesOf (2 ∷ 3 ∷ []) bothFields pass 6 (nines 2)) (turned (ValuesRefused (refusal 13 0 0)) (nines 2))
+    ∷ gives (valuesOf (2 ∷ 3 ∷ []) bothFields pass 6 (nines 1)) (turned (ValuesRefused (refusal 13 0 2)) (nines 1))
+    ∷ gives (numberFor (2 ∷ 3 ∷ []) bothFields pass (1 ∷ 3 ∷ [])) (numbered (NumberRefused (refusal 13 0 1)))
     -- 10: a work list one word short, row lists unequal; nothing is written
     ∷ gives (checkRows (2 ∷ []) P2-left P2-right (0 ∷ 1 ∷ []) (1 ∷ 1 ∷ []) (1 ∷ 1 ∷ []) (nines 16383)) (judged (NotChecked (refusal 10 0 0)) (nines 16383))
     ∷ gives (checkTrace (1 ∷ []) pass pass 0 (0 ∷ []) (nines 16383)) (followed (NotFollowed (refusal 10 0 0)) (nines 16383))
@@ -360,7 +369,7 @@ ofDocument01 =
     -- the other rules on P2's table: (a) a mask of a bit that is no dup's; (b) packet 1 has no starting row; (c) P1's outputs differ at row 0
     ∷ judges (2 ∷ []) P2-left P2-right (0 ∷ 1 ∷ []) (1 ∷ 1 ∷ []) (1 ∷ 4 ∷ []) (RuleA 1)
     ∷ judges (2 ∷ []) P2-left P2-right (0 ∷ 0 ∷ []) (1 ∷ 2 ∷ []) (1 ∷ 2 ∷ []) (RuleB 1)
-    ∷ judges (2 ∷ []) (nodes "drop") (nodes "id") (0 ∷ 1 ∷ []) (1 ∷ 1 ∷ []) (1 ∷ 1 ∷ []) (RuleC 0)
+    ∷ judges (2 ∷ []) (nodes "drop") (nodes "id") (0 ∷ []) (1 ∷ []) (1 ∷ []) (RuleC 0)
     -- further pairs: `!=` in a text; a test of field 1; every kind; the order of a row's successors; dups numbered in node order; two telling packets
     ∷ compares (2 ∷ []) "f0!=0" "f0=1" 5 3 (Equal 2) starts2 []
     ++ compares (2 ∷ 3 ∷ []) "f1=2" "f0=1" 6 3 (Left 1 2) (columns (0 ∷ 1 ∷ 2 ∷ 3 ∷ 4 ∷ 5 ∷ []) (1 ∷ 1 ∷ 1 ∷ 1 ∷ 1 ∷ 1 ∷ []) (1 ∷ 1 ∷ 1 ∷ 1 ∷ 1 ∷ 1 ∷ []) (0 ∷ 1 ∷ 2 ∷ 3 ∷ 4 ∷ 5 ∷ [])) (2 ∷ [])
@@ -440,7 +449,7 @@ ofDocument02 =
     ++ P5 1 (Full (refusal 11 0 1) 0) (columns (0 ∷ []) (1 ∷ []) (1 ∷ []) (0 ∷ []))
     ++ compares (2 ∷ []) "f0=0;dup" "dup;f0=0" 3 3 (Full (refusal 11 0 3) 0) (columns (0 ∷ 1 ∷ 0 ∷ []) (1 ∷ 1 ∷ 2 ∷ []) (1 ∷ 1 ∷ 2 ∷ []) (0 ∷ 1 ∷ 0 ∷ [])) []
     ++ compares (1 ∷ []) "dup;dup;dup" "dup;dup;dup;drop+dup;dup;dup" 3 3 (Full (refusal 11 0 3) 2) (columns (0 ∷ 0 ∷ 0 ∷ []) (1 ∷ 2 ∷ 4 ∷ []) (1 ∷ 18 ∷ 36 ∷ []) (0 ∷ 0 ∷ 1 ∷ [])) []
-    ++ compares (2 ∷ []) "id" "id" 1 3 (Full (refusal 11 0 1) 0) (columns (0 ∷ []) (1 ∷ []) (1 ∷ []) (0 ∷ [])) []
+    ++ compares (2 ∷ []) "f0=0+f0=1" "id" 1 3 (Full (refusal 11 0 1) 0) starts1 []
     -- A.5: the bytes at the edges of their classes, a letter making the word "1" a bad one at byte 3
     ++ readWith 9 1
     ∷ readWith 32 1
@@ -497,14 +506,56 @@ ofTables =
     -- nothing is written; the tables come before the text
     ∷ gives (callRead ("id" of 1 then noName) ("a" of 1 then noName) 2 (bytes "?") (nines 1) (nines 1) (nines 1)) (readAs (Unread (refusal 20 1 0)) (asLists (nines 1) (nines 1) (nines 1)))
     ∷ gives (callSearch ("A" of 1 then noName) ("a" of 1 then noName) pass pass (lending 1 1)) (searched (Refused (refusal 20 1 0)) (lending 1 1))
-    -- 3 at the joint field, before the texts
-    ∷ gives (callTexts ("sw" of 5 then noName) ("port" of 205 then noName) (bytes "?") (bytes "id") (lending 1 1)) (searched (Refused (refusal 3 0 1)) (lending 1 1))
+    -- 3 at the joint field, after the texts (A.6)
+    ∷ gives (callTexts ("sw" of 5 then noName) ("port" of 205 then noName) (bytes "sw=0") (bytes "port=0") (lending 1 1)) (searched (Refused (refusal 3 0 1)) (lending 1 1))
+    ∷ gives (callTexts ("sw" of 5 then noName) ("port" of 205 then noName) (bytes "sw=0") (bytes "port=0;?") (lending 1 1)) (searched (Refused (refusal 14 0 7)) (lending 1 1))
     -- values over the joint fields; a cell's bytes past the length are not read
-    ∷ gives (callNumber switches lans (1 ∷ 0 ∷ 1 ∷ [])) (numbered (Packet 5))
-    ∷ gives (callValues switches lans 5 (nines 3)) (turned Written (1 ∷ 0 ∷ 1 ∷ []))
-    ∷ gives (callValues switches lans 5 (nines 2)) (turned (ValuesRefused (refusal 13 0 3)) (nines 2))
-    ∷ gives (callNumber (table (2 ∷ 115 ∷ 119 ∷ nines 13) (2 ∷ [])) ("sw" of 2 then noName) (1 ∷ [])) (numbered (Packet 1))
+    ∷ gives (callNumber switches lans threeFields pass (1 ∷ 0 ∷ 1 ∷ [])) (numbered (Packet 5))
+    ∷ gives (callValues switches lans pass threeFields 5 (nines 3)) (turned Written (1 ∷ 0 ∷ 1 ∷ []))
+    ∷ gives (callValues switches lans pass threeFields 5 (nines 2)) (turned (ValuesRefused (refusal 13 0 3)) (nines 2))
+    ∷ gives (callNumber (table (2 ∷ 115 ∷ 119 ∷ nines 13) (2 ∷ [])) ("sw" of 2 then noName) (nodes "f0=0") pass (1 ∷ [])) (numbered (Packet 1))
+    ∷ []
+
+-- A.6
+unfoldable pub ofMentions : List Case
+ofMentions =
+    -- a field that nobody mentions counts for nothing: N = 2 of sizes 1,000 and 2
+    compares (1000 ∷ 2 ∷ []) "f1=0" "id" 5 3 (Right 1 1) starts2 (1 ∷ [])
+    ++ judges (1000 ∷ 2 ∷ []) (nodes "f1=0") (nodes "f1!=1") (0 ∷ 1 ∷ []) (1 ∷ 1 ∷ []) (1 ∷ 1 ∷ []) Accepted
+    ∷ follows (1000 ∷ 2 ∷ []) (nodes "f1=0") pass 1 (1 ∷ []) OnlyRight
+    ∷ follows (1000 ∷ 2 ∷ []) (nodes "f1=0") pass 0 (2 ∷ []) (NotFollowed (refusal 13 0 1))
+    -- turned into values it shows 0; turned back its value is tested, and not counted
+    ∷ gives (valuesOf (1000 ∷ 2 ∷ []) (nodes "f1=0") pass 1 (nines 2)) (turned Written (0 ∷ 1 ∷ []))
+    ∷ gives (valuesOf (1000 ∷ 2 ∷ []) (nodes "f1=0") pass 2 (nines 2)) (turned (ValuesRefused (refusal 13 0 0)) (nines 2))
+    ∷ gives (numberFor (1000 ∷ 2 ∷ []) (nodes "f1=0") pass (999 ∷ 1 ∷ [])) (numbered (Packet 1))
+    ∷ gives (numberFor (1000 ∷ 2 ∷ []) (nodes "f1=0") pass (1000 ∷ 1 ∷ [])) (numbered (NumberRefused (refusal 13 0 0)))
+    ∷ gives (numberFor (1000 ∷ 2 ∷ []) (nodes "f1=0") pass (1 ∷ [])) (numbered (NumberRefused (refusal 13 0 2)))
+    -- no field mentioned: N = 1
+    ∷ compares (65535 ∷ 65535 ∷ []) "id" "dup" 5 3 (Left 1 0) starts1 (0 ∷ [])
+    ++ compares (5 ∷ 205 ∷ []) "id" "id" 5 3 (Equal 1) starts1 []
+    -- before mentioned fields of sizes 2 and 3 one of 5,000; between them
+    ++ gives (searchTexts (5000 ∷ 2 ∷ 3 ∷ []) (bytes "f1=1;f2<-2;dup") (bytes "f1=1;dup;f2<-2") (lending 10 2))
+    (searched (Right 2 3) (holding 10 2 (columns (0 ∷ 1 ∷ 2 ∷ 3 ∷ 4 ∷ 5 ∷ 3 ∷ 5 ∷ 4 ∷ 5 ∷ []) (1 ∷ 1 ∷ 1 ∷ 1 ∷ 1 ∷ 1 ∷ 0 ∷ 2 ∷ 0 ∷ 2 ∷ []) (1 ∷ 1 ∷ 1 ∷ 1 ∷ 1 ∷ 1 ∷ 2 ∷ 0 ∷ 2 ∷ 2 ∷ []) (0 ∷ 1 ∷ 2 ∷ 3 ∷ 4 ∷ 5 ∷ 3 ∷ 3 ∷ 4 ∷ 5 ∷ [])) (3 ∷ 5 ∷ [])))
+    ∷ gives (valuesOf (5000 ∷ 2 ∷ 3 ∷ []) (asLists (2 ∷ []) (1 ∷ []) (1 ∷ [])) (asLists (4 ∷ []) (2 ∷ []) (2 ∷ [])) 3 (nines 3)) (turned Written (0 ∷ 1 ∷ 0 ∷ []))
+    ∷ gives (searchTexts (2 ∷ 5000 ∷ 3 ∷ []) (bytes "f0=1;f2=2") (bytes "f0=1") (lending 6 1))
+    (searched (Right 1 3) (holding 6 1 (columns (0 ∷ 1 ∷ 2 ∷ 3 ∷ 4 ∷ 5 ∷ []) (1 ∷ 1 ∷ 1 ∷ 1 ∷ 1 ∷ 1 ∷ []) (1 ∷ 1 ∷ 1 ∷ 1 ∷ 1 ∷ 1 ∷ []) (0 ∷ 1 ∷ 2 ∷ 3 ∷ 4 ∷ 5 ∷ [])) (3 ∷ [])))
+    -- mentioned by the right policy alone, under a negation that nothing reaches
+    ∷ compares (2 ∷ []) "id" "id+drop;!f0=0" 5 3 (Equal 2) starts2 []
+    -- 3 over mentioned fields alone, its place the joint field
+    ++ gives (searchTexts (1024 ∷ 5000 ∷ 2 ∷ []) (bytes "f0=0;f2=0") (bytes "id") (lending 1 1)) (searched (Refused (refusal 3 0 2)) (lending 1 1))
+    ∷ gives (searchTexts (1024 ∷ 5000 ∷ 2 ∷ []) (bytes "f0=0") (bytes "f1=0") (lending 1 1)) (searched (Refused (refusal 3 0 1)) (lending 1 1))
+    ∷ gives (oneLegal (5 ∷ 205 ∷ []) (nodes "f0=0")) (legalityOfOne (LegalAlone 0))
+    ∷ gives (oneLegal (5 ∷ 205 ∷ []) bothFields) (legalityOfOne (AloneRefused (refusal 3 0 1)))
+    -- 3 after 4 to 9 and 19, on either policy
+    ∷ gives (bothLegal (5 ∷ 205 ∷ []) bothFields (textPolicy (dups 63))) (legality (PairRefused (refusal 9 2 125)))
+    ∷ gives (bothLegal (5 ∷ 205 ∷ []) bothFields (nodes "!dup")) (legality (PairRefused (refusal 19 2 1)))
+    ∷ gives (valuesOf (5 ∷ 205 ∷ []) bothFields (asLists (10 ∷ []) (0 ∷ []) (0 ∷ [])) 0 []) (turned (ValuesRefused (refusal 5 2 0)) [])
+    -- and before 10 and 13; nothing is written
+    ∷ gives (checkRows (5 ∷ 205 ∷ []) bothFields pass [] [] (1 ∷ []) (nines 1)) (judged (NotChecked (refusal 3 0 1)) (nines 1))
+    ∷ gives (checkTrace (5 ∷ 205 ∷ []) bothFields pass 9 (9 ∷ []) (nines words)) (followed (NotFollowed (refusal 3 0 1)) (nines words))
+    ∷ gives (valuesOf (5 ∷ 205 ∷ []) bothFields pass 0 []) (turned (ValuesRefused (refusal 3 0 1)) [])
+    ∷ gives (numberFor (5 ∷ 205 ∷ []) pass bothFields (5 ∷ [])) (numbered (NumberRefused (refusal 3 0 1)))
     ∷ []
 
 unfoldable pub cases : List Case
-cases = ofDocument01 ++ ofDocument02 ++ ofTables
+cases = ofDocument01 ++ ofDocument02 ++ ofTables ++ ofMentions

@@ -12,9 +12,10 @@ use Rattle.fields.specs.Bytes.{isBlank, isCapital, isSmall, isLetter, isDigit, 
 use Rattle.fields.specs.Names.{sameWord, fieldNamed, found, isNamed, cellName, namesFrom, namesIn, isConstant, allSmallOrDigit, wellFormed, badName}
 use Rattle.fields.specs.Tables.{fieldsFrom, fieldsOf, withField, withFields, withTables, joint, jointNames, jointSizes, namesFor, tableOn, anyTable, mismatched, namesStage, another, otherSize, sizesStage, isEmpty, tablesStage}
 use Rattle.policy.specs.NodeLists.{nodeCount, nodeOf, nodeAt, children, one, isDup, dupsBelow, grow, treeAt, treeOf, policyOf}
-use Rattle.policy.specs.Legality.{badLengths, badKind, badField, used, wrongEntries, badEntries, someNotBelow, badChild, occurrences, timesChild, notOnce, negatesOther, badNegation, tooManyDups}
+use Rattle.policy.specs.Legality.{badLengths, badKind, badField, used, wrongEntries, badEntries, someNotBelow, badChild, occurrences, timesChild, notOnce, negatesOther, badNegation, tooManyDups, fieldOf}
 use Rattle.policy.specs.Tests.{isTest}
-use Rattle.policy.specs.Order.{order, inOrder, causes, sided, cause, policiesStage, stagesOf}
+use Rattle.policy.specs.Mentions.{isOfField, mentionedBelow, mentioned, coreFrom, coreSizes}
+use Rattle.policy.specs.Order.{order, inOrder, causes, cause, policiesStage, stagesOf}
 use Rattle.policy.specs.NodesOfTree.{nodeEntry, actionEntry, treeSize, entriesFrom, listsOf, nodesOf}
 use Rattle.packet_set.specs.Bits.{bit, maskOf, onlyBits}
 use Rattle.policy.specs.Visits.{labels}
@@ -100,15 +101,21 @@ cases =
     ∷ gives (over "" "id" "id") ("refused,1,0" ∷ [])
     ∷ gives (lf ("a=1,b=1,c=1,d=1,e=1,f=1,g=1,h=1" ∷ "i=1" ∷ "id" ∷ "id" ∷ [])) ("refused,1,0" ∷ [])
     ∷ gives (lf ("a=1" ∷ "b=0" ∷ "id" ∷ "id" ∷ [])) ("refused,2,1" ∷ [])
-    -- causes in their order: 18 before 20, 3 before 14, left before right
+    -- causes in their order: 18 before 20, 14 before 3, left before right
     ∷ gives (lf ("A=1" ∷ "a" ∷ "id" ∷ "id" ∷ [])) ("refused,18,0" ∷ [])
-    ∷ gives (over "f0=5,f1=205" "#" "#") ("refused,3,1" ∷ [])
+    ∷ gives (over "f0=5,f1=205" "f0=0;f1=0" "#") ("refused,14,0" ∷ [])
     ∷ gives (over "f0=2" "id+" "id #") ("refused,16,3" ∷ [])
     -- negated tests, and 19
     ∷ gives (over "f0=2" "dup;!f0=0" "!f0=0;dup") ("equal,4,0" ∷ "0,1,1" ∷ "1,1,1" ∷ "0,2,0" ∷ "1,2,2" ∷ [])
     ∷ gives (over "f0=2" "id" "!(f0=0*)") ("refused,19,2" ∷ [])
+    -- fields that nobody mentions: they count for nothing; 3 over the others, after 19
+    ∷ gives (over "f0=1000,f1=2" "f1=0" "id") ("right,1,1" ∷ "1,1,1" ∷ [])
+    ∷ gives (over "f0=65535,f1=65535" "id" "id") ("equal,1,0" ∷ "0,1,1" ∷ [])
+    ∷ gives (over "f0=5000,f1=2,f2=3" "f1=1;f2<-2;dup" "f1=1;dup;f2<-2") ("right,2,3" ∷ "1,3,0" ∷ "2,5,1" ∷ [])
+    ∷ gives (over "f0=1024,f1=5000,f2=2" "f0=0;f2=0" "id") ("refused,3,2" ∷ [])
+    ∷ gives (over "f0=5,f1=205" "f0=0;f1=0" "!dup") ("refused,19,1" ∷ [])
     ∷ []
 
 all-as-stated : map (λ (c : Case). programOutput (c .input)) cases ≡ map (λ (c : Case). c .stated) cases
-unfolding xor lowest orAt valueAt changed valuesOf numberOf product nodeCount nodeOf nodeAt one isDup dupsBelow grow treeAt treeOf policyOf nodeEntry actionEntry treeSize entriesFrom listsOf nodesOf bit maskOf anyBelow setOf union takes image starRounds single unionOver labels rightSpine orElse followedBy remainder flow enter ofMarked outputSet enteredSet next outputMask nextMask starts sameRow listed append appendNext lowestTelling turn handle runFrom run climbing climb path entering runAnswer answerWith held at onBoth outputAt nextAt sameStates bothZero inOneOutput bitsOfDups lastOf sideOf reported searchAnswer columnsOf heldColumns sided found isNamed cellName namesFrom namesIn isConstant allSmallOrDigit wellFormed badName fieldsFrom fieldsOf withField withFields withTables joint jointNames jointSizes namesFor tableOn anyTable mismatched namesStage another otherSize sizesStage isEmpty tablesStage isBlank isCapital isSmall isLetter isDigit inWord sameWord fieldNamed allDigits decimal leadingZero isNumber numberToken fieldToken wordToken singleMark isDouble doubleMark beginsDouble markToken wordOf frontToken isBad restOfToken placedFrom tokensFrom tokens constantPolicy fieldAction nothing joinSequence joinSum upTo whole negated negating itemRead start close step finish readOn badPlace openAfter deepPlace stopPlace treeRead tooMany outcome textTree tested textNames badCount zeroSize productOver fieldsStage productStage refusal refusedAt atPlace firstOf children badLengths badKind badField used wrongEntries badEntries someNotBelow badChild occurrences timesChild notOnce isTest negatesOther badNegation tooManyDups order inOrder causes cause policiesStage stagesOf onlyBits misfit rowsMisfit listsStage textNodes textStage textsTests beginsLF isCR onto linesOf splitBy isSize isNameAndSize isEntry entryName entrySize entriesOf allEntries isTable cellOf cellsOf sizesOf tableOf askedOf askedByLines asked digitsUpTo numeral lineRest numberLine wordEqual wordLeft wordRight wordRefused wordOfSide verdictLine rowLines lastFlag traceLines refusalLine tellingLines answerLines outputAfter programLent outputOf programOutput bytes lf crlf over cases
+unfolding xor lowest orAt valueAt changed valuesOf numberOf product nodeCount nodeOf nodeAt one isDup dupsBelow grow treeAt treeOf policyOf nodeEntry actionEntry treeSize entriesFrom listsOf nodesOf bit maskOf anyBelow setOf union takes image starRounds single unionOver labels rightSpine orElse followedBy remainder flow enter ofMarked outputSet enteredSet next outputMask nextMask starts sameRow listed append appendNext lowestTelling turn handle runFrom run climbing climb path entering runAnswer answerWith held at onBoth outputAt nextAt sameStates bothZero inOneOutput bitsOfDups lastOf sideOf reported searchAnswer columnsOf heldColumns found isNamed cellName namesFrom namesIn isConstant allSmallOrDigit wellFormed badName fieldsFrom fieldsOf withField withFields withTables joint jointNames jointSizes namesFor tableOn anyTable mismatched namesStage another otherSize sizesStage isEmpty tablesStage isBlank isCapital isSmall isLetter isDigit inWord sameWord fieldNamed allDigits decimal leadingZero isNumber numberToken fieldToken wordToken singleMark isDouble doubleMark beginsDouble markToken wordOf frontToken isBad restOfToken placedFrom tokensFrom tokens constantPolicy fieldAction nothing joinSequence joinSum upTo whole negated negating itemRead start close step finish readOn badPlace openAfter deepPlace stopPlace treeRead tooMany outcome textTree tested textNames badCount zeroSize productOver fieldsStage productStage refusal refusedAt atPlace firstOf children badLengths badKind badField used wrongEntries badEntries someNotBelow badChild occurrences timesChild notOnce isTest negatesOther badNegation tooManyDups order inOrder causes cause policiesStage stagesOf isOfField fieldOf mentionedBelow mentioned coreFrom coreSizes onlyBits misfit rowsMisfit listsStage textNodes textStage textsTests beginsLF isCR onto linesOf splitBy isSize isNameAndSize isEntry entryName entrySize entriesOf allEntries isTable cellOf cellsOf sizesOf tableOf askedOf askedByLines asked digitsUpTo numeral lineRest numberLine wordEqual wordLeft wordRight wordRefused wordOfSide verdictLine rowLines lastFlag traceLines refusalLine tellingLines answerLines outputAfter programLent outputOf programOutput bytes lf crlf over cases
 all-as-stated = refl

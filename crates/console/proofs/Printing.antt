@@ -1,6 +1,6 @@
 -- What a search on two texts leaves is what the program prints. Assumes nothing.
 use Prim.Native.Nat.{ℕ, _≤_}
-use mathlib.Core.List.{List, [], _∷_, _++_}
+use mathlib.Core.List.{List, _++_}
 use mathlib.Core.Path.{_≡_, refl, sym, ap, ap₂, _∙_, subst}
 use native.Mathlib.Omega.{arith}
 use lib.ListN.{length, getD, take, drop, length-append, length-drop, length-map, length-take, length-replicate}
@@ -8,8 +8,7 @@ use Rattle.packet.specs.declared.Refusal.{Refusal}
 use Rattle.packet.specs.declared.Tested.{Tested}
 use Rattle.packet.specs.declared.Tested.the-variants.{Passed, Refused as Stopped}
 use Rattle.packet.specs.Refusals.{refusal}
-use Rattle.fields.specs.Tables.{Table, jointSizes}
-use Rattle.policy.specs.Order.{sided}
+use Rattle.fields.specs.Tables.{Table}
 use Rattle.policy.specs.InnerEach.{Each}
 use Rattle.policy.specs.Legality.{Legal}
 use Rattle.policy.specs.NodeLists.{NodeLists}
@@ -17,7 +16,7 @@ use Rattle.policy.proofs.OrderLaws.{passing, policies-legal}
 use Rattle.system.specs.RowOrder.{held}
 use Rattle.pair.specs.Sides.{Side, left, right, Pair, NumberedPolicy, policies}
 use Rattle.pair.specs.Pair.{pairSystem}
-use Rattle.pair.specs.Search.{SearchAnswer, Columns, equal, different, rowsFull, traceShort, columnsOf, heldColumns, Distinguishes}
+use Rattle.pair.specs.Search.{SearchAnswer, Columns, equal, different, rowsFull, traceShort, columnsOf, heldColumns}
 use Rattle.pair.proofs.Lawful.{legal-pair}
 use Rattle.pair.proofs.Verdicts as verdicts
 use Rattle.pair.proofs.Verdicts.{equal-same, searched, is-telling}
@@ -28,7 +27,7 @@ use Rattle.verdict.specs.declared.Verdict.the-variants.{Equal}
 use Rattle.verdict.specs.Verdicts.{tellingVerdict, verdictOf, traceAfter}
 use Rattle.search.specs.Call.{SearchLists, filled, verdictAfter, lentAfter, answerHere, rowsHere}
 use Rattle.grammar.specs.Answer.{textNames}
-use Rattle.search_texts.specs.Call.{textNodes, textPolicies, textsTests, textsAnswer, textsRows, textsVerdict, textsLeaves, TextsSearched}
+use Rattle.search_texts.specs.Call.{textsCore, TextsTell, textNodes, textsTests, textsAnswer, textsRows, textsVerdict, textsLeaves, TextsSearched}
 use Rattle.printing.specs.ThreeFields.{verdictLine, rowLines, traceLines}
 use Rattle.printing.specs.InnerWrote.{Wrote}
 use Rattle.input.specs.Input.{malformed, compare, asked}
@@ -39,33 +38,33 @@ use Rattle.printed_verdict.specs.Output.{wordEqual, wordLeft, wordRight, wordRe
 take-few : {A : Type 0} (n : ℕ) (l : List A) → length (take n l) ≤ n
 take-few n l = omega (arith, length-take n l)
 
-module _ (sizes : List ℕ) (L R : NodeLists) (x : SearchLists) where
+module _ (core : List ℕ) (L R : NodeLists) (x : SearchLists) where
   -- an equal answer counts the rows held
-  rows-held : Legal sizes L × Legal sizes R → (n : ℕ) → answerHere sizes L R x ≡ equal n
-      → length (held (pairSystem sizes (policies L R)) (length (x .packets))) ≡ n
+  rows-held : Legal core L × Legal core R → (n : ℕ) → answerHere core L R x ≡ equal n
+      → length (held (pairSystem core (policies L R)) (length (x .packets))) ≡ n
   rows-held l n a =
-      equal-same sizes (policies L R) (legal-pair sizes L R (l .0) (l .1)) (length (x .packets)) (length (x .trace)) n a .0
+      equal-same core (policies L R) (legal-pair core L R (l .0) (l .1)) (length (x .packets)) (length (x .trace)) n a .0
 
   -- a telling trace fits the list lent
-  trace-fits : (s : Side) (α : ℕ) (t : List ℕ) → answerHere sizes L R x ≡ different s α t → length t ≤ length (x .trace)
-  trace-fits s α t a = go (subst (verdicts.Searched sizes ps (length (x .packets)) (length (x .trace))) a (searched sizes ps (length (x .packets)) (length (x .trace))))
+  trace-fits : (s : Side) (α : ℕ) (t : List ℕ) → answerHere core L R x ≡ different s α t → length t ≤ length (x .trace)
+  trace-fits s α t a = go (subst (verdicts.Searched core ps (length (x .packets)) (length (x .trace))) a (searched core ps (length (x .packets)) (length (x .trace))))
     where
       ps : Pair NumberedPolicy
       ps = policies L R
 
-      go : verdicts.Searched sizes ps (length (x .packets)) (length (x .trace)) (different s α t) → length t ≤ length (x .trace)
+      go : verdicts.Searched core ps (length (x .packets)) (length (x .trace)) (different s α t) → length t ≤ length (x .trace)
       go (is-telling i b h q) = h
 
-  module _ (legal : Legal sizes L × Legal sizes R) where
+  module _ (legal : Legal core L × Legal core R) where
     -- what is printed of the lists that the search leaves is what the answer says
-    lines-passed : (a : SearchAnswer) → answerHere sizes L R x ≡ a
-        → verdictLines (verdictOf a) (filled (rowsHere sizes L R x) a x .packets) (filled (rowsHere sizes L R x) a x .lefts) (filled (rowsHere sizes L R x) a x .rights) (filled (rowsHere sizes L R x) a x .trace)
-        ≡ answerLines (rowsHere sizes L R x) a
+    lines-passed : (a : SearchAnswer) → answerHere core L R x ≡ a
+        → verdictLines (verdictOf a) (filled (rowsHere core L R x) a x .packets) (filled (rowsHere core L R x) a x .lefts) (filled (rowsHere core L R x) a x .rights) (filled (rowsHere core L R x) a x .trace)
+        ≡ answerLines (rowsHere core L R x) a
     unfolding verdictLines verdictOf filled answerLines traceAfter tellingLines wordOfSide heldColumns columnsOf
     lines-passed (equal n) e =
-        let rows = rowsHere sizes L R x in
+        let rows = rowsHere core L R x in
         let many = rows-held legal n e in
-        let es = held (pairSystem sizes (policies L R)) (length (x .packets)) in
+        let es = held (pairSystem core (policies L R)) (length (x .packets)) in
         let packets : take n (written (rows .packets) (x .packets)) ≡ rows .packets = ap (λ k. take k (written (rows .packets) (x .packets))) (sym (length-map es (λ e. e .row .packet) ∙ many)) ∙ take-written (rows .packets) (x .packets) in
         let lefts : take n (written (rows .lefts) (x .lefts)) ≡ rows .lefts = ap (λ k. take k (written (rows .lefts) (x .lefts))) (sym (length-map es (λ e. e .row .state .left) ∙ many)) ∙ take-written (rows .lefts) (x .lefts) in
         let rights : take n (written (rows .rights) (x .rights)) ≡ rows .rights = ap (λ k. take k (written (rows .rights) (x .rights))) (sym (length-map es (λ e. e .row .state .right) ∙ many)) ∙ take-written (rows .rights) (x .rights) in
@@ -77,13 +76,13 @@ module _ (sizes : List ℕ) (L R : NodeLists) (x : SearchLists) where
     lines-passed (traceShort n) e = refl
 
     module _ (rows-lent : length (x .packets) ≡ 4096) (lefts-lent : length (x .lefts) ≡ 4096) (rights-lent : length (x .rights) ≡ 4096) (trace-lent : length (x .trace) ≡ 4096) where
-      fits-passed : (a : SearchAnswer) → answerHere sizes L R x ≡ a
-          → Fits (verdictOf a) (filled (rowsHere sizes L R x) a x .packets) (filled (rowsHere sizes L R x) a x .lefts) (filled (rowsHere sizes L R x) a x .rights) (filled (rowsHere sizes L R x) a x .trace)
+      fits-passed : (a : SearchAnswer) → answerHere core L R x ≡ a
+          → Fits (verdictOf a) (filled (rowsHere core L R x) a x .packets) (filled (rowsHere core L R x) a x .lefts) (filled (rowsHere core L R x) a x .rights) (filled (rowsHere core L R x) a x .trace)
       unfolding Fits verdictOf filled traceAfter heldColumns columnsOf held
       fits-passed (equal n) e =
-          let rows = rowsHere sizes L R x in
+          let rows = rowsHere core L R x in
           let many = rows-held legal n e in
-          let es = held (pairSystem sizes (policies L R)) (length (x .packets)) in
+          let es = held (pairSystem core (policies L R)) (length (x .packets)) in
           let few : length es ≤ 4096 = subst (λ k. length es ≤ k) rows-lent (take-few (length (x .packets)) _) in
           let p = length-map es (λ e. e .row .packet) in
           let l = length-map es (λ e. e .row .state .left) in
@@ -99,17 +98,17 @@ module _ (sizes : List ℕ) (L R : NodeLists) (x : SearchLists) where
       fits-passed (traceShort n) e = tt
 
 module _ (leftTable rightTable : Table) (left-text right-text : List ℕ) (x : SearchLists) where
-  abbrev sizes : List ℕ
-  sizes = jointSizes (leftTable ∷ rightTable ∷ [])
-
   abbrev L : NodeLists
   L = textNodes (textNames leftTable rightTable 1) left-text
 
   abbrev R : NodeLists
   R = textNodes (textNames leftTable rightTable 2) right-text
 
-  legal : textsTests leftTable rightTable left-text right-text x ≡ Passed → Legal sizes L × Legal sizes R
-  unfolding textsTests Each sided
+  abbrev core : List ℕ
+  core = textsCore leftTable rightTable left-text right-text
+
+  legal : textsTests leftTable rightTable left-text right-text x ≡ Passed → Legal core L × Legal core R
+  unfolding textsTests Each
   legal e = let g = policies-legal _ _ _ _ _ (passing _ _ _ _ _ e) in (g .0, g .1 .0)
 
   module _ {v : Verdict} {y : SearchLists} (D : TextsSearched leftTable rightTable left-text right-text x v y) where
@@ -129,7 +128,7 @@ module _ (leftTable rightTable : Table) (left-text right-text : List ℕ) (x : S
 
         go : (t : Tested) → textsTests leftTable rightTable left-text right-text x ≡ t → shown v y ≡ outputAfter t rows a
         go Passed e =
-            ap₂ shown (D .answers ∙ ap (λ (t : Tested). verdictAfter t a) e) (D .leaves ∙ ap (λ (t : Tested). lentAfter t rows a x) e) ∙ lines-passed sizes L R x (legal e) a refl
+            ap₂ shown (D .answers ∙ ap (λ (t : Tested). verdictAfter t a) e) (D .leaves ∙ ap (λ (t : Tested). lentAfter t rows a x) e) ∙ lines-passed core L R x (legal e) a refl
         go (Stopped r) e = ap₂ shown (D .answers ∙ ap (λ (t : Tested). verdictAfter t a) e) (D .leaves ∙ ap (λ (t : Tested). lentAfter t rows a x) e)
 
     pub lines-fit : length (x .packets) ≡ 4096 → length (x .lefts) ≡ 4096 → length (x .rights) ≡ 4096 → length (x .trace) ≡ 4096 → Fits v (y .packets) (y .lefts) (y .rights) (y .trace)
@@ -149,7 +148,7 @@ module _ (leftTable rightTable : Table) (left-text right-text : List ℕ) (x : S
         moved {w} {z} e f h = subst (λ u. FitsIn u y) (sym e) (subst (FitsIn w) (sym f) h)
 
         go : (u : Tested) → textsTests leftTable rightTable left-text right-text x ≡ u → FitsIn v y
-        go Passed e = moved (D .answers ∙ ap (λ (u : Tested). verdictAfter u a) e) (D .leaves ∙ ap (λ (u : Tested). lentAfter u rows a x) e) (fits-passed sizes L R x (legal e) p l r t a refl)
+        go Passed e = moved (D .answers ∙ ap (λ (u : Tested). verdictAfter u a) e) (D .leaves ∙ ap (λ (u : Tested). lentAfter u rows a x) e) (fits-passed core L R x (legal e) p l r t a refl)
         go (Stopped q) e = moved (D .answers ∙ ap (λ (u : Tested). verdictAfter u a) e) (D .leaves ∙ ap (λ (u : Tested). lentAfter u rows a x) e) tt
 
 -- ---- what the first word says
@@ -232,7 +231,7 @@ module _ {leftTable rightTable : Table} {left-text right-text : List ℕ} {v : V
             entering = h .entering;
             trace = h .trace;
             printed = ap₂ (λ t a. outputAfter t (textsRows leftTable rightTable left-text right-text programLent) a) (h .passed) (h .answer);
-            tells = subst (Distinguishes (jointSizes (leftTable ∷ rightTable ∷ [])) (textPolicies leftTable rightTable left-text right-text) s (h .entering)) (trace-left s h) (D .different-tells s (length (h .trace)) (h .entering) (telling-is s h) .tells);
+            tells = subst (TextsTell leftTable rightTable left-text right-text s (h .entering)) (trace-left s h) (D .different-tells s (length (h .trace)) (h .entering) (telling-is s h) .tells);
           }
 
 -- ---- the whole program

@@ -1,18 +1,17 @@
 -- The program's output as a function of its input, and what it says of the two texts (document 01, "The program";
--- document 02, A.4).
+-- document 02, A.4 and A.6). How far two texts agree where rows run out is not printed, and not said here.
 use Prim.Native.Nat.{ℕ}
 use mathlib.Core.List.{List, [], _∷_}
 use mathlib.Core.Path.{_≡_}
 use lib.ListN.{length, replicate, take}
 use Rattle.packet.specs.Refusals.{refusal}
 use Rattle.fields.specs.Tables.{Table, jointSizes}
-use Rattle.policy.specs.Meaning.{SameTracesBelow}
+use Rattle.policy.specs.Meaning.{SameTracesDeclared}
 use Rattle.pair.specs.Sides.{Side}
-use Rattle.pair.specs.Search.{Distinguishes}
 use Rattle.packet.specs.Written.{written}
 use Rattle.search.specs.Call.{SearchLists, lent}
 use Rattle.grammar.specs.Answer.{textTree, textNames}
-use Rattle.search_texts.specs.Call.{textPolicies, textsTests, textsAnswer, textsRows}
+use Rattle.search_texts.specs.Call.{TextsTell, textsTests, textsAnswer, textsRows}
 use Rattle.input.specs.Input.{Asked, malformed, compare, asked}
 use Rattle.printing.specs.InnerWrote.{Wrote}
 use Rattle.printed_verdict.specs.Output.{wordEqual, wordOfSide, refusalLine, tellingLines, outputAfter}
@@ -31,20 +30,16 @@ unfoldable pub programOutput : List ℕ → List ℕ
 programOutput input = outputOf (asked input)
 
 module _ (leftTable rightTable : Table) (left right : List ℕ) where
-  -- both texts have the same traces from every packet of the joint fields
+  -- both texts have the same traces from every declared packet
   abbrev pub TextsSame : Type 0
-  TextsSame = SameTracesBelow (jointSizes (leftTable ∷ rightTable ∷ [])) (textTree (textNames leftTable rightTable 1) left) (textTree (textNames leftTable rightTable 2) right)
-
-  -- the entering packet and trace are in exactly that text; no shorter trace tells the two apart
-  abbrev pub TraceTells : Side → ℕ → List ℕ → Type 0
-  TraceTells s entering trace = Distinguishes (jointSizes (leftTable ∷ rightTable ∷ [])) (textPolicies leftTable rightTable left right) s entering trace
+  TextsSame = SameTracesDeclared (jointSizes (leftTable ∷ rightTable ∷ [])) (textTree (textNames leftTable rightTable 1) left) (textTree (textNames leftTable rightTable 2) right)
 
   -- a telling trace has been printed
   pub record TellingPrinted (s : Side) : Type 0 where
     pub entering : ℕ
     pub trace : List ℕ
     pub printed : outputOf (compare leftTable rightTable left right) ≡ tellingLines s entering trace
-    pub tells : TraceTells s entering trace
+    pub tells : TextsTell leftTable rightTable left right s entering trace
 
   -- the search on two texts has been printed at the front of the output, and what its first word says of them
   pub record Printed (old : List ℕ) (n : ℕ) (new : List ℕ) : Type 0 where
@@ -52,7 +47,7 @@ module _ (leftTable rightTable : Table) (left right : List ℕ) where
     pub equal-same : take (length wordEqual) (outputOf (compare leftTable rightTable left right)) ≡ wordEqual → TextsSame
     pub different-tells : (s : Side) → take (length (wordOfSide s)) (outputOf (compare leftTable rightTable left right)) ≡ wordOfSide s → TellingPrinted s
 
--- the input asks about two texts, and they have the same traces from every packet
+-- the input asks about two texts, and they have the same traces from every declared packet
 pub record SaysSame (input : List ℕ) : Type 0 where
   pub leftTable : Table
   pub rightTable : Table
@@ -61,7 +56,7 @@ pub record SaysSame (input : List ℕ) : Type 0 where
   pub asks : asked input ≡ compare leftTable rightTable left right
   pub same : TextsSame leftTable rightTable left right
 
--- the input asks about two texts, and the entering packet and trace printed are in exactly that one; no shorter trace tells them apart
+-- the input asks about two texts, and the entering packet and trace printed tell them apart over declared packets
 pub record SaysTelling (input : List ℕ) (s : Side) : Type 0 where
   pub leftTable : Table
   pub rightTable : Table
@@ -71,7 +66,7 @@ pub record SaysTelling (input : List ℕ) (s : Side) : Type 0 where
   pub entering : ℕ
   pub trace : List ℕ
   pub printed : programOutput input ≡ tellingLines s entering trace
-  pub tells : TraceTells leftTable rightTable left right s entering trace
+  pub tells : TextsTell leftTable rightTable left right s entering trace
 
 -- The promise of the program, for every input: n bytes are written at the front of the output, and those beyond are kept.
 pub record Answered (input old : List ℕ) (n : ℕ) (new : List ℕ) : Type 0 where

@@ -77,8 +77,8 @@ module _ (ts : List Table) (L R : NodeLists) (packets lefts rights : List ℕ) (
     taken = (length-take-le rows packets (read-long .0), length-take-le rows lefts (read-long .1), length-take-le rows rights (read-long .2))
 
     pub read-asks : {spot : Spot} → spotOf spot ≡ before rows stray
-        → LentTable (take (q .count) (q .sizes)) L R (take rows packets) (take rows lefts) (take rows rights) (q .packets) work × StrayIs L R (take rows packets) (take rows lefts) (take rows rights) (q .packets) spot
-    read-asks {spot} e = (subst (λ (s : List ℕ). LentTable s L R (take rows packets) (take rows lefts) (take rows rights) (q .packets) work) (sym (front .joint passed)) (lent ts L R (take rows packets) (take rows lefts) (take rows rights) work (of-columns (take rows packets) (take rows lefts) (take rows rights) (taken .0) (taken .1) (taken .2)) front passed), record { first = e ∙ first })
+        → LentTable (take (q .count) (q .core)) L R (take rows packets) (take rows lefts) (take rows rights) (q .packets) work × StrayIs L R (take rows packets) (take rows lefts) (take rows rights) (q .packets) spot
+    read-asks {spot} e = (subst (λ (s : List ℕ). LentTable s L R (take rows packets) (take rows lefts) (take rows rights) (q .packets) work) (sym (front .core passed)) (lent ts L R (take rows packets) (take rows lefts) (take rows rights) work (of-columns (take rows packets) (take rows lefts) (take rows rights) (taken .0) (taken .1) (taken .2)) front passed), record { first = e ∙ first })
       where
         first : before rows stray ≡ lowest (strays (take rows packets) (take rows lefts) (take rows rights) (q .packets) (dupsOf L R)) (length (take rows packets))
         first =
@@ -86,12 +86,12 @@ module _ (ts : List Table) (L R : NodeLists) (packets lefts rights : List ℕ) (
             ∙ before-or-end _ rows
             ∙ ap₂ (λ (c n : ℕ). lowest (strays (take rows packets) (take rows lefts) (take rows rights) c (dupsOf L R)) n) (sym (front .packets passed)) (sym (taken .0))
 
-    pub read-answered : {answer : Evidence} {work′ : List ℕ} → TableChecked (take (q .count) (q .sizes)) L R (take rows packets) (take rows lefts) (take rows rights) work answer work′ → ReadChecked ts L R packets lefts rights rows work answer work′
+    pub read-answered : {answer : Evidence} {work′ : List ℕ} → TableChecked (take (q .count) (q .core)) L R (take rows packets) (take rows lefts) (take rows rights) work answer work′ → ReadChecked ts L R packets lefts rights rows work answer work′
     read-answered {answer} {work′} t = record {
       columns = λ P Q S a b c f.
           let g = f pairs-passed read-few in
           table-answered ts L R P Q S work (of-columns P Q S a b c) front passed answer work′
-          (subst (λ (x : List ℕ). TableChecked (take (q .count) (q .sizes)) L R P Q x work answer work′) (g .2)
-          (subst (λ (x : List ℕ). TableChecked (take (q .count) (q .sizes)) L R P x (take rows rights) work answer work′) (g .1)
-          (subst (λ (x : List ℕ). TableChecked (take (q .count) (q .sizes)) L R x (take rows lefts) (take rows rights) work answer work′) (g .0) t)));
+          (subst (λ (x : List ℕ). TableChecked (take (q .count) (q .core)) L R P Q x work answer work′) (g .2)
+          (subst (λ (x : List ℕ). TableChecked (take (q .count) (q .core)) L R P x (take rows rights) work answer work′) (g .1)
+          (subst (λ (x : List ℕ). TableChecked (take (q .count) (q .core)) L R x (take rows lefts) (take rows rights) work answer work′) (g .0) t)));
     }

@@ -303,14 +303,14 @@ pub fn check(
     let tested = found.tested;
     let count = found.packets;
     let fields = found.count;
-    let sizes = found.sizes;
+    let core = found.core;
     match tested {
         Tested::Refused(r) => Evidence::Refused(r),
         Tested::Passed => {
             let dups = wide(found.left_dups, found.right_dups);
             let stray = row_rules::first_stray(packets, lefts, rights, count, dups);
             table_checked(
-                &sizes[..fields],
+                &core[..fields],
                 left_kind,
                 left_first,
                 left_second,
@@ -428,11 +428,11 @@ pub fn check_read(
     let tested = found.tested;
     let count = found.packets;
     let fields = found.count;
-    let sizes = found.sizes;
+    let core = found.core;
     match tested {
         Tested::Refused(r) => Evidence::Refused(r),
         Tested::Passed => table_checked(
-            &sizes[..fields],
+            &core[..fields],
             left_kind,
             left_first,
             left_second,

@@ -7,9 +7,9 @@ use lib.ListN.{length, take}
 use Rattle.packet.specs.Lowest.{lowest}
 use Rattle.packet.specs.Sizes.{product}
 use Rattle.packet.specs.declared.Tested.the-variants.{Passed}
-use Rattle.fields.specs.Tables.{Table, jointSizes}
+use Rattle.fields.specs.Tables.{Table}
 use Rattle.policy.specs.NodeLists.{NodeLists}
-use Rattle.policy.specs.Order.{pairTests}
+use Rattle.policy.specs.Order.{pairCore, pairTests}
 use Rattle.row_rules.specs.Presence.{orEnd, strays}
 use Rattle.records.specs.declared.RowRecord.{RowRecord}
 use Rattle.records.specs.Records.{packetsOf, leftsOf, rightsOf, over, strayIn}
@@ -48,13 +48,13 @@ module _ (room : List ℕ) (long : length room ≡ 65535) where
         )
 
     first-stray : pairTests ts L R ≡ Passed → length rows ≤ 65535
-        → stray ≡ orEnd (length rows) (lowest (strays (take (length rows) packets) (take (length rows) lefts) (take (length rows) rights) (product (jointSizes ts)) (dupsOf L R)) (length rows))
+        → stray ≡ orEnd (length rows) (lowest (strays (take (length rows) packets) (take (length rows) lefts) (take (length rows) rights) (product (pairCore ts L R)) (dupsOf L R)) (length rows))
     first-stray passed l =
         let e = bounds .passed passed l in
         let c = all-read passed l in
         let dups : List ℕ = dupsOf L R in
-        read .0 ∙ (λ i. strayIn (e .0 i) (e .1 i) (e .2 i) rows (e .0 i)) ∙ stray-lowest (length rows) (product (jointSizes ts)) dups rows (length rows) (omega arith)
-        ∙ (λ i. orEnd (length rows) (lowest (strays (sym (c .0) i) (sym (c .1) i) (sym (c .2) i) (product (jointSizes ts)) dups) (length rows)))
+        read .0 ∙ (λ i. strayIn (e .0 i) (e .1 i) (e .2 i) rows (e .0 i)) ∙ stray-lowest (length rows) (product (pairCore ts L R)) dups rows (length rows) (omega arith)
+        ∙ (λ i. orEnd (length rows) (lowest (strays (sym (c .0) i) (sym (c .1) i) (sym (c .2) i) (product (pairCore ts L R)) dups) (length rows)))
 
     -- what the check of the lists asks
     pub read-table : ReadTable ts L R packets lefts rights (length rows) stray

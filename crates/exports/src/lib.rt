@@ -1,11 +1,10 @@
 // The C interface (include/netkat.h): each public call, its answer as eight numbers.
 ghost use mathlib.Core.Path.{_≡_};
 ghost use lib.ListN.{length};
-ghost use Rattle.packet.specs.Packets.{numberOf};
-ghost use Rattle.fields.specs.Tables.{table, tables, tablesAtEntry, jointSizes};
+ghost use Rattle.fields.specs.Tables.{table, tables, tablesAtEntry};
 ghost use Rattle.policy.specs.AsLists.{asLists, policyAtEntry};
 ghost use Rattle.legality.specs.Answers.{policyLegality, pairLegality};
-ghost use Rattle.turning.specs.Turning.{valuesTests, valuesAnswer, valuesLeft, numberTests, numberAnswer};
+ghost use Rattle.turning.specs.Turning.{valuesTests, valuesAnswer, valuesLeft, numberCall};
 ghost use Rattle.search.specs.Call.{lentAtEntry, lentAtExit};
 ghost use Rattle.records.specs.Records.{packetsOf, leftsOf, rightsOf};
 ghost use Rattle.evidence.specs.InnerSteps.{ReadTable};
@@ -22,18 +21,30 @@ pub extern "C" fn netkat_values(
     left_sizes: &[u16],
     right_names: &[u8],
     right_sizes: &[u16],
+    left_kind: &[u8],
+    left_first: &[u16],
+    left_second: &[u16],
+    right_kind: &[u8],
+    right_first: &[u16],
+    right_second: &[u16],
     number: u16,
     values: &mut [u16],
     answer: &mut [u64; 8],
 )
-    ensures numbers { λ _. ⌜ now (answer .exit) ≡ valuesNumbers (valuesAnswer (valuesTests (tablesAtEntry «left_names» «left_sizes» «right_names» «right_sizes») number (length (now (values .entry))))) ⌝ }
-    ensures list { λ _. ⌜ now (values .exit) ≡ valuesLeft (tablesAtEntry «left_names» «left_sizes» «right_names» «right_sizes») number (now (values .entry)) ⌝ }
+    ensures numbers { λ _. ⌜ now (answer .exit) ≡ valuesNumbers (valuesAnswer (valuesTests (tablesAtEntry «left_names» «left_sizes» «right_names» «right_sizes») (policyAtEntry «left_kind» «left_first» «left_second») (policyAtEntry «right_kind» «right_first» «right_second») number (length (now (values .entry))))) ⌝ }
+    ensures list { λ _. ⌜ now (values .exit) ≡ valuesLeft (tablesAtEntry «left_names» «left_sizes» «right_names» «right_sizes») (policyAtEntry «left_kind» «left_first» «left_second») (policyAtEntry «right_kind» «right_first» «right_second») number (now (values .entry)) ⌝ }
 {
     *answer = answer_numbers::of_values(turning::values_of(
         left_names,
         left_sizes,
         right_names,
         right_sizes,
+        left_kind,
+        left_first,
+        left_second,
+        right_kind,
+        right_first,
+        right_second,
         number,
         values,
     ));
@@ -46,16 +57,28 @@ pub extern "C" fn netkat_number(
     left_sizes: &[u16],
     right_names: &[u8],
     right_sizes: &[u16],
+    left_kind: &[u8],
+    left_first: &[u16],
+    left_second: &[u16],
+    right_kind: &[u8],
+    right_first: &[u16],
+    right_second: &[u16],
     values: &[u16],
     answer: &mut [u64; 8],
 )
-    ensures { λ _. ⌜ now (answer .exit) ≡ numberNumbers (numberAnswer (numberTests (tablesAtEntry «left_names» «left_sizes» «right_names» «right_sizes») (now (values .entry))) (numberOf (jointSizes (tablesAtEntry «left_names» «left_sizes» «right_names» «right_sizes»)) (now (values .entry)))) ⌝ }
+    ensures { λ _. ⌜ now (answer .exit) ≡ numberNumbers (numberCall (tablesAtEntry «left_names» «left_sizes» «right_names» «right_sizes») (policyAtEntry «left_kind» «left_first» «left_second») (policyAtEntry «right_kind» «right_first» «right_second») (now (values .entry))) ⌝ }
 {
     *answer = answer_numbers::of_number(turning::number_of(
         left_names,
         left_sizes,
         right_names,
         right_sizes,
+        left_kind,
+        left_first,
+        left_second,
+        right_kind,
+        right_first,
+        right_second,
         values,
     ));
 }

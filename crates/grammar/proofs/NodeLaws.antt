@@ -85,7 +85,7 @@ pub derived-unlabelled : {ts : List Token} {p : Policy} → Sum ts p → unlabel
 derived-unlabelled d = sum-bare d .same
 
 passes : (number side : ℕ) (L : NodeLists) (place : NodeLists → Option ℕ) → place L ≡ none → cause number place (sided side L ∷ []) ≡ Passed
-unfolding cause firstOf refusedAt sided
+unfolding cause firstOf refusedAt
 passes number side L place e = rw e
 
 four-pass : (a b c d f g h : Tested) → a ≡ Passed → b ≡ Passed → d ≡ Passed → f ≡ Passed → firstOf (a ∷ b ∷ c ∷ d ∷ f ∷ g ∷ h ∷ []) ≡ firstOf (c ∷ g ∷ h ∷ [])
@@ -105,7 +105,7 @@ module _ (names : List (List ℕ)) (text : List ℕ) (room n : ℕ) (e : answerT
       ∷ cause 19 (λ L. lowest (badNegation L) (nodeCount L)) (sided side (nodesOf (textTree names text)) ∷ [])
       ∷ cause 9 (λ L. lowest (tooManyDups L) (nodeCount L)) (sided side (nodesOf (textTree names text)) ∷ [])
       ∷ [])
-  unfolding policiesStage causes sided atPlace
+  unfolding policiesStage causes atPlace
   causes-remaining sizes side =
       let L = nodesOf (textTree names text) in
       four-pass _ _ _ _ _ _ _

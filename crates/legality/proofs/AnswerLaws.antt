@@ -5,7 +5,8 @@ use mathlib.Core.List.{List, [], _∷_, map}
 use mathlib.Core.Option.{Option, none, some}
 use mathlib.Core.Path.{_≡_, refl, sym, ap, ap₂, _∙_}
 use native.Mathlib.Omega.{arith}
-use lib.ListN.{length, take}
+use lib.ListN.{length, take, replicate, length-replicate}
+use lib.Seq.{length-take-le}
 use borrow.Author.Tests.{ne-eqb, lt-ltb, le-ltb}
 use Rattle.packet.specs.Lowest.{orAt, lowest, optionOf}
 use Rattle.packet.specs.Refusals.{refusal, refusedAt, atPlace, atZero, firstOf}
@@ -14,7 +15,7 @@ use Rattle.packet.specs.declared.Counted.{Counted}
 use Rattle.packet.specs.declared.Refusal.{Refusal}
 use Rattle.packet.specs.declared.Tested.{Tested}
 use Rattle.packet.specs.declared.Tested.the-variants.{Passed, Refused}
-use Rattle.packet.proofs.Legal.{passed-legal}
+use Rattle.packet.proofs.Legal.{fields-legal, sizes-legal}
 use Rattle.packet.proofs.Lowest.{lowest-none}
 use Rattle.packet.proofs.Stages.{firstOf-last, firstOf-refused, firstOf-next, firstOf-nested, firstOf-append, firstOf-passed, refusedAt-passed, atPlace-none, refused≢passed}
 use Rattle.fields.specs.declared.Joint.{Joint}
@@ -29,11 +30,14 @@ use Rattle.policy.specs.AsLists.{asLists}
 use Rattle.policy.specs.InnerEach.{Each}
 use Rattle.policy.specs.NodeLists.{NodeLists, nodeCount, nodeOf, nodeAt, children, one, isDup, dupsBelow}
 use Rattle.policy.specs.Legality.{badLengths, badKind, used, wrongEntries, badEntries, someNotBelow, badChild, notOnce, negatesOther, badNegation, tooManyDups, Legal}
-use Rattle.policy.specs.Order.{inOrder, Cause, causes, Sided, sided, cause, policiesStage, stagesOf, policyTests, pairTests, oneOr, placeAmong, causePlace}
+use Rattle.policy.specs.Mentions.{isOfField, mentionedBelow, mentioned, coreSizes}
+use Rattle.policy.specs.Order.{inOrder, Cause, causes, Sided, sided, cause, policiesStage, pairCore, stagesOf, policyTests, pairTests, oneOr, placeAmong, causePlace}
 use Rattle.node_causes.specs.Lengths.{SameLengths}
 use Rattle.tree_causes.specs.Counting.{CountableChildren, DupCountOf}
-use Rattle.legality.specs.Answers.{policyAnswer, pairAnswer, policyLegality, pairLegality, nodesStage, treeStage, TestedAs, PolicyTestedAs, earlierIf, earlier, earlierOf, dropNodes, FrontOf}
+use Rattle.legality.specs.Answers.{policyAnswer, pairAnswer, policyLegality, pairLegality, nodesStage, treeStage, TestedAs, PolicyTestedAs, earlierIf, earlier, earlierOf, dropNodes, FrontOf, CoreWherePassed}
 use Rattle.policy.proofs.LegalityLaws.{Lengths, lengths, stage-passes}
+use Rattle.policy.proofs.MentionLaws.{core-same}
+use Rattle.mentions.specs.Noting.{CoreSizesOf}
 use Rattle.policy.proofs.OrderLaws.{Passing, passing, after-tables}
 
 -- ---- orders of tests within orders
@@ -62,7 +66,7 @@ together : List Sided → List Cause → List Tested
 together ps cs = map (λ (c : Cause). cause (c .0) (c .1) ps) cs
 
 one-policy : (side : ℕ) (L : NodeLists) (cs : List Cause) → firstOf (together (sided side L ∷ []) cs) ≡ firstOf (alone side L cs)
-unfolding together alone cause sided
+unfolding together alone cause
 one-policy side L [] = refl
 one-policy side L (c ∷ cs) =
     let t = refusedAt (c .0) side (c .1 L) in
@@ -121,7 +125,7 @@ module _ (n a b : ℕ) where
 
 two-policies : (n a b : ℕ) (L R : NodeLists) (cs : List Cause) → Rising n cs
     → firstOf (together (sided a L ∷ sided b R ∷ []) cs) ≡ earlierOf (firstOf (alone a L cs)) (firstOf (alone b R cs))
-unfolding together alone Rising cause sided earlierOf firstOf After
+unfolding together alone Rising cause earlierOf firstOf After
 two-policies n a b L R [] h = refl
 two-policies n a b L R (c ∷ cs) h =
     let t = refusedAt (c .0) a (c .1 L) in
@@ -276,41 +280,79 @@ module _ (kind first second : List ℕ) (side : ℕ) {o g n i t : Tested} {x y :
 
 -- ---- the calls
 
+-- the sizes of the joint fields, as they were joined
+pub few-taken : (ts : List Table) (J : Joint) → JointOf ts J → length (take (J .count) (J .sizes)) ≤ 8
+few-taken ts J joint = omega (arith, length-take-le (J .count) (J .sizes) (omega (arith, joint .few, joint .space)), joint .few)
+
+legal-lengths : {sizes : List ℕ} {L : NodeLists} → Legal sizes L → SameLengths L
+legal-lengths g = record { firsts = g .wellFormed .firsts; seconds = g .wellFormed .seconds }
+
+-- the policies as they were tested, over any sizes
+module _ (sizes : List ℕ) (side : ℕ) (L R : NodeLists) {a b : PolicyTested} (left : PolicyTestedAs sizes side L a) (right : PolicyTestedAs sizes 2 R b) {p : Tested} (both : p ≡ earlierOf (a .tested) (b .tested)) where
+  two-tested : p ≡ policiesStage sizes (sided side L ∷ sided 2 R ∷ [])
+  two-tested = both ∙ ap₂ earlierOf (left .tested) (right .tested) ∙ sym (stage-two sizes side 2 L R)
+
+  pub both-lengths : p ≡ Passed → SameLengths L × SameLengths R
+  unfolding Each
+  both-lengths e = let g = stage-passes sizes _ .0 (sym two-tested ∙ e) in (legal-lengths (g .0), legal-lengths (g .1 .0))
+
+-- the core sizes where the policies pass
+pub core-passed : (policies : Tested) (sizes leftKind leftFirst leftSecond rightKind rightFirst rightSecond core : List ℕ) → CoreSizesOf sizes leftKind leftFirst rightKind rightFirst core
+    → CoreWherePassed policies (asLists leftKind leftFirst leftSecond) (asLists rightKind rightFirst rightSecond) sizes core
+core-passed policies sizes leftKind leftFirst leftSecond rightKind rightFirst rightSecond core h = record { room = h .room; core-sizes = λ _. h .core-sizes leftSecond rightSecond }
+
+pub core-refused : (policies : Tested) {r : Refusal} (L R : NodeLists) (sizes : List ℕ) → policies ≡ Refused r → CoreWherePassed policies L R sizes (replicate 8 1)
+core-refused policies L R sizes e = record { room = length-replicate {A = ℕ} 8 1; core-sizes = λ p. absurd (refused≢passed (sym e ∙ p)) }
+
 -- the tests as they were made
-module _ (ts : List Table) (side : ℕ) (L R : NodeLists) (lists : Tested) {J : Joint} (joint : JointOf ts J) {c : Counted} (counted : CountOf (take (J .count) (J .sizes)) c)
+module _ (ts : List Table) (side : ℕ) (L R : NodeLists) (lists : Tested) {J : Joint} (joint : JointOf ts J)
     {a b : PolicyTested} (left : PolicyTestedAs (take (J .count) (J .sizes)) side L a) (right : PolicyTestedAs (take (J .count) (J .sizes)) 2 R b)
-    {p t : Tested} (both : p ≡ earlierOf (a .tested) (b .tested))
-    (made : t ≡ inOrder (record { fields = J .tested; product = c .tested; texts = Passed; policies = p; lists = lists; packets = Passed })) where
+    {p t : Tested} (both : p ≡ earlierOf (a .tested) (b .tested)) (core : List ℕ) (where-passed : CoreWherePassed p L R (take (J .count) (J .sizes)) core) {c : Counted} (counted : CountOf (take (J .count) core) c)
+    (made : t ≡ inOrder (record { fields = J .tested; texts = Passed; policies = p; product = c .tested; lists = lists; packets = Passed })) where
   abbrev policies : List Sided
   policies = sided side L ∷ sided 2 R ∷ []
 
-  two-tested : p ≡ policiesStage (take (J .count) (J .sizes)) policies
-  two-tested = both ∙ ap₂ earlierOf (left .tested) (right .tested) ∙ sym (stage-two (take (J .count) (J .sizes)) side 2 L R)
+  long : length (take (J .count) (J .sizes)) ≡ J .count
+  long = length-take-le (J .count) (J .sizes) (omega (arith, joint .few, joint .space))
+
+  core-is : J .tested ≡ Passed → p ≡ Passed → take (J .count) core ≡ pairCore ts L R
+  core-is e f =
+      ap (λ n. take n core) (sym long)
+      ∙ where-passed .core-sizes f
+      ∙ ap (coreSizes (L ∷ R ∷ [])) (joint .sized e)
 
   front-made : t ≡ inOrder (stagesOf ts Passed policies lists Passed)
   front-made =
       made
-      ∙ after-tables ts Passed policies lists Passed (joint .tested) (λ e. counted .says ∙ ap productStage (joint .sized e))
-      (λ e. two-tested ∙ ap (λ (s : List ℕ). policiesStage s policies) (joint .sized e))
+      ∙ after-tables ts Passed policies lists Passed (joint .tested) (λ e. two-tested _ side L R left right both ∙ ap (λ (s : List ℕ). policiesStage s policies) (joint .sized e))
+      (λ e f. counted .says ∙ ap productStage (core-is e f))
 
   module _ (e : t ≡ Passed) where
     all-pass : Passing ts Passed policies lists Passed
     all-pass = passing _ _ _ _ _ (sym front-made ∙ e)
 
+    tables-pass : J .tested ≡ Passed
+    tables-pass = joint .tested ∙ all-pass .fields
+
     sizes-are : take (J .count) (J .sizes) ≡ jointSizes ts
-    sizes-are = joint .sized (joint .tested ∙ all-pass .fields)
+    sizes-are = joint .sized tables-pass
+
+    policies-pass : p ≡ Passed
+    policies-pass = two-tested _ side L R left right both ∙ ap (λ (s : List ℕ). policiesStage s policies) sizes-are ∙ all-pass .policies-pass
+
+    core-sizes-are : take (J .count) core ≡ pairCore ts L R
+    core-sizes-are = core-is tables-pass policies-pass
 
     each-passed : (policiesStage (take (J .count) (J .sizes)) (sided side L ∷ []) ≡ Passed) × (policiesStage (take (J .count) (J .sizes)) (sided 2 R ∷ []) ≡ Passed)
-    each-passed =
-        both-passed _ _
-        (sym (stage-two (take (J .count) (J .sizes)) side 2 L R) ∙ ap (λ (s : List ℕ). policiesStage s policies) sizes-are ∙ all-pass .policies-pass)
+    each-passed = both-passed _ _ (sym (ap₂ earlierOf (left .tested) (right .tested)) ∙ sym both ∙ policies-pass)
 
-  pub is-front : FrontOf ts side L R lists (record { tested = t; count = J .count; sizes = J .sizes; packets = c .packets; «left_dups» = a .dups; «right_dups» = b .dups })
+  pub is-front : FrontOf ts side L R lists (record { tested = t; count = J .count; sizes = J .sizes; core = core; packets = c .packets; «left_dups» = a .dups; «right_dups» = b .dups })
   is-front = record {
     tested = front-made;
-    few = omega (arith, joint .few, joint .space);
+    few = (omega (arith, joint .few, joint .space), omega (arith, joint .few, where-passed .room));
     joint = sizes-are;
-    packets = λ e. counted .counts (ap productStage (sizes-are e) ∙ all-pass e .product) ∙ ap product (sizes-are e);
+    core = core-sizes-are;
+    packets = λ e. counted .counts (ap productStage (core-sizes-are e) ∙ all-pass e .product) ∙ ap product (core-sizes-are e);
     left-dups = λ e. left .counts (each-passed e .0);
     right-dups = λ e. right .counts (each-passed e .1);
   }
@@ -318,7 +360,7 @@ module _ (ts : List Table) (side : ℕ) (L R : NodeLists) (lists : Tested) {J : 
 -- ---- drop for a policy that a call lacks
 
 drop-passes : (sizes : List ℕ) (side : ℕ) → policiesStage sizes (sided side dropNodes ∷ []) ≡ Passed
-unfolding policiesStage causes cause sided firstOf refusedAt atPlace lowest badLengths badKind badEntries wrongEntries used badChild someNotBelow children nodeAt nodeOf nodeCount notOnce badNegation tooManyDups orAt negatesOther dupsBelow one isDup
+unfolding policiesStage causes cause firstOf refusedAt atPlace lowest badLengths badKind badEntries wrongEntries used badChild someNotBelow children nodeAt nodeOf nodeCount notOnce badNegation tooManyDups orAt negatesOther dupsBelow one isDup
 drop-passes sizes side = refl
 
 earlier-passed : (t : Tested) → earlierOf t Passed ≡ t
@@ -329,21 +371,16 @@ earlier-passed (Refused r) = refl
 with-drop : (sizes : List ℕ) (side : ℕ) (L : NodeLists) → policiesStage sizes (sided side L ∷ sided 2 dropNodes ∷ []) ≡ policiesStage sizes (sided side L ∷ [])
 with-drop sizes side L = stage-two sizes side 2 L dropNodes ∙ ap (earlierOf (policiesStage sizes (sided side L ∷ []))) (drop-passes sizes 2) ∙ earlier-passed _
 
-no-policies : (sizes : List ℕ) → Passed ≡ policiesStage sizes []
-unfolding policiesStage causes cause firstOf
-no-policies sizes = refl
+core-with-drop : (sizes : List ℕ) (L : NodeLists) → coreSizes (L ∷ dropNodes ∷ []) sizes ≡ coreSizes (L ∷ []) sizes
+unfolding mentioned mentionedBelow isOfField nodeAt nodeOf nodeCount
+core-with-drop sizes L = core-same (L ∷ dropNodes ∷ []) (L ∷ []) (λ f. refl) sizes
 
-module _ (ts : List Table) (texts lists packets : Tested) where
-  same-policies : (ps qs : List Sided) → policiesStage (jointSizes ts) ps ≡ policiesStage (jointSizes ts) qs
-      → inOrder (stagesOf ts texts ps lists packets) ≡ inOrder (stagesOf ts texts qs lists packets)
-  unfolding stagesOf
-  same-policies ps qs e = ap (λ (p : Tested). inOrder (record { fields = tablesStage ts; product = productStage (jointSizes ts); texts = texts; policies = p; lists = lists; packets = packets })) e
-
-  pub one-policy-only : (side : ℕ) (L : NodeLists) → inOrder (stagesOf ts texts (sided side L ∷ sided 2 dropNodes ∷ []) lists packets) ≡ inOrder (stagesOf ts texts (sided side L ∷ []) lists packets)
-  one-policy-only side L = same-policies _ _ (with-drop (jointSizes ts) side L)
-
-  pub no-policy : (side : ℕ) → inOrder (stagesOf ts texts (sided side dropNodes ∷ sided 2 dropNodes ∷ []) lists packets) ≡ inOrder (stagesOf ts texts [] lists packets)
-  no-policy side = same-policies _ _ (with-drop (jointSizes ts) side dropNodes ∙ drop-passes (jointSizes ts) side ∙ no-policies (jointSizes ts))
+-- drop is legal and mentions nothing
+one-policy-only : (ts : List Table) (texts lists packets : Tested) (side : ℕ) (L : NodeLists) → inOrder (stagesOf ts texts (sided side L ∷ sided 2 dropNodes ∷ []) lists packets) ≡ inOrder (stagesOf ts texts (sided side L ∷ []) lists packets)
+unfolding stagesOf
+one-policy-only ts texts lists packets side L =
+    ap₂ (λ (p q : Tested). inOrder (record { fields = tablesStage ts; texts = texts; policies = p; product = q; lists = lists; packets = packets }))
+    (with-drop (jointSizes ts) side L) (ap productStage (core-with-drop (jointSizes ts) L))
 
 -- ---- the answers
 
@@ -379,9 +416,9 @@ module _ (ts : List Table) (L R : NodeLists) {q : CallTested} (f : FrontOf ts 1 
 
 pub stages-legal : (sizes : List ℕ) (side : ℕ) (L : NodeLists) {r u p q : Tested} → q ≡ productStage sizes → p ≡ policiesStage sizes (sided side L ∷ []) → u ≡ firstOf (q ∷ p ∷ []) → r ≡ firstOf (fieldsStage sizes ∷ u ∷ [])
     → r ≡ Passed → LegalSizes sizes × Legal sizes L × (productStage sizes ≡ Passed)
-unfolding Each sided
+unfolding Each
 stages-legal sizes side L c a b e h =
     let f = firstOf-passed _ _ (sym e ∙ h) in
     let g = firstOf-passed _ _ (sym b ∙ firstOf-passed _ _ (f .1) .0) in
     let product = sym c ∙ g .0 in
-    (passed-legal sizes (f .0) product, stage-passes sizes _ .0 (sym a ∙ firstOf-passed _ _ (g .1) .0) .0, product)
+    (sizes-legal sizes (fields-legal sizes (f .0)) product, stage-passes sizes _ .0 (sym a ∙ firstOf-passed _ _ (g .1) .0) .0, product)

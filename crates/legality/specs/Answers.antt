@@ -21,7 +21,8 @@ use Rattle.legality.specs.declared.CallTested.{CallTested}
 use Rattle.policy.specs.AsLists.{asLists}
 use Rattle.policy.specs.NodeLists.{NodeLists, nodeCount, dupsBelow}
 use Rattle.policy.specs.Legality.{badKind, badEntries, badChild, notOnce, badNegation, tooManyDups}
-use Rattle.policy.specs.Order.{inOrder, sided, policiesStage, stagesOf, policyTests, pairTests, causePlace}
+use Rattle.policy.specs.Mentions.{coreSizes}
+use Rattle.policy.specs.Order.{inOrder, sided, policiesStage, pairCore, stagesOf, policyTests, pairTests, causePlace}
 
 -- each answer's number and values: a refusal's are its own, a legal policy has its number of dups
 unfoldable pub policyAnswer : Tested → ℕ → PolicyAnswer
@@ -85,12 +86,18 @@ earlierOf (Refused p) (Refused q) = Refused (earlier p q)
 abbrev pub dropNodes : NodeLists
 dropNodes = asLists (0 ∷ []) (0 ∷ []) (0 ∷ [])
 
--- What a call is told: the first cause, `side` being what the left policy's refusals name and `lists` what stage "lists" says; the joint sizes, N
--- and the dups of each policy where none holds.
+-- What a call is told: the first cause, `side` being what the left policy's refusals name and `lists` what stage "lists" says; the joint sizes, the core
+-- sizes, N and the dups of each policy where none holds.
 pub record FrontOf (ts : List Table) (side : ℕ) (L R : NodeLists) (lists : Tested) (r : CallTested) : Type 0 where
   pub tested : r .tested ≡ inOrder (stagesOf ts Passed (sided side L ∷ sided 2 R ∷ []) lists Passed)
-  pub few : r .count ≤ length (r .sizes)
+  pub few : (r .count ≤ length (r .sizes)) × (r .count ≤ length (r .core))
   pub joint : r .tested ≡ Passed → take (r .count) (r .sizes) ≡ jointSizes ts
-  pub packets : r .tested ≡ Passed → r .packets ≡ product (jointSizes ts)
+  pub core : r .tested ≡ Passed → take (r .count) (r .core) ≡ pairCore ts L R
+  pub packets : r .tested ≡ Passed → r .packets ≡ product (pairCore ts L R)
   pub left-dups : r .tested ≡ Passed → r .«left_dups» ≡ dupsBelow L (nodeCount L)
   pub right-dups : r .tested ≡ Passed → r .«right_dups» ≡ dupsBelow R (nodeCount R)
+
+-- what 3 is tested over: the core sizes where the policies pass
+pub record CoreWherePassed (policies : Tested) (L R : NodeLists) (sizes core : List ℕ) : Type 0 where
+  pub room : length core ≡ 8
+  pub core-sizes : policies ≡ Passed → take (length sizes) core ≡ coreSizes (L ∷ R ∷ []) sizes

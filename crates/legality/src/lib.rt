@@ -1,13 +1,15 @@
 // Which node lists are legal: the causes of a policy in their order, the front of all calls but the reader, and the public calls that say so.
+ghost use Prim.Native.Nat.{_≤_};
 ghost use mathlib.Core.Path.{_≡_};
 ghost use lib.ListN.{length};
+ghost use Rattle.packet.specs.declared.Tested.the-variants.{Passed};
 ghost use Rattle.fields.specs.Tables.{tablesAtEntry};
 ghost use Rattle.policy.specs.AsLists.{asLists, policyAtEntry};
 ghost use Rattle.policy.specs.NodeLists.{dupsBelow};
 ghost use Rattle.policy.specs.Order.{causePlace};
 ghost use Rattle.node_causes.specs.Lengths.{SameLengths};
 ghost use Rattle.tree_causes.specs.Counting.{CountableChildren};
-ghost use Rattle.legality.specs.Answers.{nodesStage, treeStage, TestedAs, PolicyTestedAs, earlierOf, FrontOf, policyLegality, pairLegality};
+ghost use Rattle.legality.specs.Answers.{nodesStage, treeStage, TestedAs, PolicyTestedAs, earlierOf, FrontOf, CoreWherePassed, policyLegality, pairLegality};
 use packet::Refusal;
 use packet::Tested;
 use policy::order::Stages;
@@ -30,11 +32,12 @@ pub struct PolicyTested {
     pub dups: u8,
 }
 
-// What the causes of a call say, beside the joint sizes, N and the dups of each policy, which count where they pass.
+// What the causes of a call say, beside the joint sizes, the core sizes, N and the dups of each policy, which count where they pass.
 pub struct CallTested {
     pub tested: Tested,
     pub count: usize,
     pub sizes: [u16; 8],
+    pub core: [u16; 8],
     pub packets: u16,
     pub left_dups: u8,
     pub right_dups: u8,
@@ -129,6 +132,33 @@ fn earlier(left: Tested, right: Tested) -> Tested
     }
 }
 
+// The core sizes where the policies pass; elsewhere 3 is not reached, and any sizes serve.
+fn core_where_passed(
+    policies: Tested,
+    sizes: &[u16],
+    left_kind: &[u8],
+    left_first: &[u16],
+    left_second: &[u16],
+    right_kind: &[u8],
+    right_first: &[u16],
+    right_second: &[u16],
+) -> [u16; 8]
+    requires { ⌜ length (now sizes) ≤ 8 ⌝ }
+    requires { ⌜ (policies ≡ Passed → SameLengths (asLists (now «left_kind») (now «left_first») (now «left_second»)) × SameLengths (asLists (now «right_kind») (now «right_first») (now «right_second»))) ⌝ }
+    ensures { λ r. ⌜ CoreWherePassed policies (policyAtEntry «left_kind» «left_first» «left_second») (policyAtEntry «right_kind» «right_first» «right_second») (now (sizes .entry)) r ⌝ }
+{
+    match policies {
+        Tested::Refused(_) => [1; 8],
+        Tested::Passed => mentions::core_sizes(
+            sizes,
+            left_kind,
+            left_first,
+            right_kind,
+            right_first,
+        ),
+    }
+}
+
 // Inner: the causes of a call in their order, `side` being what the left policy's refusals name and `lists` what stage "lists" says. Every call
 // but the reader goes through here: one with fewer policies hands over drop, which is legal, and one with packets tests them after.
 pub fn front(
@@ -150,19 +180,29 @@ pub fn front(
     let joint = fields::join(left_names, left_sizes, right_names, right_sizes);
     let count = joint.count;
     let sizes = joint.sizes;
-    let counted = packet::packet_count(&sizes[..count]);
     let left = policy_stage(&sizes[..count], side, left_kind, left_first, left_second);
     let right = policy_stage(&sizes[..count], 2, right_kind, right_first, right_second);
     let fields = joint.tested;
-    let product = counted.tested;
     let left_says = left.tested;
     let right_says = right.tested;
     let policies = earlier(left_says, right_says);
+    let core = core_where_passed(
+        policies,
+        &sizes[..count],
+        left_kind,
+        left_first,
+        left_second,
+        right_kind,
+        right_first,
+        right_second,
+    );
+    let counted = packet::packet_count(&core[..count]);
+    let product = counted.tested;
     let tested = policy::order::in_order(Stages {
         fields,
-        product,
         texts: Tested::Passed,
         policies,
+        product,
         lists,
         packets: Tested::Passed,
     });
@@ -170,6 +210,7 @@ pub fn front(
         tested,
         count,
         sizes,
+        core,
         packets: counted.packets,
         left_dups: left.dups,
         right_dups: right.dups,

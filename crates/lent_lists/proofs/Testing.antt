@@ -11,8 +11,10 @@ use Rattle.packet.specs.Refusals.{refusedAt, atPlace, atZero}
 use Rattle.packet.specs.Sizes.{LegalSizes}
 use Rattle.packet.proofs.Stages.{refusedAt-passed, atPlace-none}
 use Rattle.packet.proofs.Tests.{or-false}
-use Rattle.fields.specs.Tables.{Table, jointSizes}
-use Rattle.policy.specs.Order.{inOrder, sided, stagesOf, pairOf, pairTests}
+use Rattle.fields.specs.Tables.{Table}
+use Rattle.policy.specs.Order.{inOrder, stagesOf, pairOf, pairTests, pairCore}
+use Rattle.classes.proofs.Pairs.{LegalPair, passing-pair, OnClasses, left-named, right-named}
+use Rattle.pair.specs.Sides.{Side, left, right, at, policies}
 use Rattle.legality.specs.declared.CallTested.{CallTested}
 use Rattle.legality.specs.Answers.{FrontOf}
 use Rattle.policy.specs.InnerEach.{Each}
@@ -32,6 +34,12 @@ lists-stage work e t = t ∙ ap (λ (w : Bool). refusedAt 10 0 (atZero (w || ltb
 
 -- ---- the causes up to 10
 
+-- each side's policy names values that are alone in their classes
+pub side-named : (ts : List Table) (L R : NodeLists) → LegalPair ts L R → (s : Side) → OnClasses ts L R (at s (policies L R) .tree)
+unfolding at
+side-named ts L R g left = left-named ts L R g
+side-named ts L R g right = right-named ts L R g
+
 module _ (ts : List Table) (L R : NodeLists) (lists : Tested) where
   -- the tests as they were made
   pub front-tests : {said : Tested} {q : CallTested} → said ≡ lists → FrontOf ts 1 L R said q → q .tested ≡ lentTests ts L R lists
@@ -40,17 +48,18 @@ module _ (ts : List Table) (L R : NodeLists) (lists : Tested) where
 
   -- what holds where the causes before 10 pass
   pub record LegalCall : Type 0 where
-    pub legal-sizes : LegalSizes (jointSizes ts)
-    pub left-legal : Legal (jointSizes ts) L
-    pub right-legal : Legal (jointSizes ts) R
+    pub legal-sizes : LegalSizes (pairCore ts L R)
+    pub left-legal : Legal (pairCore ts L R) L
+    pub right-legal : Legal (pairCore ts L R) R
+    pub pair : LegalPair ts L R
     pub passed : lists ≡ Passed
 
   pub tests-passed : lentTests ts L R lists ≡ Passed → LegalCall
-  unfolding lentTests Each sided
+  unfolding lentTests Each
   tests-passed e =
       let h = passing _ _ _ _ _ e in
       let g = policies-legal _ _ _ _ _ h in
-      record { legal-sizes = sizes-legal _ _ _ _ _ h; left-legal = g .0; right-legal = g .1 .0; passed = h .lists-pass }
+      record { legal-sizes = sizes-legal _ _ _ _ _ h; left-legal = g .0; right-legal = g .1 .0; pair = passing-pair ts L R _ _ _ h; passed = h .lists-pass }
 
   -- two policies that the causes before 10 let pass, and lists that 10 lets pass
   pub pair-lent : pairTests ts L R ≡ Passed → lists ≡ Passed → lentTests ts L R lists ≡ Passed

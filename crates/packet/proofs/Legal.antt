@@ -25,9 +25,15 @@ use Rattle.packet.proofs.Stages.{firstOf-passed, refusedAt-passed, atPl
 last-running : (sizes : List ℕ) → 0 < length sizes → product (take (suc (pred (length sizes))) sizes) ≡ product sizes
 last-running sizes h = ap product (take-all (suc (pred (length sizes))) sizes (omega arith))
 
-pub passed-legal : (sizes : List ℕ) → fieldsStage sizes ≡ Passed → productStage sizes ≡ Passed → LegalSizes sizes
-unfolding fieldsStage productStage badCount zeroSize productOver
-passed-legal sizes p q = record { some = some; few = ltb-false 8 (length sizes) (count .1); positive = positive; small = small }
+-- what causes 1 and 2 ask
+pub record LegalFields (sizes : List ℕ) : Type 0 where
+  pub some : 0 < length sizes
+  pub few : length sizes ≤ 8
+  pub positive : (i : ℕ) → i < length sizes → 0 < getD sizes i 0
+
+pub fields-legal : (sizes : List ℕ) → fieldsStage sizes ≡ Passed → LegalFields sizes
+unfolding fieldsStage badCount zeroSize
+fields-legal sizes p = record { some = some; few = ltb-false 8 (length sizes) (count .1); positive = positive }
   where
     tests : (refusedAt 1 0 (atZero (badCount sizes)) ≡ Passed) × (firstOf (refusedAt 2 0 (lowest (zeroSize sizes) (length sizes)) ∷ []) ≡ Passed)
     tests = firstOf-passed _ _ p
@@ -43,10 +49,15 @@ passed-legal sizes p q = record { some = some; few = ltb-false 8 (length sizes) 
         let n : (getD sizes i 0 ≡ 0 → ⊥) = eqb-false (getD sizes i 0) 0 (lowest-none _ _ (refusedAt-passed 2 0 _ (firstOf-passed _ _ (tests .1) .0)) i h) in
         omega (arith, n)
 
+-- and cause 3
+pub sizes-legal : (sizes : List ℕ) → LegalFields sizes → productStage sizes ≡ Passed → LegalSizes sizes
+unfolding productStage productOver
+sizes-legal sizes h q = record { some = h .some; few = h .few; positive = h .positive; small = small }
+  where
     small : product sizes ≤ 1024
     small =
-        subst (λ (n : ℕ). n ≤ 1024) (last-running sizes some)
-        (ltb-false 1024 _ (lowest-none _ _ (refusedAt-passed 3 0 _ q) (pred (length sizes)) (omega (arith, some))))
+        subst (λ (n : ℕ). n ≤ 1024) (last-running sizes (h .some))
+        (ltb-false 1024 _ (lowest-none _ _ (refusedAt-passed 3 0 _ q) (pred (length sizes)) (omega (arith, h .some))))
 
 pub product-positive : (sizes : List ℕ) → ((i : ℕ) → i < length sizes → 0 < getD sizes i 0) → 0 < product sizes
 unfolding product

@@ -1,16 +1,44 @@
--- Transport: along a map r that respects a policy, its traces from r α are the images of its traces from α.
+-- Transport: along a map r, the traces of a policy from r α are the images of the traces that the policy with other actions has from α, where r
+-- carries each of those actions to the policy's own.
 use Prim.Native.Nat.{ℕ, zero, suc, _≤_}
+use mathlib.Core.Bool.{Bool}
 use mathlib.Core.List.{[], _∷_, _++_, map, map-append}
 use mathlib.Core.Logic.{_⊎_, inl, inr, ⊎-elim, _↔_}
 use mathlib.Core.Path.{_≡_, refl, sym, ap, ap₂, _∙_, subst}
+use lib.Dec.{T}
 use lib.ListN.{length, length-map}
 use Rattle.policy.specs.declared.FieldAction.{FieldAction}
-use Rattle.policy.specs.declared.FieldAction.the-variants.{Equals, Differs, Set}
 use Rattle.policy.specs.Tree.{Policy, drop, id, field, dup, sum, seq, star, neg}
 use Rattle.policy.specs.Meaning.{Packets, TraceSet, ActionTraces, Seq, Power, Drops, Traces, SameShortTraces}
 use Rattle.policy.specs.InnerEach.{Each}
-use Rattle.policy.specs.InnerTransport.{EachAction, Keeps, Commutes, Respects}
+use Rattle.policy.specs.InnerTransport.{EachAction, withActions}
 use Rattle.policy.proofs.TraceLaws.{Trace, in-turn, AllEnd, snoc-injective, seq-ends, traces-end, Stays, turn-declared, seq-stays, traces-stay, single-stays}
+
+module _ (H K L : FieldAction → Type 0) (f : (a : FieldAction) → H a → K a → L a) where
+  pub each-action-both : (p : Policy) → EachAction H p → EachAction K p → EachAction L p
+  each-action-both drop h k = tt
+  each-action-both id h k = tt
+  each-action-both (field a) h k = f a h k
+  each-action-both (dup i) h k = tt
+  each-action-both (sum p q) h k = (each-action-both p (h .0) (k .0), each-action-both q (h .1) (k .1))
+  each-action-both (seq p q) h k = (each-action-both p (h .0) (k .0), each-action-both q (h .1) (k .1))
+  each-action-both (star p) h k = each-action-both p h k
+  each-action-both (neg p) h k = each-action-both p h k
+
+pub each-action-map : (H K : FieldAction → Type 0) → ((a : FieldAction) → H a → K a) → (p : Policy) → EachAction H p → EachAction K p
+each-action-map H K f p h = each-action-both H H K (λ a k l. f a k) p h h
+
+-- where each action stays as it is, so does the policy
+pub same-actions : (g : FieldAction → FieldAction) (p : Policy) → EachAction (λ a. g a ≡ a) p → withActions g p ≡ p
+unfolding withActions
+same-actions g drop h = refl
+same-actions g id h = refl
+same-actions g (field a) h = ap field h
+same-actions g (dup i) h = refl
+same-actions g (sum p q) h = ap₂ sum (same-actions g p (h .0)) (same-actions g q (h .1))
+same-actions g (seq p q) h = ap₂ seq (same-actions g p (h .0)) (same-actions g q (h .1))
+same-actions g (star p) h = ap star (same-actions g p h)
+same-actions g (neg p) h = ap neg (same-actions g p h)
 
 module _ (P Q : Packets) (Declared : P .Packet → Type 0) (r : P .Packet → Q .Packet) where
   -- u is the image of a trace from α
@@ -24,14 +52,37 @@ module _ (P Q : Packets) (Declared : P .Packet → Type 0) (r : P .Packet → Q 
   From A B = (α : P .Packet) → Declared α → (u : Trace Q) → B (r α) u → Image A α u
 
   -- the traces of B from r α are the images of those of A from α
-  record Carried (A : TraceSet P) (B : TraceSet Q) : Type 0 where
-    ends : AllEnd P A
-    stays : Stays P Declared A
-    to : To A B
-    from : From A B
+  pub record Carried (A : TraceSet P) (B : TraceSet Q) : Type 0 where
+    pub ends : AllEnd P A
+    pub stays : Stays P Declared A
+    pub to : To A B
+    pub from : From A B
 
-  carried-seq : (A C : TraceSet P) (B D : TraceSet Q) → Carried A B → Carried C D → Carried (Seq P A C) (Seq Q B D)
-  carried-seq A C B D h k =
+  pub test-carried : (x : P .Packet → Bool) (y : Q .Packet → Bool) → ((α : P .Packet) → Declared α → y (r α) ≡ x α)
+      → Carried (λ α t. T (x α) × (t ≡ α ∷ [])) (λ α t. T (y α) × (t ≡ α ∷ []))
+  test-carried x y c = record {
+    ends = λ α t h. record { before = []; last = α; whole = h .1 };
+    stays = λ α d t h. single-stays P Declared α d t (h .1);
+    to = λ α d t h. (rw (c α d) (h .0), ap (map r) (h .1));
+    from = λ α d u h. (α ∷ [], h .1, (rw (← c α d) (h .0), refl));
+  }
+
+  pub change-carried : (x : P .Packet → P .Packet) (y : Q .Packet → Q .Packet) → ((α : P .Packet) → Declared α → Declared (x α))
+      → ((α : P .Packet) → Declared α → y (r α) ≡ r (x α))
+      → Carried (λ α t. t ≡ x α ∷ []) (λ α t. t ≡ y α ∷ [])
+  change-carried x y k c = record {
+    ends = λ α t h. record { before = []; last = x α; whole = h };
+    stays = λ α d. single-stays P Declared (x α) (k α d);
+    to = λ α d t h. ap (map r) h ∙ ap (λ (β : Q .Packet). β ∷ []) (sym (c α d));
+    from = λ α d u h. (x α ∷ [], h ∙ ap (λ (β : Q .Packet). β ∷ []) (c α d), refl);
+  }
+
+  -- the packet itself
+  carried-one : Carried (λ α t. t ≡ α ∷ []) (λ α t. t ≡ α ∷ [])
+  carried-one = change-carried (λ α. α) (λ β. β) (λ α d. d) (λ α d. refl)
+
+  carried-seq : {A C : TraceSet P} {B D : TraceSet Q} → Carried A B → Carried C D → Carried (Seq P A C) (Seq Q B D)
+  carried-seq {A} {C} {B} {D} h k =
       record { ends = seq-ends P A C (k .ends); stays = seq-stays P Declared A C (h .stays) (k .stays); to = to; from = from }
     where
       declared-turn : (α : P .Packet) → Declared α → (a : Trace P) (β : P .Packet) → A α (a ++ (β ∷ [])) → Declared β
@@ -62,28 +113,23 @@ module _ (P Q : Packets) (Declared : P .Packet → Type 0) (r : P .Packet → Q 
             in-turn (e .before) (e .last) (g .0) refl first (g .2),
           )
 
-  carried-power : (A : TraceSet P) (B : TraceSet Q) → Carried A B → (n : ℕ) → Carried (Power P A n) (Power Q B n)
+  carried-power : {A : TraceSet P} {B : TraceSet Q} → Carried A B → (n : ℕ) → Carried (Power P A n) (Power Q B n)
   unfolding Power
-  carried-power A B h zero = record {
-    ends = λ α t e. record { before = []; last = α; whole = e };
-    stays = single-stays P Declared;
-    to = λ α d t e. ap (map r) e;
-    from = λ α d u e. (α ∷ [], e, refl);
-  }
-  carried-power A B h (suc n) = carried-seq A (Power P A n) B (Power Q B n) h (carried-power A B h n)
+  carried-power h zero = carried-one
+  carried-power h (suc n) = carried-seq h (carried-power h n)
 
-  carried-star : (A : TraceSet P) (B : TraceSet Q) → Carried A B
+  carried-star : {A : TraceSet P} {B : TraceSet Q} → Carried A B
       → Carried (λ α t. (n : ℕ) × Power P A n α t) (λ α t. (n : ℕ) × Power Q B n α t)
-  carried-star A B h = record {
-    ends = λ α t s. carried-power A B h (s .0) .ends α t (s .1);
-    stays = λ α d t s. carried-power A B h (s .0) .stays α d t (s .1);
-    to = λ α d t s. (s .0, carried-power A B h (s .0) .to α d t (s .1));
-    from = λ α d u s. let i = carried-power A B h (s .0) .from α d u (s .1) in (i .0, i .1, (s .0, i .2));
+  carried-star h = record {
+    ends = λ α t s. carried-power h (s .0) .ends α t (s .1);
+    stays = λ α d t s. carried-power h (s .0) .stays α d t (s .1);
+    to = λ α d t s. (s .0, carried-power h (s .0) .to α d t (s .1));
+    from = λ α d u s. let i = carried-power h (s .0) .from α d u (s .1) in (i .0, i .1, (s .0, i .2));
   }
 
-  carried-sum : (A C : TraceSet P) (B D : TraceSet Q) → Carried A B → Carried C D
+  carried-sum : {A C : TraceSet P} {B D : TraceSet Q} → Carried A B → Carried C D
       → Carried (λ α t. A α t ⊎ C α t) (λ α t. B α t ⊎ D α t)
-  carried-sum A C B D h k = record {
+  carried-sum h k = record {
     ends = λ α t. ⊎-elim (h .ends α t) (k .ends α t);
     stays = λ α d t. ⊎-elim (h .stays α d t) (k .stays α d t);
     to = λ α d t. ⊎-elim (λ s. inl (h .to α d t s)) (λ s. inr (k .to α d t s));
@@ -92,62 +138,49 @@ module _ (P Q : Packets) (Declared : P .Packet → Type 0) (r : P .Packet → Q 
   }
 
   -- from r α there is no trace exactly where there is none from α
-  carried-neg : (A : TraceSet P) (B : TraceSet Q) → Carried A B
+  carried-neg : {A : TraceSet P} {B : TraceSet Q} → Carried A B
       → Carried (λ α t. Drops P A α × (t ≡ α ∷ [])) (λ α t. Drops Q B α × (t ≡ α ∷ []))
   unfolding Drops
-  carried-neg A B h = record {
+  carried-neg h = record {
     ends = λ α t s. record { before = []; last = α; whole = s .1 };
     stays = λ α d t s. single-stays P Declared α d t (s .1);
     to = λ α d t s. (λ u b. let i = h .from α d u b in s .0 (i .0) (i .2), ap (map r) (s .1));
     from = λ α d u s. (α ∷ [], s .1, (λ t a. s .0 (map r t) (h .to α d t a), refl));
   }
 
-  action-to : (a : FieldAction) → Commutes P Q Declared r a → To (ActionTraces P a) (ActionTraces Q a)
-  unfolding Commutes ActionTraces
-  action-to (Equals f v) c α d t h = (rw (c α d) (h .0), ap (map r) (h .1))
-  action-to (Differs f v) c α d t h = (rw (c α d) (h .0), ap (map r) (h .1))
-  action-to (Set f v) c α d t h = ap (map r) h ∙ ap (λ (β : Q .Packet). β ∷ []) (sym (c α d))
+  -- p with other actions is carried to p, where each of those actions is carried to the action of p in its place
+  pub carried : (g : FieldAction → FieldAction) (p : Policy) → EachAction (λ a. Carried (ActionTraces P (g a)) (ActionTraces Q a)) p
+      → Carried (Traces P (withActions g p)) (Traces Q p)
+  unfolding Traces withActions
+  carried g drop c = record { ends = λ α t h. absurd h; stays = λ α d t h. absurd h; to = λ α d t h. absurd h; from = λ α d u h. absurd h }
+  carried g id c = carried-one
+  carried g (field a) c = c
+  carried g (dup i) c = record {
+    ends = traces-end P (dup i);
+    stays = traces-stay P Declared (dup i) tt;
+    to = λ α d t h. ap (map r) h;
+    from = λ α d u h. (α ∷ α ∷ [], h, refl);
+  }
+  carried g (sum p q) c = carried-sum (carried g p (c .0)) (carried g q (c .1))
+  carried g (seq p q) c = carried-seq (carried g p (c .0)) (carried g q (c .1))
+  carried g (star p) c = carried-star (carried g p c)
+  carried g (neg p) c = carried-neg (carried g p c)
 
-  action-from : (a : FieldAction) → Commutes P Q Declared r a → From (ActionTraces P a) (ActionTraces Q a)
-  unfolding Commutes ActionTraces
-  action-from (Equals f v) c α d u h = (α ∷ [], h .1, (rw (← c α d) (h .0), refl))
-  action-from (Differs f v) c α d u h = (α ∷ [], h .1, (rw (← c α d) (h .0), refl))
-  action-from (Set f v) c α d u h = (P .change f v α ∷ [], h ∙ ap (λ (β : Q .Packet). β ∷ []) (c α d), refl)
-
-  leaf : (p : Policy) → EachAction (Keeps P Declared) p → To (Traces P p) (Traces Q p) → From (Traces P p) (Traces Q p)
-      → Carried (Traces P p) (Traces Q p)
-  leaf p k to from = record { ends = traces-end P p; stays = traces-stay P Declared p k; to = to; from = from }
-
-  carried : (p : Policy) → EachAction (Keeps P Declared) p → EachAction (Commutes P Q Declared r) p → Carried (Traces P p) (Traces Q p)
-  unfolding Traces
-  carried drop k c = leaf drop k (λ α d t h. absurd h) (λ α d u h. absurd h)
-  carried id k c = leaf id k (λ α d t h. ap (map r) h) (λ α d u h. (α ∷ [], h, refl))
-  carried (field a) k c = leaf (field a) k (action-to a c) (action-from a c)
-  carried (dup i) k c = leaf (dup i) k (λ α d t h. ap (map r) h) (λ α d u h. (α ∷ α ∷ [], h, refl))
-  carried (sum p q) k c =
-      carried-sum (Traces P p) (Traces P q) (Traces Q p) (Traces Q q) (carried p (k .0) (c .0)) (carried q (k .1) (c .1))
-  carried (seq p q) k c =
-      carried-seq (Traces P p) (Traces P q) (Traces Q p) (Traces Q q) (carried p (k .0) (c .0)) (carried q (k .1) (c .1))
-  carried (star p) k c = carried-star (Traces P p) (Traces Q p) (carried p k c)
-  carried (neg p) k c = carried-neg (Traces P p) (Traces Q p) (carried p k c)
-
-  -- u is a trace of p from r α exactly when it is the image of a trace of p from α
-  pub transport : (p : Policy) → Respects P Q Declared r p → (α : P .Packet) → Declared α → (u : Trace Q)
-      → Traces Q p (r α) u ↔ Image (Traces P p) α u
-  transport p k α d u =
-      let h = carried p (k .keeps) (k .commutes) in
-      (h .from α d u, λ i. subst (Traces Q p (r α)) (sym (i .1)) (h .to α d (i .0) (i .2)))
+  -- u is in B from r α exactly when it is the image of a trace in A from α
+  pub transport : {A : TraceSet P} {B : TraceSet Q} → Carried A B → (α : P .Packet) → Declared α → (u : Trace Q) → B (r α) u ↔ Image A α u
+  transport {A} {B} h α d u = (h .from α d u, λ i. subst (B (r α)) (sym (i .1)) (h .to α d (i .0) (i .2)))
 
   -- the packets that the map makes of declared ones
   abbrev pub ImageOfDeclared : Q .Packet → Type 0
   ImageOfDeclared β = (α : P .Packet) × Declared α × (β ≡ r α)
 
-  -- policies with the same traces of n packets or fewer from every declared packet have the same from every image of one
-  pub short-image : (n : ℕ) (p q : Policy) → Respects P Q Declared r p → Respects P Q Declared r q → SameShortTraces P Declared n p q
-      → SameShortTraces Q ImageOfDeclared n p q
+  -- where p and q have the same traces of n packets or fewer from every declared packet, p′ and q′ have the same from every image of one
+  pub short-image : (n : ℕ) (p q p′ q′ : Policy) → Carried (Traces P p) (Traces Q p′) → Carried (Traces P q) (Traces Q q′)
+      → SameShortTraces P Declared n p q → SameShortTraces Q ImageOfDeclared n p′ q′
   unfolding SameShortTraces
-  short-image n p q k l same β d u few =
-      subst (λ (γ : Q .Packet). Traces Q p γ u ↔ Traces Q q γ u) (sym (d .2)) (to p q k l (λ t m. same α e t m .0), to q p l k (λ t m. same α e t m .1))
+  short-image n p q p′ q′ h k same β d u few =
+      subst (λ (γ : Q .Packet). Traces Q p′ γ u ↔ Traces Q q′ γ u) (sym (d .2))
+      (to p q p′ q′ h k (λ t m. same α e t m .0), to q p q′ p′ k h (λ t m. same α e t m .1))
     where
       α : P .Packet
       α = d .0
@@ -155,11 +188,12 @@ module _ (P Q : Packets) (Declared : P .Packet → Type 0) (r : P .Packet → Q 
       e : Declared α
       e = d .1
 
-      to : (p q : Policy) → Respects P Q Declared r p → Respects P Q Declared r q → ((t : Trace P) → length t ≤ n → Traces P p α t → Traces P q α t)
-          → Traces Q p (r α) u → Traces Q q (r α) u
-      to p q k l f h =
-          let i = transport p k α e u .0 h in
-          transport q l α e u .1 (i .0, i .1, f (i .0) (subst (λ m. m ≤ n) (ap length (i .1) ∙ length-map (i .0) r) few) (i .2))
+      to : (p q p′ q′ : Policy) → Carried (Traces P p) (Traces Q p′) → Carried (Traces P q) (Traces Q q′)
+          → ((t : Trace P) → length t ≤ n → Traces P p α t → Traces P q α t)
+          → Traces Q p′ (r α) u → Traces Q q′ (r α) u
+      to p q p′ q′ h k f b =
+          let i = h .from α e u b in
+          transport k α e u .1 (i .0, i .1, f (i .0) (subst (λ m. m ≤ n) (ap length (i .1) ∙ length-map (i .0) r) few) (i .2))
 
   -- the map tells declared packets apart
   abbrev pub TellsApart : Type 0
@@ -175,18 +209,23 @@ module _ (P Q : Packets) (Declared : P .Packet → Type 0) (r : P .Packet → Q 
       let j = map-injective apart s t (d .1) (e .1) (cc) in
       cc
 
-  -- and back, where the map tells declared packets apart
-  pub short-source : TellsApart → (n : ℕ) (p q : Policy) → Respects P Q Declared r p → Respects P Q Declared r q
-      → SameShortTraces Q ImageOfDeclared n p q → SameShortTraces P Declared n p q
+  -- where the map tells declared packets apart, a list of them is a trace exactly when its image is
+  pub image-trace : TellsApart → {A : TraceSet P} {B : TraceSet Q} → Carried A B → (α : P .Packet) → Declared α → (t : Trace P) → Each Declared t
+      → B (r α) (map r t) ↔ A α t
+  image-trace apart {A} {B} h α d t e = (
+    λ b. let i = h .from α d (map r t) b in subst (A α) (sym (map-injective apart t (i .0) e (h .stays α d (i .0) (i .2)) (i .1))) (i .2),
+    h .to α d t,
+  )
+
+  -- and back from the images, where the map tells declared packets apart
+  pub short-source : TellsApart → (n : ℕ) (p q p′ q′ : Policy) → Carried (Traces P p) (Traces Q p′) → Carried (Traces P q) (Traces Q q′)
+      → SameShortTraces Q ImageOfDeclared n p′ q′ → SameShortTraces P Declared n p q
   unfolding SameShortTraces
-  short-source apart n p q k l same α d t few =
+  short-source apart n p q p′ q′ h k same α d t few =
       let s = same (r α) (α, d, refl) (map r t) (subst (λ m. m ≤ n) (sym (length-map t r)) few) in
-      (to p q k l (s .0), to q p l k (s .1))
+      (to p q p′ q′ h k (s .0), to q p q′ p′ k h (s .1))
     where
-      to : (p q : Policy) → Respects P Q Declared r p → Respects P Q Declared r q
-          → (Traces Q p (r α) (map r t) → Traces Q q (r α) (map r t))
+      to : (p q p′ q′ : Policy) → Carried (Traces P p) (Traces Q p′) → Carried (Traces P q) (Traces Q q′)
+          → (Traces Q p′ (r α) (map r t) → Traces Q q′ (r α) (map r t))
           → Traces P p α t → Traces P q α t
-      to p q k l f h =
-          let i = transport q l α d (map r t) .0 (f (transport p k α d (map r t) .1 (t, refl, h))) in
-          let stay = traces-stay P Declared q (l .keeps) α d (i .0) (i .2) in
-          subst (Traces P q α) (sym (map-injective apart t (i .0) (traces-stay P Declared p (k .keeps) α d t h) stay (i .1))) (i .2)
+      to p q p′ q′ h k f a = image-trace apart k α d t (h .stays α d t a) .0 (f (h .to α d t a))

@@ -9,10 +9,12 @@ use native.Mathlib.Omega.{arith}
 use borrow.Author.Tests.{not-false}
 use Rattle.policy.specs.declared.Node.{Node}
 use Rattle.policy.specs.declared.Node.the-variants.{Drop, Id, Field, Dup, Sum, Seq, Star, Neg}
+use Rattle.policy.specs.declared.FieldAction.{FieldAction}
 use Rattle.policy.specs.Tree.{Policy, drop, id, field, dup, sum, seq, star, neg}
 use Rattle.policy.specs.NodeLists.{NodeLists, nodeCount, nodeAt, nodeOf, children, dupsBelow, grow, treeAt, treeOf, policyOf, TreeOf}
-use Rattle.policy.specs.Legality.{WellFormed, Legal, InFields, badEntries, wrongEntries, badChild, negatesOther, badNegation, fieldOf, valueOf}
+use Rattle.policy.specs.Legality.{WellFormed, Legal, InFields, badEntries, wrongEntries, badChild, badField, negatesOther, badNegation, fieldOf, valueOf}
 use Rattle.policy.specs.InnerEach.{Each}
+use Rattle.policy.specs.InnerTransport.{EachAction}
 use Rattle.policy.specs.Tests.{isTest, negatesTests}
 use Rattle.policy.proofs.EachLaws.{each-map, below-each}
 
@@ -47,20 +49,41 @@ grow-tree L n f (Seq l r) e h = (l, r, e, h .0, h .1 .0)
 grow-tree L n f (Star c) e h = (c, e, h .0)
 grow-tree L n f (Neg c) e h = (c, e, h .0)
 
-grow-fields : (sizes : List ℕ) (f : ℕ → Policy) (label k a b : ℕ) → wrongEntries sizes k a b ≡ false
-    → Each (λ c. InFields sizes (f c)) (children (nodeOf k a b)) → InFields sizes (grow f label (nodeOf k a b))
-unfolding grow children Each InFields wrongEntries nodeOf fieldOf valueOf
-grow-fields sizes f label zero a b w h = tt
-grow-fields sizes f label (suc zero) a b w h = tt
-grow-fields sizes f label (suc (suc zero)) a b w h = w
-grow-fields sizes f label (suc (suc (suc zero))) a b w h = w
-grow-fields sizes f label (suc (suc (suc (suc zero)))) a b w h = w
-grow-fields sizes f label (suc (suc (suc (suc (suc zero))))) a b w h = tt
-grow-fields sizes f label (suc (suc (suc (suc (suc (suc zero)))))) a b w h = (h .0, h .1 .0)
-grow-fields sizes f label (suc (suc (suc (suc (suc (suc (suc zero))))))) a b w h = (h .0, h .1 .0)
-grow-fields sizes f label (suc (suc (suc (suc (suc (suc (suc (suc zero)))))))) a b w h = h .0
-grow-fields sizes f label (suc (suc (suc (suc (suc (suc (suc (suc (suc zero))))))))) a b w h = h .0
-grow-fields sizes f label (suc (suc (suc (suc (suc (suc (suc (suc (suc (suc k)))))))))) a b w h = tt
+-- something holds of the test or change that the node makes, if it makes one
+unfoldable pub OfAction : (FieldAction → Type 0) → Node → Type 0
+OfAction H Drop = Unit
+OfAction H Id = Unit
+OfAction H (Field a) = H a
+OfAction H Dup = Unit
+OfAction H (Sum l r) = Unit
+OfAction H (Seq l r) = Unit
+OfAction H (Star c) = Unit
+OfAction H (Neg c) = Unit
+
+grow-actions : (H : FieldAction → Type 0) (f : ℕ → Policy) (label : ℕ) (x : Node) → OfAction H x → Each (λ c. EachAction H (f c)) (children x) → EachAction H (grow f label x)
+unfolding grow children Each OfAction
+grow-actions H f label Drop w h = tt
+grow-actions H f label Id w h = tt
+grow-actions H f label (Field a) w h = w
+grow-actions H f label Dup w h = tt
+grow-actions H f label (Sum l r) w h = (h .0, h .1 .0)
+grow-actions H f label (Seq l r) w h = (h .0, h .1 .0)
+grow-actions H f label (Star c) w h = h .0
+grow-actions H f label (Neg c) w h = h .0
+
+entries-name : (sizes : List ℕ) (k a b : ℕ) → wrongEntries sizes k a b ≡ false → OfAction (λ x. badField sizes (fieldOf x) (valueOf x) ≡ false) (nodeOf k a b)
+unfolding OfAction wrongEntries nodeOf fieldOf valueOf
+entries-name sizes zero a b w = tt
+entries-name sizes (suc zero) a b w = tt
+entries-name sizes (suc (suc zero)) a b w = w
+entries-name sizes (suc (suc (suc zero))) a b w = w
+entries-name sizes (suc (suc (suc (suc zero)))) a b w = w
+entries-name sizes (suc (suc (suc (suc (suc zero))))) a b w = tt
+entries-name sizes (suc (suc (suc (suc (suc (suc zero)))))) a b w = tt
+entries-name sizes (suc (suc (suc (suc (suc (suc (suc zero))))))) a b w = tt
+entries-name sizes (suc (suc (suc (suc (suc (suc (suc (suc zero)))))))) a b w = tt
+entries-name sizes (suc (suc (suc (suc (suc (suc (suc (suc (suc zero))))))))) a b w = tt
+entries-name sizes (suc (suc (suc (suc (suc (suc (suc (suc (suc (suc k)))))))))) a b w = tt
 
 module _ (L : NodeLists) (below : ChildrenBelow L) where
   -- what holds of each number below n holds of each child of n
@@ -121,14 +144,20 @@ module _ (L : NodeLists) (below : ChildrenBelow L) where
   pub tree-iff : (p : Policy) (t n : ℕ) → n < t → n < nodeCount L → TreeOf L n p ↔ (p ≡ treeAt L t n)
   tree-iff p t n a l = (tree-unique p t n a l, λ e. subst (TreeOf L n) (sym e) (tree-exists t n a l))
 
--- each test and change in the tree names a field and a value of it
+-- what holds of each test and change that a node makes holds of each in the tree
+pub tree-actions : (L : NodeLists) → ChildrenBelow L → (H : FieldAction → Type 0) → ((n : ℕ) → n < nodeCount L → OfAction H (nodeAt L n)) → (t n : ℕ) → n < t → n < nodeCount L
+    → EachAction H (treeAt L t n)
+unfolding treeAt
+tree-actions L below H h zero n a l = absurd (not-suc-le-zero a)
+tree-actions L below H h (suc t) n a l =
+    grow-actions H (treeAt L t) (dupsBelow L (suc n)) (nodeAt L n) (h n l)
+    (each-child L below (λ c. EachAction H (treeAt L t c)) n l (λ c k. tree-actions L below H h t c (omega arith) (omega arith)))
+
+-- each names a field and a value of it
 pub tree-fields : {sizes : List ℕ} {L : NodeLists} → WellFormed sizes L → (t n : ℕ) → n < t → n < nodeCount L
     → InFields sizes (treeAt L t n)
-unfolding treeAt badEntries nodeAt
-tree-fields w zero n a l = absurd (not-suc-le-zero a)
-tree-fields {sizes} {L} w (suc t) n a l =
-    grow-fields sizes (treeAt L t) (dupsBelow L (suc n)) _ _ _ (w .entries n l)
-    (each-child L (children-below w) (λ c. InFields sizes (treeAt L t c)) n l (λ c k. tree-fields w t c (omega arith) (omega arith)))
+unfolding InFields badEntries nodeAt
+tree-fields {sizes} {L} w = tree-actions L (children-below w) _ (λ n l. entries-name sizes _ _ _ (w .entries n l))
 
 grow-negates : (f : ℕ → Policy) (label : ℕ) (x : Node) → ((c : ℕ) → x ≡ Neg c → isTest (f c) ≡ true)
     → Each (λ c. negatesTests (f c) ≡ true) (children x) → negatesTests (grow f label x) ≡ true

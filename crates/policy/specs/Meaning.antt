@@ -7,7 +7,7 @@ use mathlib.Core.Logic.{_⊎_, _↔_}
 use mathlib.Core.Path.{_≡_}
 use lib.Dec.{T, eqb}
 use lib.ListN.{length, getD, set}
-use Rattle.packet.specs.Packets.{valueAt, changed}
+use Rattle.packet.specs.Packets.{valueAt, changed, Declared as Declares}
 use Rattle.packet.specs.Sizes.{product}
 use Rattle.policy.specs.declared.FieldAction.{FieldAction}
 use Rattle.policy.specs.declared.FieldAction.the-variants.{Equals, Differs, Set}
@@ -74,6 +74,23 @@ SameTraces P Declared p q = (α : P .Packet) → Declared α → (t : List (P .P
 -- both policies have the same traces of d packets or fewer from every packet that is declared
 unfoldable pub SameShortTraces : (P : Packets) → (P .Packet → Type 0) → ℕ → Policy → Policy → Type 0
 SameShortTraces P Declared d p q = (α : P .Packet) → Declared α → (t : List (P .Packet)) → length t ≤ d → Traces P p α t ↔ Traces P q α t
+
+-- p alone has the trace from α, and no shorter trace tells the two policies apart from any packet that is declared
+pub record Tells (P : Packets) (Declared : P .Packet → Type 0) (p q : Policy) (α : P .Packet) (trace : List (P .Packet)) : Type 0 where
+  pub enters : Declared α
+  pub has : Traces P p α trace
+  pub lacks : Traces P q α trace → ⊥
+  pub shortest : (β : P .Packet) → Declared β → (t : List (P .Packet)) → length t < length trace → Traces P p β t ↔ Traces P q β t
+
+-- same traces from every declared packet: from every value of every field
+abbrev pub SameTracesDeclared : List ℕ → Policy → Policy → Type 0
+SameTracesDeclared sizes p q = SameTraces declared (Declares sizes) p q
+
+abbrev pub SameShortTracesDeclared : List ℕ → ℕ → Policy → Policy → Type 0
+SameShortTracesDeclared sizes d p q = SameShortTraces declared (Declares sizes) d p q
+
+abbrev pub TellsDeclared : List ℕ → Policy → Policy → List ℕ → List (List ℕ) → Type 0
+TellsDeclared sizes p q α trace = Tells declared (Declares sizes) p q α trace
 
 -- same traces from every packet, packets being numbers below N
 unfoldable pub SameTracesBelow : List ℕ → Policy → Policy → Type 0

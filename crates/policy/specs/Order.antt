@@ -13,6 +13,7 @@ use Rattle.packet.specs.declared.Tested.the-variants.{Passed}
 use Rattle.fields.specs.Tables.{Table, jointSizes, tablesStage}
 use Rattle.policy.specs.declared.order.Stages.{Stages}
 use Rattle.policy.specs.NodeLists.{NodeLists, nodeCount}
+use Rattle.policy.specs.Mentions.{coreSizes}
 use Rattle.policy.specs.Legality.{badLengths, badKind, badEntries, badChild, notOnce, badNegation, tooManyDups}
 
 -- The stages of a call, in the order tested: a stage that comes elsewhere is a line that moves, here and in `in_order`. 18 comes before them all,
@@ -21,9 +22,9 @@ use Rattle.policy.specs.Legality.{badLengths, badKind, badEntries, badCh
 unfoldable pub order : Stages → List Tested
 order stages =
     stages .fields  -- 4 of side 0, 20, 21, 1, 2
-    ∷ stages .product  -- 3
     ∷ stages .texts  -- 14 to 17 on the left text, then on the right
     ∷ stages .policies  -- 4 to 9 and 19
+    ∷ stages .product  -- 3
     ∷ stages .lists  -- 10
     ∷ stages .packets  -- 13
     ∷ []
@@ -55,7 +56,7 @@ pub record Sided : Type 0 where
   pub side : ℕ
   pub lists : NodeLists
 
-unfoldable pub sided : ℕ → NodeLists → Sided
+abbrev pub sided : ℕ → NodeLists → Sided
 sided side L = record { side = side; lists = L }
 
 -- one cause, tested on each policy in order
@@ -66,14 +67,22 @@ cause number place policies = firstOf (map (λ (p : Sided). refusedAt number (p 
 unfoldable pub policiesStage : List ℕ → List Sided → Tested
 policiesStage sizes policies = firstOf (map (λ (c : Cause). cause (c .0) (c .1) policies) (causes sizes))
 
+-- the core sizes of a call with these tables and policies: packets are numbered over them
+abbrev pub coreOf : List Table → List Sided → List ℕ
+coreOf ts policies = coreSizes (map (λ (p : Sided). p .lists) policies) (jointSizes ts)
+
+-- those of a left and a right policy
+abbrev pub pairCore : List Table → NodeLists → NodeLists → List ℕ
+pairCore ts L R = coreSizes (L ∷ R ∷ []) (jointSizes ts)
+
 -- the stages of a call with these tables: what its texts say, its policies, what its lists and its packets say
 unfoldable pub stagesOf : List Table → Tested → List Sided → Tested → Tested → Stages
 stagesOf ts texts policies lists packets =
     record {
       fields = tablesStage ts;
-      product = productStage (jointSizes ts);
       texts = texts;
       policies = policiesStage (jointSizes ts) policies;
+      product = productStage (coreOf ts policies);
       lists = lists;
       packets = packets;
     }

@@ -6,9 +6,9 @@ use packet::Tested;
 // What the stages of a call say; a stage that the call does not test passes.
 pub struct Stages {
     pub fields: Tested,
-    pub product: Tested,
     pub texts: Tested,
     pub policies: Tested,
+    pub product: Tested,
     pub lists: Tested,
     pub packets: Tested,
 }
@@ -18,15 +18,15 @@ pub fn in_order(stages: Stages) -> Tested
     ensures { λ r. ⌜ r ≡ inOrder stages ⌝ }
 {
     let fields = stages.fields;
-    let product = stages.product;
     let texts = stages.texts;
     let policies = stages.policies;
+    let product = stages.product;
     let lists = stages.lists;
     let packets = stages.packets;
     let mut first = packets;
     first = packet::first_of(lists, first);
+    first = packet::first_of(product, first);
     first = packet::first_of(policies, first);
     first = packet::first_of(texts, first);
-    first = packet::first_of(product, first);
     packet::first_of(fields, first)
 }

@@ -1,6 +1,7 @@
 -- The call: what is ready where no cause refuses, and the promise. Assumes nothing.
-use Prim.Native.Nat.{ℕ, _≤_}
+use Prim.Native.Nat.{ℕ, _<_, _≤_}
 use mathlib.Core.List.{List, [], _∷_, _++_}
+use mathlib.Core.Logic.{⊎-elim, _↔_}
 use mathlib.Core.Path.{_≡_, refl, sym, ap, ap₂, _∙_, subst}
 use native.Mathlib.Omega.{arith}
 use lib.ListN.{length, getD, replicate, take, drop, length-replicate, getD-replicate}
@@ -13,10 +14,15 @@ use Rattle.packet.specs.Sizes.{product}
 use Rattle.legality.specs.declared.CallTested.{CallTested}
 use Rattle.legality.specs.Answers.{FrontOf}
 use Rattle.fields.specs.Tables.{Table, jointSizes}
-use Rattle.policy.specs.NodeLists.{NodeLists}
+use Rattle.policy.specs.Meaning.{numbered, SameTracesBelow, SameTracesDeclared, Tells}
+use Rattle.policy.specs.NodeLists.{NodeLists, policyOf}
+use Rattle.policy.specs.Order.{pairCore}
+use Rattle.classes.specs.Classing.{TellsOver}
+use Rattle.classes.specs.Mentioned.{pairClasses}
+use Rattle.classes.proofs.Pairs.{LegalPair, left-named, right-named, same-declared, short-declared, tells-declared}
 use Rattle.system.specs.RowOrder.{NeedsMore}
-use Rattle.pair.specs.Sides.{Side, left, right, policies}
-use Rattle.pair.specs.Pair.{pairSystem}
+use Rattle.pair.specs.Sides.{Side, left, right, other, Pair, at, NumberedPolicy, policies}
+use Rattle.pair.specs.Pair.{SideTraces, pairSystem}
 use Rattle.pair.specs.Search.{SearchAnswer, equal, different, rowsFull, traceShort, heldColumns, Distinguishes}
 use Rattle.pair.proofs.Lawful.{EvaluablePair, legal-pair}
 use Rattle.pair.proofs.Verdicts as verdicts
@@ -24,7 +30,7 @@ use Rattle.index.specs.Appending.{Lists, lists}
 use Rattle.lent_lists.specs.LentLists.{listsStage, rowsMisfit}
 use Rattle.packet.specs.Written.{written}
 use Rattle.listed_rows.proofs.Searching.{holds}
-use Rattle.lent_lists.proofs.Testing.{front-tests, tests-passed, lists-passed, row-list-fits, rows-few}
+use Rattle.lent_lists.proofs.Testing.{side-named, front-tests, tests-passed, lists-passed, row-list-fits, rows-few}
 use Rattle.verdict.specs.declared.Stop.{Stop}
 use Rattle.verdict.specs.declared.Verdict.{Verdict}
 use Rattle.verdict.specs.declared.Verdict.the-variants.{Equal, Full, Refused}
@@ -107,8 +113,8 @@ module _ (ts : List Table) (L R : NodeLists) (x : SearchLists) {said : Tested} (
   pub tests-refuse : (r : Refusal) → q .tested ≡ Stopped r → searchTests ts L R x ≡ Stopped r
   tests-refuse r e = sym tests-are ∙ e
 
-  pub tests-pass : q .tested ≡ Passed → (searchTests ts L R x ≡ Passed) × (q .packets ≡ product (jointSizes ts)) × (take (q .count) (q .sizes) ≡ jointSizes ts)
-  tests-pass e = (sym tests-are ∙ e, f .packets e, f .joint e)
+  pub tests-pass : q .tested ≡ Passed → (searchTests ts L R x ≡ Passed) × (q .packets ≡ product (pairCore ts L R)) × (take (q .count) (q .core) ≡ pairCore ts L R)
+  tests-pass e = (sym tests-are ∙ e, f .packets e, f .core e)
 
 module _ {sizes : List ℕ} {L R : NodeLists} {x : SearchLists} where
   -- ---- where no cause up to 10 holds
@@ -149,8 +155,8 @@ module _ {sizes : List ℕ} {L R : NodeLists} {x : SearchLists} where
             leaves = same-lent (H .packets) (H .left) (H .right) (H .parents) (T .leaves ∙ ap (λ a. traceAfter a (x .trace)) answer-here) w;
           }
 
--- `sizes` are the joint sizes as they were joined
-pub accepts : (ts : List Table) {L R : NodeLists} {x : SearchLists} → searchTests ts L R x ≡ Passed → (count : ℕ) → count ≡ product (jointSizes ts) → {sizes : List ℕ} → sizes ≡ jointSizes ts → Accepted sizes L R count x
+-- `sizes` are the core sizes as they were found
+pub accepts : (ts : List Table) {L R : NodeLists} {x : SearchLists} → searchTests ts L R x ≡ Passed → (count : ℕ) → count ≡ product (pairCore ts L R) → {sizes : List ℕ} → sizes ≡ pairCore ts L R → Accepted sizes L R count x
 unfolding searchTests rowsMisfit
 accepts ts {L} {R} {x} e count c {sizes} same =
     let h = tests-passed ts L R _ e in
@@ -173,57 +179,72 @@ accepts ts {L} {R} {x} e count c {sizes} same =
 
 -- ---- the promise
 
+-- a trace that distinguishes the policies, in terms of the side's policy and the other
+distinguished : (sizes : List ℕ) (ps : Pair NumberedPolicy) (s : Side) (α : ℕ) (t : List ℕ) → Distinguishes sizes ps s α t
+    → Tells (numbered sizes) (λ β. β < product sizes) (at s ps .tree) (at (other s) ps .tree) α t
+unfolding SideTraces at other
+distinguished sizes ps left α t d = record { enters = d .enters; has = d .has; lacks = d .lacks; shortest = d .shortest }
+distinguished sizes ps right α t d = record { enters = d .enters; has = d .has; lacks = d .lacks; shortest = λ β h u l. let e = d .shortest β h u l in (e .1, e .0) }
+
 module _ {ts : List Table} {L R : NodeLists} {x : SearchLists} where
   pub refuses : (r : Refusal) → searchTests ts L R x ≡ Stopped r → Searched ts L R x (Refused r) x
   unfolding searchVerdict searchLeaves verdictAfter lentAfter
   refuses r e =
       record {
-        answers = sym (ap (λ (t : Tested). verdictAfter t (answerHere (jointSizes ts) L R x)) e);
-        leaves = sym (ap (λ (t : Tested). lentAfter t (rowsHere (jointSizes ts) L R x) (answerHere (jointSizes ts) L R x) x) e);
+        answers = sym (ap (λ (t : Tested). verdictAfter t (answerHere (pairCore ts L R) L R x)) e);
+        leaves = sym (ap (λ (t : Tested). lentAfter t (rowsHere (pairCore ts L R) L R x) (answerHere (pairCore ts L R) L R x) x) e);
         equal-same = λ rows q. absurd (refused-equal q);
+        same-equal = λ p. let z : Stopped r ≡ Passed = sym e ∙ p in let o : _≡_ {A = ℕ} 0 1 = cc in absurd (zero≢one o);
         different-tells = λ s n α q. absurd (refused-telling s n α q);
         full-exactly = λ p. let z : Stopped r ≡ Passed = sym e ∙ p in let o : _≡_ {A = ℕ} 0 1 = cc in absurd (zero≢one o);
         full-place = λ q d f. absurd (refused-full f);
         full-same = λ q d f. absurd (refused-full f);
       }
 
-  kept : searchTests ts L R x ≡ Passed → {verdict : Verdict} {y : SearchLists} → SearchDone (jointSizes ts) L R x verdict y → Searched ts L R x verdict y
-  unfolding searchTests searchVerdict searchLeaves verdictAfter lentAfter filled traceAfter written verdictOf
+  kept : searchTests ts L R x ≡ Passed → {verdict : Verdict} {y : SearchLists} → SearchDone (pairCore ts L R) L R x verdict y → Searched ts L R x verdict y
+  unfolding searchTests searchVerdict searchLeaves verdictAfter lentAfter filled traceAfter written verdictOf SideTraces
   kept e {verdict} {y} D =
       record {
-        answers = D .answers ∙ sym (ap (λ (t : Tested). verdictAfter t (answerHere (jointSizes ts) L R x)) e);
-        leaves = D .leaves ∙ sym (ap (λ (t : Tested). lentAfter t (rowsHere (jointSizes ts) L R x) (answerHere (jointSizes ts) L R x) x) e);
-        equal-same = λ rows q. verdicts.equal-same (jointSizes ts) (policies L R) ok (length (x .packets)) (length (x .trace)) rows (equal-of _ rows (sym (D .answers) ∙ q)) .1;
+        answers = D .answers ∙ sym (ap (λ (t : Tested). verdictAfter t (answerHere (pairCore ts L R) L R x)) e);
+        leaves = D .leaves ∙ sym (ap (λ (t : Tested). lentAfter t (rowsHere (pairCore ts L R) L R x) (answerHere (pairCore ts L R) L R x) x) e);
+        equal-same = λ rows q. declared .0 (verdicts.equal-same (pairCore ts L R) (policies L R) ok (length (x .packets)) (length (x .trace)) rows (equal-of _ rows (sym (D .answers) ∙ q)) .1);
+        same-equal = λ p same enough. ⊎-elim (λ m. absurd (enough m)) (λ a. (_, D .answers ∙ ap verdictOf a)) (verdicts.same-answer (pairCore ts L R) (policies L R) ok (declared .1 same) (length (x .packets)) (length (x .trace)));
         different-tells = λ s n α q. tells s n α (telling-of _ s n α (sym (D .answers) ∙ q));
-        full-exactly = λ p. (λ q. lacking (full-of _ _ _ (sym (D .answers) ∙ q)), λ m. D .answers ∙ ap verdictOf (verdicts.full-exactly (jointSizes ts) (policies L R) (length (x .packets)) (length (x .trace)) .1 m));
+        full-exactly = λ p. (λ q. lacking (full-of _ _ _ (sym (D .answers) ∙ q)), λ m. D .answers ∙ ap verdictOf (verdicts.full-exactly (pairCore ts L R) (policies L R) (length (x .packets)) (length (x .trace)) .1 m));
         full-place = λ r d q. here (full-of _ r d (sym (D .answers) ∙ q));
-        full-same = λ r d q. let f = full-of _ r d (sym (D .answers) ∙ q) in verdicts.full-same (jointSizes ts) (policies L R) ok (length (x .packets)) (length (x .trace)) (f .rows) d (f .answer);
+        full-same = λ r d q. let f = full-of _ r d (sym (D .answers) ∙ q) in short-declared ts L R pair _ _ (left-named ts L R pair) (right-named ts L R pair) d .0 (verdicts.full-same (pairCore ts L R) (policies L R) ok (length (x .packets)) (length (x .trace)) (f .rows) d (f .answer));
       }
     where
-      ok : EvaluablePair (jointSizes ts) (policies L R)
-      ok = let h = tests-passed ts L R _ e in legal-pair (jointSizes ts) L R (h .left-legal) (h .right-legal)
+      pair : LegalPair ts L R
+      pair = tests-passed ts L R _ e .pair
 
-      at : {r : Refusal} {d : ℕ} → (f : FullWith (answerHere (jointSizes ts) L R x) r d) → (f .rows ≡ length (x .packets)) × (d ≡ depthHere (jointSizes ts) L R x)
-      at {r} {d} f = verdicts.full-place (jointSizes ts) (policies L R) (length (x .packets)) (length (x .trace)) (f .rows) d (f .answer)
+      declared : SameTracesBelow (pairCore ts L R) (policyOf L) (policyOf R) ↔ SameTracesDeclared (jointSizes ts) (policyOf L) (policyOf R)
+      declared = same-declared ts L R pair _ _ (left-named ts L R pair) (right-named ts L R pair)
 
-      here : {r : Refusal} {d : ℕ} → FullWith (answerHere (jointSizes ts) L R x) r d → Full r d ≡ fullHere (jointSizes ts) L R x
-      here f = ap₂ Full (f .place ∙ ap (refusal 11 0) (at f .0)) (at f .1)
+      ok : EvaluablePair (pairCore ts L R) (policies L R)
+      ok = let h = tests-passed ts L R _ e in legal-pair (pairCore ts L R) L R (h .left-legal) (h .right-legal)
 
-      lacking : {r : Refusal} → FullWith (answerHere (jointSizes ts) L R x) r (depthHere (jointSizes ts) L R x) → NeedsMore (pairSystem (jointSizes ts) (policies L R)) (length (x .packets))
-      lacking f = verdicts.full-exactly (jointSizes ts) (policies L R) (length (x .packets)) (length (x .trace)) .0 (f .answer ∙ ap (λ n. rowsFull n (depthHere (jointSizes ts) L R x)) (at f .0))
+      placed : {r : Refusal} {d : ℕ} → (f : FullWith (answerHere (pairCore ts L R) L R x) r d) → (f .rows ≡ length (x .packets)) × (d ≡ depthHere (pairCore ts L R) L R x)
+      placed {r} {d} f = verdicts.full-place (pairCore ts L R) (policies L R) (length (x .packets)) (length (x .trace)) (f .rows) d (f .answer)
 
-      tells : (s : Side) (n α : ℕ) → Trace (answerHere (jointSizes ts) L R x) s n α → Telling (jointSizes ts) L R x s n α (y .trace)
+      here : {r : Refusal} {d : ℕ} → FullWith (answerHere (pairCore ts L R) L R x) r d → Full r d ≡ fullHere (pairCore ts L R) L R x
+      here f = ap₂ Full (f .place ∙ ap (refusal 11 0) (placed f .0)) (placed f .1)
+
+      lacking : {r : Refusal} → FullWith (answerHere (pairCore ts L R) L R x) r (depthHere (pairCore ts L R) L R x) → NeedsMore (pairSystem (pairCore ts L R) (policies L R)) (length (x .packets))
+      lacking f = verdicts.full-exactly (pairCore ts L R) (policies L R) (length (x .packets)) (length (x .trace)) .0 (f .answer ∙ ap (λ n. rowsFull n (depthHere (pairCore ts L R) L R x)) (placed f .0))
+
+      tells : (s : Side) (n α : ℕ) → Trace (answerHere (pairCore ts L R) L R x) s n α → Telling ts L R x s n α (y .trace)
       tells s n α t =
           let first : take n (y .trace) ≡ t .trace =
           ap (take n) (ap (λ (z : SearchLists). z .trace) (D .leaves) ∙ ap (λ a. traceAfter a (x .trace)) (t .answer))
           ∙ ap (λ k. take k (t .trace ++ drop (length (t .trace)) (x .trace))) (sym (t .long))
           ∙ take-append-seam (t .trace) (drop (length (t .trace)) (x .trace)) in
+          let d = verdicts.different-tells (pairCore ts L R) (policies L R) ok (length (x .packets)) (length (x .trace)) s α (t .trace) (t .answer) in
+          let over = tells-declared ts L R pair _ _ (side-named ts L R pair s) (side-named ts L R pair (other s)) α (t .trace) (distinguished (pairCore ts L R) (policies L R) s α (t .trace) d) in
           record {
             long = ap length first ∙ t .long;
-            tells =
-                subst (Distinguishes (jointSizes ts) (policies L R) s α) (sym first)
-                (verdicts.different-tells (jointSizes ts) (policies L R) ok (length (x .packets)) (length (x .trace)) s α (t .trace) (t .answer));
+            tells = subst (TellsOver (pairClasses ts L R) (jointSizes ts) (at s (policies L R) .tree) (at (other s) (policies L R) .tree) α) (sym first) over;
           }
 
-  pub promised : searchTests ts L R x ≡ Passed → {sizes : List ℕ} → sizes ≡ jointSizes ts → {verdict : Verdict} {y : SearchLists} → SearchDone sizes L R x verdict y → Searched ts L R x verdict y
+  pub promised : searchTests ts L R x ≡ Passed → {sizes : List ℕ} → sizes ≡ pairCore ts L R → {verdict : Verdict} {y : SearchLists} → SearchDone sizes L R x verdict y → Searched ts L R x verdict y
   promised e same {verdict} {y} D = kept e (subst (λ (s : List ℕ). SearchDone s L R x verdict y) same D)

@@ -1,4 +1,5 @@
--- The search on node lists: its answer and what it leaves in every lent list (document 01, "States and rows" and "Causes, in the order tested").
+-- The search on node lists: its answer and what it leaves in every lent list (document 01, "States and rows" and "Causes, in the order tested";
+-- document 02, A.6).
 use Prim.Native.Nat.{ℕ, _≤_}
 use mathlib.Core.List.{List, [], _∷_}
 use mathlib.Core.Logic.{_↔_}
@@ -13,12 +14,15 @@ use Rattle.packet.specs.Refusals.{refusal}
 use Rattle.packet.specs.Sizes.{product, LegalSizes}
 use Rattle.fields.specs.Tables.{Table, jointSizes}
 use Rattle.policy.specs.Legality.{Legal}
-use Rattle.policy.specs.Meaning.{SameTracesBelow, SameShortTracesBelow}
+use Rattle.policy.specs.Meaning.{SameTracesDeclared, SameShortTracesDeclared}
+use Rattle.policy.specs.Order.{pairCore}
 use Rattle.policy.specs.NodeLists.{NodeLists, policyOf}
 use Rattle.system.specs.RowOrder.{NeedsMore, depthAtFull}
-use Rattle.pair.specs.Sides.{Side, policies}
+use Rattle.classes.specs.Classing.{TellsOver}
+use Rattle.classes.specs.Mentioned.{pairClasses}
+use Rattle.pair.specs.Sides.{Side, other, at, policies}
 use Rattle.pair.specs.Pair.{pairSystem}
-use Rattle.pair.specs.Search.{SearchAnswer, Columns, searchAnswer, heldColumns, Distinguishes}
+use Rattle.pair.specs.Search.{SearchAnswer, Columns, searchAnswer, heldColumns}
 use Rattle.lent_lists.specs.LentLists.{listsStage, lentTests}
 use Rattle.packet.specs.Written.{written}
 use Rattle.verdict.specs.declared.Verdict.{Verdict}
@@ -80,36 +84,39 @@ module _ (sizes : List ℕ) (L R : NodeLists) (x : SearchLists) where
   abbrev pub fullHere : Verdict
   fullHere = Full (refusal 11 0 (length (x .packets))) depthHere
 
-  -- the first n packets of the trace list tell the policies apart (Figure 1)
-  pub record Telling (s : Side) (n α : ℕ) (trace : List ℕ) : Type 0 where
-    pub long : length (take n trace) ≡ n
-    pub tells : Distinguishes sizes (policies L R) s α (take n trace)
-
 module _ (ts : List Table) (L R : NodeLists) (x : SearchLists) where
   -- the causes up to 10 in the order tested
   unfoldable pub searchTests : Tested
   searchTests = lentTests ts L R (listsStage (length (x .packets) ∷ length (x .lefts) ∷ length (x .rights) ∷ length (x .parents) ∷ []) (length (x .work)))
 
   unfoldable pub searchVerdict : Verdict
-  searchVerdict = verdictAfter searchTests (answerHere (jointSizes ts) L R x)
+  searchVerdict = verdictAfter searchTests (answerHere (pairCore ts L R) L R x)
 
   unfoldable pub searchLeaves : SearchLists
-  searchLeaves = lentAfter searchTests (rowsHere (jointSizes ts) L R x) (answerHere (jointSizes ts) L R x) x
+  searchLeaves = lentAfter searchTests (rowsHere (pairCore ts L R) L R x) (answerHere (pairCore ts L R) L R x) x
 
-  -- The promise of the search, over packets of the joint fields.
+  -- the first n packets of the trace list tell the policies apart over declared packets (Figure 1)
+  pub record Telling (s : Side) (n α : ℕ) (trace : List ℕ) : Type 0 where
+    pub long : length (take n trace) ≡ n
+    pub tells : TellsOver (pairClasses ts L R) (jointSizes ts) (at s (policies L R) .tree) (at (other s) (policies L R) .tree) α (take n trace)
+
+  -- The promise of the search. Rows and traces are numbered over the core sizes; what is said of traces is said of declared packets, which have a
+  -- value for each joint field.
   pub record Searched (verdict : Verdict) (y : SearchLists) : Type 0 where
     pub answers : verdict ≡ searchVerdict
     pub leaves : y ≡ searchLeaves
     -- demand 2: equal only if both policies have the same traces from every packet
-    pub equal-same : (rows : ℕ) → verdict ≡ Equal rows → SameTracesBelow (jointSizes ts) (policyOf L) (policyOf R)
+    pub equal-same : (rows : ℕ) → verdict ≡ Equal rows → SameTracesDeclared (jointSizes ts) (policyOf L) (policyOf R)
+    -- and equal wherever they have, if the row order needs no more rows than were lent
+    pub same-equal : searchTests ≡ Passed → SameTracesDeclared (jointSizes ts) (policyOf L) (policyOf R) → (NeedsMore (pairSystem (pairCore ts L R) (policies L R)) (length (x .packets)) → ⊥) → (rows : ℕ) × (verdict ≡ Equal rows)
     -- different only with a packet and trace that exactly one of them has, and no shorter trace tells the two apart from any packet
-    pub different-tells : (s : Side) (n α : ℕ) → verdict ≡ tellingVerdict s n α → Telling (jointSizes ts) L R x s n α (y .trace)
+    pub different-tells : (s : Side) (n α : ℕ) → verdict ≡ tellingVerdict s n α → Telling s n α (y .trace)
     -- where no cause tested earlier holds, full comes exactly when the row order needs more rows than were lent
-    pub full-exactly : searchTests ≡ Passed → (verdict ≡ fullHere (jointSizes ts) L R x) ↔ NeedsMore (pairSystem (jointSizes ts) (policies L R)) (length (x .packets))
+    pub full-exactly : searchTests ≡ Passed → (verdict ≡ fullHere (pairCore ts L R) L R x) ↔ NeedsMore (pairSystem (pairCore ts L R) (policies L R)) (length (x .packets))
     -- and it names the rows lent, and the depth of the row being handled
-    pub full-place : (r : Refusal) (d : ℕ) → verdict ≡ Full r d → Full r d ≡ fullHere (jointSizes ts) L R x
+    pub full-place : (r : Refusal) (d : ℕ) → verdict ≡ Full r d → Full r d ≡ fullHere (pairCore ts L R) L R x
     -- document 02, A.3: both policies have the same traces of d packets or fewer from every packet
-    pub full-same : (r : Refusal) (d : ℕ) → verdict ≡ Full r d → SameShortTracesBelow (jointSizes ts) d (policyOf L) (policyOf R)
+    pub full-same : (r : Refusal) (d : ℕ) → verdict ≡ Full r d → SameShortTracesDeclared (jointSizes ts) d (policyOf L) (policyOf R)
 
 -- what is known of the lent lists where no cause up to 10 holds, and N = count
 pub record Accepted (sizes : List ℕ) (L R : NodeLists) (count : ℕ) (x : SearchLists) : Type 0 where

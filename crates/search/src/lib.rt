@@ -295,11 +295,11 @@ pub fn search(
     let tested = found.tested;
     let count = found.packets;
     let fields = found.count;
-    let sizes = found.sizes;
+    let core = found.core;
     match tested {
         Tested::Refused(r) => Verdict::Refused(r),
         Tested::Passed => search_accepted(
-            &sizes[..fields],
+            &core[..fields],
             count,
             left_kind,
             left_first,

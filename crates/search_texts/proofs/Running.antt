@@ -1,28 +1,24 @@
 -- From the search on the texts' nodes to the promise about the texts.
-use Prim.Native.Nat.{ℕ}
+use Prim.Native.Nat.{ℕ, _<_, _≤_}
 use native.Mathlib.Omega.{arith}
 use mathlib.Core.List.{List, [], _∷_}
 use mathlib.Core.Logic.{_↔_}
 use mathlib.Core.Path.{_≡_, refl, sym, _∙_, ap, subst}
 use lib.ListN.{length, take}
-use Rattle.packet.specs.declared.Counted.{Counted}
 use Rattle.packet.specs.declared.Refusal.{Refusal}
 use Rattle.packet.specs.declared.Tested.{Tested}
 use Rattle.packet.specs.declared.Tested.the-variants.{Passed, Refused as Stopped}
 use Rattle.packet.specs.Refusals.{firstOf}
-use Rattle.packet.specs.Sizes.{productStage, CountOf}
-use Rattle.packet.proofs.Stages.{firstOf-next, firstOf-last, firstOf-refused, firstOf-after, firstOf-passed}
-use Rattle.fields.specs.declared.Joint.{Joint}
-use Rattle.fields.specs.Tables.{Table, jointSizes}
-use Rattle.fields.specs.Inner.{JointOf}
+use Rattle.packet.specs.Packets.{Declared}
+use Rattle.packet.proofs.Stages.{firstOf-next, firstOf-last, firstOf-refused, firstOf-passed}
+use Rattle.fields.specs.Tables.{Table, jointSizes, tablesStage}
 use Rattle.policy.specs.Order.{inOrder, stagesOf, pairOf}
 use Rattle.policy.proofs.OrderLaws as order
-use Rattle.policy.specs.Meaning.{Traces, numbered, SameTraces, SameShortTraces, SameTracesBelow, SameShortTracesBelow}
+use Rattle.policy.specs.Meaning.{TraceSet, Traces, declared, SameTraces, SameShortTraces, SameTracesDeclared, SameShortTracesDeclared, TellsDeclared}
+use Rattle.classes.specs.Classing.{TellsOver}
 use Rattle.policy.specs.NodeLists.{NodeLists, policyOf}
 use Rattle.policy.specs.NodesOfTree.{treeSize}
 use Rattle.pair.specs.Sides.{Side, left, right, other, at, policies}
-use Rattle.pair.specs.Pair.{SideTraces}
-use Rattle.pair.specs.Search.{Distinguishes}
 use Rattle.lent_lists.specs.LentLists.{listsStage, lentTests}
 use Rattle.grammar.specs.Answer.{textTree}
 use Rattle.grammar.proofs.NodeLaws.{text-traces}
@@ -30,7 +26,7 @@ use Rattle.verdict.specs.declared.Verdict.{Verdict}
 use Rattle.verdict.specs.declared.Verdict.the-variants.{Refused}
 use Rattle.search.specs.Call.{SearchLists, verdictAfter, lentAfter, searchTests, searchVerdict, searchLeaves, Searched}
 use Rattle.search.proofs.Answering.{refused-equal, refused-telling, refused-full}
-use Rattle.search_texts.specs.Call.{textNodes, textStage, textTables, leftNames, rightNames, textPolicies, textsTests, textsAnswer, textsRows, textsVerdict, textsLeaves, TextsSearched, Ran}
+use Rattle.search_texts.specs.Call.{textNodes, textStage, textTables, leftNames, rightNames, textPolicies, textsClasses, TextsTell, textsTests, textsAnswer, textsRows, textsVerdict, textsLeaves, TextsSearched, Ran}
 use Rattle.search_texts.proofs.Reading.{stage-answer}
 
 zero≢one : _≡_ {A = ℕ} 0 1 → ⊥
@@ -67,41 +63,49 @@ module _ {ts : List Table} {L R : NodeLists} {x : SearchLists} where
 
 -- ---- the traces of the nodes are those of the text
 
-module _ (sizes : List ℕ) (leftTable rightTable : Table) (left-text right-text : List ℕ) (el : textStage (leftNames leftTable rightTable) left-text ≡ Passed) (er : textStage (rightNames leftTable rightTable) right-text ≡ Passed) where
+module _ (leftTable rightTable : Table) (left-text right-text : List ℕ) (el : textStage (leftNames leftTable rightTable) left-text ≡ Passed) (er : textStage (rightNames leftTable rightTable) right-text ≡ Passed) where
   abbrev ln : List (List ℕ)
   ln = leftNames leftTable rightTable
 
   abbrev rn : List (List ℕ)
   rn = rightNames leftTable rightTable
 
-  tree-traces : (names : List (List ℕ)) (text : List ℕ) → textStage names text ≡ Passed → (α : ℕ) (t : List ℕ) → Traces (numbered sizes) (policyOf (textNodes names text)) α t ≡ Traces (numbered sizes) (textTree names text) α t
+  tree-traces : (names : List (List ℕ)) (text : List ℕ) → textStage names text ≡ Passed → Traces declared (policyOf (textNodes names text)) ≡ Traces declared (textTree names text)
   unfolding textNodes
-  tree-traces names text e α t = ap (λ X. X α t) (text-traces names text 512 (treeSize (textTree names text)) (stage-answer names text e) (numbered sizes))
+  tree-traces names text e = text-traces names text 512 (treeSize (textTree names text)) (stage-answer names text e) declared
 
-  side-is : (s : Side) (α : ℕ) (t : List ℕ) → SideTraces sizes (policies (textNodes ln left-text) (textNodes rn right-text)) s α t ≡ SideTraces sizes (textPolicies leftTable rightTable left-text right-text) s α t
-  unfolding SideTraces at
-  side-is left α t = tree-traces ln left-text el α t
-  side-is right α t = tree-traces rn right-text er α t
+  side-is : (s : Side) → Traces declared (at s (policies (textNodes ln left-text) (textNodes rn right-text)) .tree) ≡ Traces declared (at s (textPolicies leftTable rightTable left-text right-text) .tree)
+  unfolding at
+  side-is left = tree-traces ln left-text el
+  side-is right = tree-traces rn right-text er
 
-  both-are : {A A′ B B′ : Type 0} → A ≡ A′ → B ≡ B′ → A ↔ B → A′ ↔ B′
-  both-are {A} {A′} {B} {B′} p q f = subst (λ (X : Type 0). X ↔ B′) p (subst (λ (Y : Type 0). A ↔ Y) q f)
+  -- what holds of the traces of both policies holds of the texts'
+  both-are : (H : TraceSet declared → TraceSet declared → Type 0) (s t : Side) → H (Traces declared (at s (policies (textNodes ln left-text) (textNodes rn right-text)) .tree)) (Traces declared (at t (policies (textNodes ln left-text) (textNodes rn right-text)) .tree))
+      → H (Traces declared (at s (textPolicies leftTable rightTable left-text right-text) .tree)) (Traces declared (at t (textPolicies leftTable rightTable left-text right-text) .tree))
+  both-are H s t h = subst (λ X. H X (Traces declared (at t (textPolicies leftTable rightTable left-text right-text) .tree))) (side-is s) (subst (λ Y. H (Traces declared (at s (policies (textNodes ln left-text) (textNodes rn right-text)) .tree)) Y) (side-is t) h)
 
-  texts-same : SameTracesBelow sizes (policyOf (textNodes ln left-text)) (policyOf (textNodes rn right-text)) → SameTracesBelow sizes (textTree ln left-text) (textTree rn right-text)
-  unfolding SameTracesBelow SameTraces
-  texts-same f = λ α h t. both-are (tree-traces ln left-text el α t) (tree-traces rn right-text er α t) (f α h t)
+  texts-same : (sizes : List ℕ) → SameTracesDeclared sizes (policyOf (textNodes ln left-text)) (policyOf (textNodes rn right-text)) ↔ SameTracesDeclared sizes (textTree ln left-text) (textTree rn right-text)
+  unfolding SameTraces at
+  texts-same sizes =
+      both-are (λ X Y. SameTracesDeclared sizes (policyOf (textNodes ln left-text)) (policyOf (textNodes rn right-text)) ↔ ((α : List ℕ) → Declared sizes α → (t : List (List ℕ)) → X α t ↔ Y α t)) left right (λ h. h, λ h. h)
 
-  texts-short : (d : ℕ) → SameShortTracesBelow sizes d (policyOf (textNodes ln left-text)) (policyOf (textNodes rn right-text)) → SameShortTracesBelow sizes d (textTree ln left-text) (textTree rn right-text)
-  unfolding SameShortTracesBelow SameShortTraces
-  texts-short d f = λ α h t l. both-are (tree-traces ln left-text el α t) (tree-traces rn right-text er α t) (f α h t l)
+  texts-short : (sizes : List ℕ) (d : ℕ) → SameShortTracesDeclared sizes d (policyOf (textNodes ln left-text)) (policyOf (textNodes rn right-text)) → SameShortTracesDeclared sizes d (textTree ln left-text) (textTree rn right-text)
+  unfolding SameShortTraces at
+  texts-short sizes d f = both-are (λ X Y. (α : List ℕ) → Declared sizes α → (t : List (List ℕ)) → length t ≤ d → X α t ↔ Y α t) left right f
 
-  texts-tell : (s : Side) (α : ℕ) (t : List ℕ) → Distinguishes sizes (policies (textNodes ln left-text) (textNodes rn right-text)) s α t → Distinguishes sizes (textPolicies leftTable rightTable left-text right-text) s α t
-  texts-tell s α t d =
+  texts-tell : (sizes : List ℕ) (s : Side) (α : List ℕ) (t : List (List ℕ)) → TellsDeclared sizes (at s (policies (textNodes ln left-text) (textNodes rn right-text)) .tree) (at (other s) (policies (textNodes ln left-text) (textNodes rn right-text)) .tree) α t
+      → TellsDeclared sizes (at s (textPolicies leftTable rightTable left-text right-text) .tree) (at (other s) (textPolicies leftTable rightTable left-text right-text) .tree) α t
+  texts-tell sizes s α t d =
       record {
         enters = d .enters;
-        has = subst (λ (X : Type 0). X) (side-is s α t) (d .has);
-        lacks = λ h. d .lacks (subst (λ (X : Type 0). X) (sym (side-is (other s) α t)) h);
-        shortest = λ β h u l. both-are (side-is left β u) (side-is right β u) (d .shortest β h u l);
+        has = both-are (λ X Y. X α t) s s (d .has);
+        lacks = both-are (λ X Y. Y α t → ⊥) s (other s) (d .lacks);
+        shortest = both-are (λ X Y. (β : List ℕ) → Declared sizes β → (u : List (List ℕ)) → length u < length t → X β u ↔ Y β u) s (other s) (d .shortest);
       }
+
+  texts-tell-over : (s : Side) (α : ℕ) (t : List ℕ) → TellsOver (textsClasses leftTable rightTable left-text right-text) (jointSizes (textTables leftTable rightTable)) (at s (policies (textNodes ln left-text) (textNodes rn right-text)) .tree) (at (other s) (policies (textNodes ln left-text) (textNodes rn right-text)) .tree) α t
+      → TextsTell leftTable rightTable left-text right-text s α t
+  texts-tell-over s α t d = record { inside = d .inside; shown = texts-tell _ s _ _ (d .shown); along = λ β e f. texts-tell _ s _ _ (d .along β e f) }
 
 -- ---- the public call
 
@@ -113,6 +117,7 @@ module _ (leftTable rightTable : Table) (left-text right-text : List ℕ) (x : S
         answers = sym (ap (λ (t : Tested). verdictAfter t (textsAnswer leftTable rightTable left-text right-text x)) e);
         leaves = sym (ap (λ (t : Tested). lentAfter t (textsRows leftTable rightTable left-text right-text x) (textsAnswer leftTable rightTable left-text right-text x) x) e);
         equal-same = λ rows q. absurd (refused-equal q);
+        same-equal = λ p. absurd (passed≢stopped (sym p ∙ e));
         different-tells = λ s n α q. absurd (refused-telling s n α q);
         full-exactly = λ p. absurd (passed≢stopped (sym p ∙ e));
         full-place = λ q d f. absurd (refused-full f);
@@ -134,13 +139,13 @@ module _ (leftTable rightTable : Table) (left-text right-text : List ℕ) (x : S
   abbrev textTests : Tested
   textTests = firstOf (textStage lnames left-text ∷ textStage rnames right-text ∷ [])
 
-  pub early-refused : {r : Refusal} → order.beforeTexts ts ≡ Stopped r → TextsSearched leftTable rightTable left-text right-text x (Refused r) x
+  pub tables-refused : {r : Refusal} → tablesStage ts ≡ Stopped r → TextsSearched leftTable rightTable left-text right-text x (Refused r) x
   unfolding textsTests
-  early-refused e = refused-by (order.early-refused ts _ _ _ _ e)
+  tables-refused e = refused-by (order.tables-refused ts _ _ _ _ e)
 
-  early-passed : {v : Verdict} {y : SearchLists} → order.beforeTexts ts ≡ Passed → Ran textTests ts (textNodes lnames left-text) (textNodes rnames right-text) x v y → TextsSearched leftTable rightTable left-text right-text x v y
+  tables-passed : {v : Verdict} {y : SearchLists} → tablesStage ts ≡ Passed → Ran textTests ts (textNodes lnames left-text) (textNodes rnames right-text) x v y → TextsSearched leftTable rightTable left-text right-text x v y
   unfolding textsTests searchTests lentTests searchVerdict searchLeaves textsVerdict textsLeaves
-  early-passed {v} {y} e ran = go textTests refl
+  tables-passed {v} {y} e ran = go textTests refl
     where
       searched : textTests ≡ Passed → Searched ts (textNodes lnames left-text) (textNodes rnames right-text) x v y → TextsSearched leftTable rightTable left-text right-text x v y
       searched q s =
@@ -152,11 +157,12 @@ module _ (leftTable rightTable : Table) (left-text right-text : List ℕ) (x : S
           record {
             answers = s .answers ∙ sym (ap (λ (t : Tested). verdictAfter t (textsAnswer leftTable rightTable left-text right-text x)) same);
             leaves = s .leaves ∙ sym (ap (λ (t : Tested). lentAfter t (textsRows leftTable rightTable left-text right-text x) (textsAnswer leftTable rightTable left-text right-text x) x) same);
-            equal-same = λ rows f. texts-same (jointSizes ts) leftTable rightTable left-text right-text l r (s .equal-same rows f);
-            different-tells = λ sd n α f. (let t = s .different-tells sd n α f in record { long = t .long; tells = texts-tell (jointSizes ts) leftTable rightTable left-text right-text l r sd α (take n (y .trace)) (t .tells) });
+            equal-same = λ rows f. texts-same leftTable rightTable left-text right-text l r (jointSizes ts) .0 (s .equal-same rows f);
+            same-equal = λ f g. s .same-equal (sym same ∙ f) (texts-same leftTable rightTable left-text right-text l r (jointSizes ts) .1 g);
+            different-tells = λ sd n α f. (let t = s .different-tells sd n α f in record { long = t .long; tells = texts-tell-over leftTable rightTable left-text right-text l r sd α (take n (y .trace)) (t .tells) });
             full-exactly = λ f. s .full-exactly (sym same ∙ f);
             full-place = s .full-place;
-            full-same = λ r′ d f. texts-short (jointSizes ts) leftTable rightTable left-text right-text l r d (s .full-same r′ d f);
+            full-same = λ r′ d f. texts-short leftTable rightTable left-text right-text l r (jointSizes ts) d (s .full-same r′ d f);
           }
 
       go : (t : Tested) → textTests ≡ t → TextsSearched leftTable rightTable left-text right-text x v y
@@ -168,15 +174,10 @@ module _ (leftTable rightTable : Table) (left-text right-text : List ℕ) (x : S
           (refused-by (order.texts-refused ts _ _ _ _ e q)))
 
   -- the names as each side may use them
-  pub words-passed : {ln′ rn′ : List (List ℕ)} → ln′ ≡ lnames → rn′ ≡ rnames → {v : Verdict} {y : SearchLists} → order.beforeTexts ts ≡ Passed
+  pub words-passed : {ln′ rn′ : List (List ℕ)} → ln′ ≡ lnames → rn′ ≡ rnames → {v : Verdict} {y : SearchLists} → tablesStage ts ≡ Passed
       → Ran (firstOf (textStage ln′ left-text ∷ textStage rn′ right-text ∷ [])) ts (textNodes ln′ left-text) (textNodes rn′ right-text) x v y
       → TextsSearched leftTable rightTable left-text right-text x v y
   words-passed {ln′} {rn′} p q {v} {y} e ran =
-      early-passed e
+      tables-passed e
       (subst (λ (ns : List (List ℕ)). Ran (firstOf (textStage lnames left-text ∷ textStage ns right-text ∷ [])) ts (textNodes lnames left-text) (textNodes ns right-text) x v y) q
       (subst (λ (ns : List (List ℕ)). Ran (firstOf (textStage ns left-text ∷ textStage rn′ right-text ∷ [])) ts (textNodes ns left-text) (textNodes rn′ right-text) x v y) p ran))
-
--- what comes before the texts, as it was tested
-pub early-tests : (ts : List Table) {J : Joint} → JointOf ts J → {c : Counted} → CountOf (take (J .count) (J .sizes)) c → {t : Tested} → t ≡ firstOf (J .tested ∷ c .tested ∷ [])
-    → t ≡ order.beforeTexts ts
-early-tests ts joint counted made = made ∙ firstOf-after _ _ (joint .tested) (λ p. ap (λ (t : Tested). firstOf (t ∷ [])) (counted .says ∙ ap productStage (joint .sized p)))

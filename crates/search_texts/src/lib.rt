@@ -105,8 +105,8 @@ fn search_left(
     }
 }
 
-// Whether two texts have the same traces from every packet. What comes before the texts is tested here, what comes after them by the
-// search on node lists. The row lists, the trace list and the work list are as for the search on node lists.
+// Whether two texts have the same traces from every packet. The tables are tested here, what comes after the texts by the search on node
+// lists. The row lists, the trace list and the work list are as for the search on node lists.
 pub fn search(
     left_names: &[u8],
     left_sizes: &[u16],
@@ -125,11 +125,8 @@ pub fn search(
 {
     let joint = fields::join(left_names, left_sizes, right_names, right_sizes);
     let count = joint.count;
-    let sizes = joint.sizes;
-    let counted = packet::packet_count(&sizes[..count]);
     let said = joint.tested;
-    let product = counted.tested;
-    match packet::first_of(said, product) {
+    match said {
         Tested::Refused(r) => Verdict::Refused(r),
         Tested::Passed => {
             let names = joint.names;

@@ -15,12 +15,13 @@ use Rattle.packet.specs.Refusals.{refusedAt, firstOf}
 use Rattle.packet.specs.Sizes.{product, LegalSizes}
 use Rattle.packet.proofs.Lowest.{lowest-none, none-lowest, lowest-more, lowest-found}
 use Rattle.packet.proofs.Stages.{firstOf-last, firstOf-refused, firstOf-next, firstOf-passed, refusedAt-passed}
-use Rattle.policy.specs.Order.{pairOf, pairTests}
+use Rattle.policy.specs.Order.{pairOf, pairCore, pairTests}
+use Rattle.classes.proofs.Pairs.{LegalPair}
 use Rattle.policy.proofs.OrderLaws.{packets-last}
 use Rattle.legality.specs.declared.CallTested.{CallTested}
 use Rattle.legality.specs.Answers.{FrontOf}
 use Rattle.policy.specs.Legality.{Legal}
-use Rattle.fields.specs.Tables.{Table, jointSizes}
+use Rattle.fields.specs.Tables.{Table}
 use Rattle.policy.specs.NodeLists.{NodeLists}
 use Rattle.lent_lists.specs.LentLists as rows
 use Rattle.lent_lists.specs.LentLists.{listsStage}
@@ -78,16 +79,17 @@ module _ (ts : List Table) (L R : NodeLists) (words : ℕ) where
 
   -- what holds where they pass
   pub record Passing : Type 0 where
-    pub legal-sizes : LegalSizes (jointSizes ts)
-    pub left-legal : Legal (jointSizes ts) L
-    pub right-legal : Legal (jointSizes ts) R
+    pub legal-sizes : LegalSizes (pairCore ts L R)
+    pub left-legal : Legal (pairCore ts L R) L
+    pub right-legal : Legal (pairCore ts L R) R
+    pub pair : LegalPair ts L R
     pub long : 16384 ≤ words
 
   pub lent-passed : listsTests ts L R words ≡ Passed → Passing
   unfolding listsTests
   lent-passed e =
       let h = tests-passed ts L R _ e in
-      record { legal-sizes = h .legal-sizes; left-legal = h .left-legal; right-legal = h .right-legal; long = lists-passed [] words (h .passed) .1 }
+      record { legal-sizes = h .legal-sizes; left-legal = h .left-legal; right-legal = h .right-legal; pair = h .pair; long = lists-passed [] words (h .passed) .1 }
 
   -- two policies that the causes before 10 let pass, and a work list that is long enough
   pub pair-lent : pairTests ts L R ≡ Passed → 16384 ≤ words → listsTests ts L R words ≡ Passed
@@ -97,15 +99,15 @@ module _ (ts : List Table) (L R : NodeLists) (words : ℕ) where
   -- ---- then 13
 
   module _ (α : ℕ) (trace : List ℕ) where
-    then-packets : traceTests ts L R α trace words ≡ firstOf (listsTests ts L R words ∷ packetsStage (product (jointSizes ts)) α trace ∷ [])
+    then-packets : traceTests ts L R α trace words ≡ firstOf (listsTests ts L R words ∷ packetsStage (product (pairCore ts L R)) α trace ∷ [])
     unfolding traceTests listsTests rows.lentTests
     then-packets = packets-last ts Passed (pairOf L R) _ _
 
     pub trace-refused : (r : Refusal) → listsTests ts L R words ≡ Refused r → traceTests ts L R α trace words ≡ Refused r
     trace-refused r e = then-packets ∙ firstOf-refused _ _ r e
 
-    pub trace-tested : listsTests ts L R words ≡ Passed → traceTests ts L R α trace words ≡ packetsStage (product (jointSizes ts)) α trace
+    pub trace-tested : listsTests ts L R words ≡ Passed → traceTests ts L R α trace words ≡ packetsStage (product (pairCore ts L R)) α trace
     trace-tested e = then-packets ∙ firstOf-next _ _ e ∙ firstOf-last _
 
-    pub trace-passed : traceTests ts L R α trace words ≡ Passed → (listsTests ts L R words ≡ Passed) × (packetsStage (product (jointSizes ts)) α trace ≡ Passed)
+    pub trace-passed : traceTests ts L R α trace words ≡ Passed → (listsTests ts L R words ≡ Passed) × (packetsStage (product (pairCore ts L R)) α trace ≡ Passed)
     trace-passed e = let f = firstOf-passed _ _ (sym then-packets ∙ e) in (f .0, firstOf-passed _ _ (f .1) .0)

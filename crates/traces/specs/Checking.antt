@@ -1,7 +1,7 @@
--- The trace checker (document 01, "Row rules for evidence" and "Causes, in the order tested").
+-- The trace checker (document 01, "Row rules for evidence" and "Causes, in the order tested"; document 02, A.6).
 use Prim.Native.Nat.{ℕ, suc, _<_, _≤_}
 use mathlib.Core.Bool.{Bool}
-use mathlib.Core.List.{List, [], _∷_}
+use mathlib.Core.List.{List, [], _∷_, map}
 use mathlib.Core.Logic.{_↔_}
 use mathlib.Core.Path.{_≡_}
 use lib.Dec.{T, leb}
@@ -12,12 +12,15 @@ use Rattle.packet.specs.Lowest.{lowest}
 use Rattle.packet.specs.Refusals.{refusedAt}
 use Rattle.packet.specs.Sizes.{product, LegalSizes}
 use Rattle.policy.specs.Legality.{Legal}
-use Rattle.policy.specs.Order.{inOrder, stagesOf, pairOf}
-use Rattle.policy.specs.Meaning.{numbered, Traces}
+use Rattle.policy.specs.Order.{inOrder, stagesOf, pairOf, pairCore}
+use Rattle.policy.specs.Meaning.{declared, Traces}
+use Rattle.packet.specs.Packets.{Declared}
+use Rattle.classes.specs.Classing.{classNumber, shownPacket, lifted}
+use Rattle.classes.specs.Mentioned.{pairClasses}
 use Rattle.fields.specs.Tables.{Table, jointSizes}
 use Rattle.policy.specs.NodeLists.{NodeLists, nodeCount, dupsBelow, policyOf}
 use Rattle.automaton.specs.State.{hasTrace}
-use Rattle.pair.specs.Sides.{left, right, policies}
+use Rattle.pair.specs.Sides.{Side, left, right, at, policies}
 use Rattle.pair.specs.TraceCheck.{TraceAnswer, only, both, neither, has, traceAnswer}
 use Rattle.loaded.specs.Loaded.{Loaded}
 use Rattle.engine.specs.Stepping.{Stands}
@@ -53,18 +56,21 @@ module _ (ts : List Table) (L R : NodeLists) where
 
   -- the order of causes: up to 10, then 13
   unfoldable pub traceTests : ℕ → List ℕ → ℕ → Tested
-  traceTests α trace words = inOrder (stagesOf ts Passed (pairOf L R) (listsStage [] words) (packetsStage (product (jointSizes ts)) α trace))
+  traceTests α trace words = inOrder (stagesOf ts Passed (pairOf L R) (listsStage [] words) (packetsStage (product (pairCore ts L R)) α trace))
 
   -- the trace checker's answer
   unfoldable pub traceCall : ℕ → List ℕ → ℕ → TraceChecked
-  traceCall α trace words = checkedUnless (traceTests α trace words) (traceAnswer (jointSizes ts) (policies L R) α trace)
+  traceCall α trace words = checkedUnless (traceTests α trace words) (traceAnswer (pairCore ts L R) (policies L R) α trace)
 
-  -- The call's promise. Where it answers, the answer says of each policy whether Figure 1 gives it the trace from the entering packet.
+  -- The call's promise. Where it answers, the answer says of each policy whether Figure 1 gives it the trace: from the declared packet shown, and from every
+  -- declared packet of the entering packet's classes, the trace being lifted along that packet.
   pub record CheckedTrace (α : ℕ) (trace work : List ℕ) (answer : TraceChecked) (work′ : List ℕ) : Type 0 where
     pub answers : answer ≡ traceCall α trace (length work)
     pub work-list : work′ ≡ workAfter (listsTests (length work)) work
-    pub left-trace : (a : TraceAnswer) → answer ≡ checkedAs a → T (has left a) ↔ Traces (numbered (jointSizes ts)) (policyOf L) α trace
-    pub right-trace : (a : TraceAnswer) → answer ≡ checkedAs a → T (has right a) ↔ Traces (numbered (jointSizes ts)) (policyOf R) α trace
+    pub shown-trace : (a : TraceAnswer) → answer ≡ checkedAs a → (s : Side)
+        → T (has s a) ↔ Traces declared (at s (policies L R) .tree) (shownPacket (pairClasses ts L R) α) (map (shownPacket (pairClasses ts L R)) trace)
+    pub lifted-trace : (a : TraceAnswer) → answer ≡ checkedAs a → (s : Side) (β : List ℕ) → Declared (jointSizes ts) β → classNumber (pairClasses ts L R) β ≡ α
+        → T (has s a) ↔ Traces declared (at s (policies L R) .tree) β (map (lifted (pairClasses ts L R) β) trace)
 
 -- what following a trace through one policy asks: no cause up to 13 holds, N = count, and the first words of the work list 0
 pub record FollowReady (sizes : List ℕ) (L : NodeLists) (count α : ℕ) (trace work : List ℕ) : Type 0 where

@@ -161,7 +161,7 @@ pub fn check(
     let tested = found.tested;
     let count = found.packets;
     let fields = found.count;
-    let sizes = found.sizes;
+    let core = found.core;
     match tested {
         Tested::Refused(r) => TraceChecked::Refused(r),
         Tested::Passed => {
@@ -170,7 +170,7 @@ pub fn check(
                 Tested::Refused(r) => TraceChecked::Refused(r),
                 Tested::Passed => {
                     let left = has_trace(
-                        &sizes[..fields],
+                        &core[..fields],
                         count,
                         left_kind,
                         left_first,
@@ -180,7 +180,7 @@ pub fn check(
                         work,
                     );
                     let right = has_trace(
-                        &sizes[..fields],
+                        &core[..fields],
                         count,
                         right_kind,
                         right_first,

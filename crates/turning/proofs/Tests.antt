@@ -19,12 +19,20 @@ use Rattle.packet.specs.Packets.{Declared, valuesOf, numberOf}
 use Rattle.packet.proofs.Lowest.{lowest-none}
 use Rattle.packet.proofs.Stages.{firstOf-last, firstOf-refused, firstOf-next, firstOf-after, firstOf-passed, refusedAt-passed, atPlace-none}
 use Rattle.fields.specs.Tables.{Table, jointSizes}
-use Rattle.policy.specs.Order.{inOrder, stagesOf}
+use Rattle.policy.specs.NodeLists.{NodeLists}
+use Rattle.policy.specs.Order.{inOrder, stagesOf, pairOf}
 use Rattle.policy.proofs.OrderLaws.{passing, sizes-legal, packets-last, still-passing}
 use Rattle.legality.specs.declared.CallTested.{CallTested}
-use Rattle.legality.specs.Answers.{dropNodes, FrontOf}
-use Rattle.legality.proofs.AnswerLaws.{no-policy}
-use Rattle.turning.specs.Turning.{lengthTest, numberStage, valuesTests, badValue, valuesStage, numberTests}
+use Rattle.legality.specs.Answers.{FrontOf}
+use Rattle.policy.proofs.MentionLaws.{core-length}
+use Rattle.packet.proofs.Packets.{declared-length}
+use Rattle.classes.specs.Classing.{classNumber, shownPacket}
+use Rattle.classes.specs.Mentioned.{pairClasses}
+use Rattle.classes.proofs.MentionNumbers.{mention-shown}
+use Rattle.turning.proofs.Classes.{classes-declared, classes-number}
+use Rattle.turning.specs.Turning.{lengthTest, numberStage, valuesTests, valuesAnswer, keptUnless, valuesLeft, badValue, valuesStage, numberTests, numberAnswer, numberCall, classesIn}
+use Rattle.turning.specs.declared.Values.the-variants.{Written, Refused as ValuesRefused}
+use Rattle.turning.specs.declared.Number.the-variants.{Packet, Refused as NumberRefused}
 
 -- ---- cause 13
 
@@ -66,58 +74,29 @@ module _ (sizes values : List ℕ) where
 
 -- ---- the tests as they were made
 
--- F is what the front says without policies
-module _ (ts : List Table) {F : CallTested} (front : FrontOf ts 1 dropNodes dropNodes Passed F) where
+-- F is what the front says
+module _ (ts : List Table) (L R : NodeLists) {F : CallTested} (front : FrontOf ts 1 L R Passed F) where
   -- the joint sizes are as many as the front says
   length-joint : F .tested ≡ Passed → F .count ≡ length (jointSizes ts)
-  length-joint p = sym (length-take-le (F .count) (F .sizes) (front .few)) ∙ ap length (front .joint p)
+  length-joint p = sym (length-take-le (F .count) (F .sizes) (front .few .0)) ∙ ap length (front .joint p)
 
   -- 13 after the front
-  then-packets : {t k : Tested} (packets : Tested) → t ≡ firstOf (F .tested ∷ k ∷ []) → (F .tested ≡ Passed → k ≡ packets) → t ≡ inOrder (stagesOf ts Passed [] Passed packets)
+  then-packets : {t k : Tested} (packets : Tested) → t ≡ firstOf (F .tested ∷ k ∷ []) → (F .tested ≡ Passed → k ≡ packets) → t ≡ inOrder (stagesOf ts Passed (pairOf L R) Passed packets)
   then-packets packets made same =
       made
-      ∙ firstOf-after _ (packets ∷ []) (front .tested ∙ no-policy ts Passed Passed Passed 1) (λ p. ap (λ (k : Tested). firstOf (k ∷ [])) (same p))
-      ∙ sym (packets-last ts Passed [] Passed packets)
+      ∙ firstOf-after _ (packets ∷ []) (front .tested) (λ p. ap (λ (k : Tested). firstOf (k ∷ [])) (same p))
+      ∙ sym (packets-last ts Passed (pairOf L R) Passed packets)
 
   module _ {t k : Tested} (made : t ≡ firstOf (F .tested ∷ k ∷ [])) where
-    pub values-made : (number len : ℕ) → k ≡ numberStage (F .count) (F .packets) number len → t ≡ valuesTests ts number len
+    pub values-made : (number len : ℕ) → k ≡ numberStage (F .count) (F .packets) number len → t ≡ valuesTests ts L R number len
     unfolding valuesTests
     values-made number len e = then-packets _ made (λ p. e ∙ ap₂ (λ (c n : ℕ). numberStage c n number len) (length-joint p) (front .packets p))
 
-    pub number-made : (values : List ℕ) → k ≡ valuesStage (take (F .count) (F .sizes)) values → t ≡ numberTests ts values
+    pub number-made : (values : List ℕ) → k ≡ valuesStage (take (F .count) (F .sizes)) values → t ≡ numberTests ts L R values
     unfolding numberTests
     number-made values e = then-packets _ made (λ p. e ∙ ap (λ (s : List ℕ). valuesStage s values) (front .joint p))
 
 -- ---- what holds where they pass
-
-module _ (ts : List Table) {F : CallTested} (front : FrontOf ts 1 dropNodes dropNodes Passed F) where
-  -- the front has passed where the call's tests pass
-  front-passed : (packets : Tested) → inOrder (stagesOf ts Passed [] Passed packets) ≡ Passed → F .tested ≡ Passed
-  front-passed packets e = front .tested ∙ no-policy ts Passed Passed Passed 1 ∙ still-passing ts [] Passed Passed packets e refl refl refl
-
-  -- the sizes are legal, the list has a value for each field, and the number is below N
-  pub values-passed : (number len : ℕ) → valuesTests ts number len ≡ Passed
-      → LegalSizes (take (F .count) (F .sizes)) × (F .packets ≡ product (take (F .count) (F .sizes))) × (number < F .packets) × (len ≡ length (take (F .count) (F .sizes)))
-  unfolding valuesTests numberStage
-  values-passed number len e =
-      let h = passing _ _ _ _ _ e in
-      let q = firstOf-passed _ _ (h .packets-pass) in
-      let p = front-passed _ e in
-      let same = sym (front .joint p) in (
-        subst LegalSizes same (sizes-legal _ _ _ _ _ h),
-        front .packets p ∙ ap product same,
-        subst (λ (n : ℕ). number < n) (sym (front .packets p)) (leb-false _ _ (atPlace-none 0 _ (refusedAt-passed 13 0 _ (firstOf-passed _ _ (q .1) .0)))),
-        length-known _ _ (q .0) ∙ ap length same,
-      )
-
-  -- what is written are the packet's values
-  pub values-are : (number len : ℕ) → valuesTests ts number len ≡ Passed → valuesOf (take (F .count) (F .sizes)) number ≡ valuesOf (jointSizes ts) number
-  unfolding valuesTests
-  values-are number len e = ap (λ (s : List ℕ). valuesOf s number) (front .joint (front-passed _ e))
-
-  pub number-is : (values : List ℕ) → numberTests ts values ≡ Passed → numberOf (take (F .count) (F .sizes)) values ≡ numberOf (jointSizes ts) values
-  unfolding numberTests
-  number-is values e = ap (λ (s : List ℕ). numberOf s values) (front .joint (front-passed _ e))
 
 declared-by-values : (sizes values : List ℕ) → length values ≡ length sizes
     → ((i : ℕ) → i < length sizes → getD values i 0 < getD sizes i 0) → Declared sizes values
@@ -133,13 +112,74 @@ none-bad : (sizes values : List ℕ) → length values ≡ length sizes → lowe
 unfolding badValue
 none-bad sizes values e n = declared-by-values sizes values e (λ i h. leb-false (getD sizes i 0) (getD values i 0) (lowest-none (badValue sizes values) (length sizes) n i h))
 
-pub declared-passed : (ts : List Table) {F : CallTested} → FrontOf ts 1 dropNodes dropNodes Passed F → (values : List ℕ) → numberTests ts values ≡ Passed
-    → LegalSizes (take (F .count) (F .sizes)) × Declared (take (F .count) (F .sizes)) values
-unfolding numberTests valuesStage
-declared-passed ts {F} front values e =
-    let h = passing _ _ _ _ _ e in
-    let q = firstOf-passed _ _ (h .packets-pass) in
-    let same = sym (front .joint (front-passed ts front _ e)) in (
-      subst LegalSizes same (sizes-legal _ _ _ _ _ h),
-      subst (λ (s : List ℕ). Declared s values) same (none-bad (jointSizes ts) values (length-known _ _ (q .0)) (refusedAt-passed 13 0 _ (firstOf-passed _ _ (q .1) .0))),
-    )
+module _ (ts : List Table) (L R : NodeLists) {F : CallTested} (front : FrontOf ts 1 L R Passed F) where
+  -- the front has passed where the call's tests pass
+  front-passed : (packets : Tested) → inOrder (stagesOf ts Passed (pairOf L R) Passed packets) ≡ Passed → F .tested ≡ Passed
+  front-passed packets e = front .tested ∙ still-passing ts (pairOf L R) Passed Passed packets e refl refl refl
+
+  -- the core sizes are legal, the list has a value for each field, and the number is below N
+  pub values-passed : (number len : ℕ) → valuesTests ts L R number len ≡ Passed
+      → LegalSizes (take (F .count) (F .core)) × (F .packets ≡ product (take (F .count) (F .core))) × (number < F .packets) × (len ≡ length (take (F .count) (F .core)))
+  unfolding valuesTests numberStage
+  values-passed number len e =
+      let h = passing _ _ _ _ _ e in
+      let q = firstOf-passed _ _ (h .packets-pass) in
+      let p = front-passed _ e in
+      let same = sym (front .core p) in (
+        subst LegalSizes same (sizes-legal _ _ _ _ _ h),
+        front .packets p ∙ ap product same,
+        subst (λ (n : ℕ). number < n) (sym (front .packets p)) (leb-false _ _ (atPlace-none 0 _ (refusedAt-passed 13 0 _ (firstOf-passed _ _ (q .1) .0)))),
+        length-known _ _ (q .0) ∙ sym (core-length (L ∷ R ∷ []) (jointSizes ts)) ∙ ap length same,
+      )
+
+  -- what is written are the values shown for the packet
+  pub values-are : (number len : ℕ) → valuesTests ts L R number len ≡ Passed → valuesOf (take (F .count) (F .core)) number ≡ shownPacket (pairClasses ts L R) number
+  unfolding valuesTests
+  values-are number len e =
+      let p = front-passed _ e in
+      let below = subst (λ n. number < n) (front .packets p) (values-passed number len e .2) in
+      ap (λ (s : List ℕ). valuesOf s number) (front .core p) ∙ sym (mention-shown (L ∷ R ∷ []) (jointSizes ts) number below)
+
+  module _ (values : List ℕ) (e : numberTests ts L R values ≡ Passed) where
+    -- the values are those of a declared packet
+    values-declared : Declared (jointSizes ts) values
+    unfolding numberTests valuesStage
+    values-declared =
+        let q = firstOf-passed _ _ (passing _ _ _ _ _ e .packets-pass) in
+        none-bad (jointSizes ts) values (length-known _ _ (q .0)) (refusedAt-passed 13 0 _ (firstOf-passed _ _ (q .1) .0))
+
+    pub number-asks : LegalSizes (take (F .count) (F .core)) × (length values ≡ length (take (F .count) (F .core))) × Declared (take (F .count) (F .core)) (classesIn (take (F .count) (F .core)) values)
+    unfolding numberTests
+    number-asks =
+        subst (λ (s : List ℕ). LegalSizes s × (length values ≡ length s) × Declared s (classesIn s values)) (sym (front .core (front-passed _ e))) (
+          sizes-legal _ _ _ _ _ (passing _ _ _ _ _ e),
+          declared-length (jointSizes ts) values values-declared ∙ sym (core-length (L ∷ R ∷ []) (jointSizes ts)),
+          classes-declared (L ∷ R ∷ []) (jointSizes ts) values values-declared,
+        )
+
+    pub number-is : numberOf (take (F .count) (F .core)) (classesIn (take (F .count) (F .core)) values) ≡ classNumber (pairClasses ts L R) values
+    unfolding numberTests
+    number-is =
+        ap (λ (s : List ℕ). numberOf s (classesIn s values)) (front .core (front-passed _ e))
+        ∙ sym (classes-number (L ∷ R ∷ []) (jointSizes ts) values values-declared)
+
+-- ---- the answers
+
+module _ (ts : List Table) (L R : NodeLists) (number : ℕ) (old : List ℕ) where
+  pub values-refused : {r : Refusal} → valuesTests ts L R number (length old) ≡ Refused r → (ValuesRefused r ≡ valuesAnswer (valuesTests ts L R number (length old))) × (old ≡ valuesLeft ts L R number old)
+  unfolding valuesAnswer valuesLeft keptUnless
+  values-refused e = (sym (ap valuesAnswer e), sym (ap (λ (t : Tested). keptUnless t (shownPacket (pairClasses ts L R) number) old) e))
+
+  pub values-written : valuesTests ts L R number (length old) ≡ Passed → {new : List ℕ} → new ≡ shownPacket (pairClasses ts L R) number
+      → (Written ≡ valuesAnswer (valuesTests ts L R number (length old))) × (new ≡ valuesLeft ts L R number old)
+  unfolding valuesAnswer valuesLeft keptUnless
+  values-written e same = (sym (ap valuesAnswer e), same ∙ sym (ap (λ (t : Tested). keptUnless t (shownPacket (pairClasses ts L R) number) old) e))
+
+module _ (ts : List Table) (L R : NodeLists) (values : List ℕ) where
+  pub call-refused : {r : Refusal} → numberTests ts L R values ≡ Refused r → NumberRefused r ≡ numberCall ts L R values
+  unfolding numberCall numberAnswer
+  call-refused e = sym (ap (λ (t : Tested). numberAnswer t (classNumber (pairClasses ts L R) values)) e)
+
+  pub call-answered : numberTests ts L R values ≡ Passed → {number : ℕ} → number ≡ classNumber (pairClasses ts L R) values → Packet number ≡ numberCall ts L R values
+  unfolding numberCall numberAnswer
+  call-answered e same = ap Packet same ∙ sym (ap (λ (t : Tested). numberAnswer t (classNumber (pairClasses ts L R) values)) e)

@@ -5,11 +5,9 @@ ghost use lib.ListN.{length};
 ghost use Rattle.packet.specs.Lowest.{lowest, optionOf};
 ghost use Rattle.packet.specs.Sizes.{LegalSizes, product};
 ghost use Rattle.packet.specs.Packets.{Declared, valuesOf, numberOf};
-ghost use Rattle.packet.specs.declared.Tested.the-variants.{Passed};
-ghost use Rattle.fields.specs.Tables.{tablesAtEntry, jointSizes};
-ghost use Rattle.legality.specs.Answers.{dropNodes, FrontOf};
-ghost use Rattle.turning.specs.Turning.{lengthTest, numberStage, valuesStage, valuesTests, valuesAnswer, valuesLeft, badValue, numberTests, numberAnswer};
-use legality::CallTested;
+ghost use Rattle.fields.specs.Tables.{tablesAtEntry};
+ghost use Rattle.policy.specs.AsLists.{policyAtEntry};
+ghost use Rattle.turning.specs.Turning.{lengthTest, numberStage, valuesStage, valuesTests, valuesAnswer, valuesLeft, badValue, numberCall, classIn, classesIn};
 use packet::Place;
 use packet::Refusal;
 use packet::Tested;
@@ -24,33 +22,6 @@ pub enum Values {
 pub enum Number {
     Packet(u16),
     Refused(Refusal),
-}
-
-// The causes of the tables and 3: the front without policies.
-fn no_policies(
-    left_names: &[u8],
-    left_sizes: &[u16],
-    right_names: &[u8],
-    right_sizes: &[u16],
-) -> CallTested
-    ensures { λ r. ⌜ FrontOf (tablesAtEntry «left_names» «left_sizes» «right_names» «right_sizes») 1 dropNodes dropNodes Passed r ⌝ }
-{
-    let drop = [0u8; 1];
-    let unused = [0u16; 1];
-    legality::front(
-        left_names,
-        left_sizes,
-        right_names,
-        right_sizes,
-        1,
-        &drop,
-        &unused,
-        &unused,
-        &drop,
-        &unused,
-        &unused,
-        Tested::Passed,
-    )
 }
 
 // Cause 13 for a value list of another length than k.
@@ -105,27 +76,46 @@ fn write_values(sizes: &[u16], count: u16, number: u16, values: &mut [u16])
     }
 }
 
-// The values of the packet's fields from its number, into the lent list.
+// The values of the packet's fields from its number, into the lent list; an unmentioned field shows 0.
 pub fn values_of(
     left_names: &[u8],
     left_sizes: &[u16],
     right_names: &[u8],
     right_sizes: &[u16],
+    left_kind: &[u8],
+    left_first: &[u16],
+    left_second: &[u16],
+    right_kind: &[u8],
+    right_first: &[u16],
+    right_second: &[u16],
     number: u16,
     values: &mut [u16],
 ) -> Values
-    ensures answer { λ r. ⌜ r ≡ valuesAnswer (valuesTests (tablesAtEntry «left_names» «left_sizes» «right_names» «right_sizes») number (length (now (values .entry)))) ⌝ }
-    ensures list { λ r. ⌜ now (values .exit) ≡ valuesLeft (tablesAtEntry «left_names» «left_sizes» «right_names» «right_sizes») number (now (values .entry)) ⌝ }
+    ensures answer { λ r. ⌜ r ≡ valuesAnswer (valuesTests (tablesAtEntry «left_names» «left_sizes» «right_names» «right_sizes») (policyAtEntry «left_kind» «left_first» «left_second») (policyAtEntry «right_kind» «right_first» «right_second») number (length (now (values .entry)))) ⌝ }
+    ensures list { λ r. ⌜ now (values .exit) ≡ valuesLeft (tablesAtEntry «left_names» «left_sizes» «right_names» «right_sizes») (policyAtEntry «left_kind» «left_first» «left_second») (policyAtEntry «right_kind» «right_first» «right_second») number (now (values .entry)) ⌝ }
 {
-    let found = no_policies(left_names, left_sizes, right_names, right_sizes);
+    let found = legality::front(
+        left_names,
+        left_sizes,
+        right_names,
+        right_sizes,
+        1,
+        left_kind,
+        left_first,
+        left_second,
+        right_kind,
+        right_first,
+        right_second,
+        Tested::Passed,
+    );
     let k = found.count;
-    let sizes = found.sizes;
+    let core = found.core;
     let count = found.packets;
     let said = found.tested;
     match packet::first_of(said, number_stage(k, count, number, values.len())) {
         Tested::Refused(r) => Values::Refused(r),
         Tested::Passed => {
-            write_values(&sizes[..k], count, number, values);
+            write_values(&core[..k], count, number, values);
             Values::Written
         }
     }
@@ -156,37 +146,68 @@ fn values_stage(sizes: &[u16], values: &[u16]) -> Tested
     }
 }
 
-// The number of a declared packet.
-fn number_from(sizes: &[u16], values: &[u16]) -> u16
-    requires { ⌜ LegalSizes (now sizes) ⌝ }
-    requires { ⌜ Declared (now sizes) (now values) ⌝ }
-    ensures { λ r. ⌜ r ≡ numberOf (now (sizes .entry)) (now (values .entry)) ⌝ }
+// The class of a value of a field with so many classes: an unmentioned field has one, and its value does not count.
+fn class_in(count: u16, value: u16) -> u16
+    ensures { λ r. ⌜ r ≡ classIn count value ⌝ }
+{
+    if count == 1 {
+        return 0;
+    }
+    value
+}
+
+// The number of the packet of classes to which the values belong.
+fn number_from(core: &[u16], values: &[u16]) -> u16
+    requires { ⌜ LegalSizes (now core) ⌝ }
+    requires { ⌜ length (now values) ≡ length (now core) ⌝ }
+    requires { ⌜ Declared (now core) (classesIn (now core) (now values)) ⌝ }
+    ensures { λ r. ⌜ r ≡ numberOf (now (core .entry)) (classesIn (now (core .entry)) (now (values .entry))) ⌝ }
 {
     let mut number: u16 = 0;
     let mut i = 0;
-    while i < sizes.len() {
-        number = number * sizes[i] + values[i];
+    while i < core.len() {
+        number = number * core[i] + class_in(core[i], values[i]);
         i += 1;
     }
     number
 }
 
-// The number of the packet with the values given.
+// The number of the packet with the values given; those of unmentioned fields are tested and not counted.
 pub fn number_of(
     left_names: &[u8],
     left_sizes: &[u16],
     right_names: &[u8],
     right_sizes: &[u16],
+    left_kind: &[u8],
+    left_first: &[u16],
+    left_second: &[u16],
+    right_kind: &[u8],
+    right_first: &[u16],
+    right_second: &[u16],
     values: &[u16],
 ) -> Number
-    ensures { λ r. ⌜ r ≡ numberAnswer (numberTests (tablesAtEntry «left_names» «left_sizes» «right_names» «right_sizes») (now (values .entry))) (numberOf (jointSizes (tablesAtEntry «left_names» «left_sizes» «right_names» «right_sizes»)) (now (values .entry))) ⌝ }
+    ensures { λ r. ⌜ r ≡ numberCall (tablesAtEntry «left_names» «left_sizes» «right_names» «right_sizes») (policyAtEntry «left_kind» «left_first» «left_second») (policyAtEntry «right_kind» «right_first» «right_second») (now (values .entry)) ⌝ }
 {
-    let found = no_policies(left_names, left_sizes, right_names, right_sizes);
+    let found = legality::front(
+        left_names,
+        left_sizes,
+        right_names,
+        right_sizes,
+        1,
+        left_kind,
+        left_first,
+        left_second,
+        right_kind,
+        right_first,
+        right_second,
+        Tested::Passed,
+    );
     let k = found.count;
     let sizes = found.sizes;
+    let core = found.core;
     let said = found.tested;
     match packet::first_of(said, values_stage(&sizes[..k], values)) {
         Tested::Refused(r) => Number::Refused(r),
-        Tested::Passed => Number::Packet(number_from(&sizes[..k], values)),
+        Tested::Passed => Number::Packet(number_from(&core[..k], values)),
     }
 }

@@ -232,6 +232,12 @@ fn values(
     left_sizes: &[u16],
     right_names: &[u8],
     right_sizes: &[u16],
+    left_kind: &[u8],
+    left_first: &[u16],
+    left_second: &[u16],
+    right_kind: &[u8],
+    right_first: &[u16],
+    right_second: &[u16],
 ) -> usize {
     let number = harness::scan(input, from);
     let v = harness::lent(input, number.at, 66000);
@@ -243,6 +249,12 @@ fn values(
         left_sizes,
         right_names,
         right_sizes,
+        left_kind,
+        left_first,
+        left_second,
+        right_kind,
+        right_first,
+        right_second,
         (number.value % 65536) as u16,
         &mut values[..vn],
         &mut answer,
@@ -259,6 +271,12 @@ fn number(
     left_sizes: &[u16],
     right_names: &[u8],
     right_sizes: &[u16],
+    left_kind: &[u8],
+    left_first: &[u16],
+    left_second: &[u16],
+    right_kind: &[u8],
+    right_first: &[u16],
+    right_second: &[u16],
 ) -> usize {
     let mut values = [0u16; 32];
     let v = fill16(input, from, &mut values);
@@ -269,6 +287,12 @@ fn number(
         left_sizes,
         right_names,
         right_sizes,
+        left_kind,
+        left_first,
+        left_second,
+        right_kind,
+        right_first,
+        right_second,
         &values[..vn],
         &mut answer,
     );
@@ -630,6 +654,38 @@ fn of_pair(
     right_first: &[u16],
     right_second: &[u16],
 ) -> usize {
+    if call == 0 {
+        return values(
+            input,
+            from,
+            left_names,
+            left_sizes,
+            right_names,
+            right_sizes,
+            left_kind,
+            left_first,
+            left_second,
+            right_kind,
+            right_first,
+            right_second,
+        );
+    }
+    if call == 1 {
+        return number(
+            input,
+            from,
+            left_names,
+            left_sizes,
+            right_names,
+            right_sizes,
+            left_kind,
+            left_first,
+            left_second,
+            right_kind,
+            right_first,
+            right_second,
+        );
+    }
     if call == 4 {
         return search(
             input,
@@ -746,26 +802,6 @@ fn with_tables(
     right_names: &[u8],
     right_sizes: &[u16],
 ) -> usize {
-    if call == 0 {
-        return values(
-            input,
-            from,
-            left_names,
-            left_sizes,
-            right_names,
-            right_sizes,
-        );
-    }
-    if call == 1 {
-        return number(
-            input,
-            from,
-            left_names,
-            left_sizes,
-            right_names,
-            right_sizes,
-        );
-    }
     if call == 2 {
         return policy(
             input,

@@ -1,6 +1,6 @@
 //! Holds the verified library against the second implementation: the same calls on the same lists, then the eight numbers
-//! and everything that the lists hold are compared. A table is checked as three lists and as records, which must agree too. The
-//! same for the built program: the same input, then the output bytes.
+//! and everything that the lists hold are compared. A table is checked as three lists and as records, which must agree too; packets
+//! that a search shows are turned into values and back. The same for the built program: the same input, then the output bytes.
 //!
 //! `differential [--seed SEED] [--seconds SECONDS] [--cases COUNT]` runs the fixed cases, every byte in small texts, the pairs that
 //! cost much, then random cases until their time or count is up. Case i is made from the seed SEED + i, so that `--seed` with the number printed and
@@ -133,6 +133,12 @@ impl Tally {
                 &format!("library {answer:?}, {:x?}", here.checksums()),
                 &format!("{expected:?}, {:x?}", there.checksums()),
             );
+        }
+        for shown in there.shown(expected) {
+            self.compare_call(origin, &shown);
+        }
+        if let ([0, ..], Some(back)) = (expected, there.turned_back()) {
+            self.compare_call(origin, &back);
         }
     }
 

@@ -27,12 +27,14 @@ use netkat_reference::policy::OwnedLists;
 use netkat_reference::random::Random;
 use netkat_reference::search::Lists;
 
-/// Random cases that are tried.
+/// Random cases that are tried; those for which there is no more room are left out.
 const TRIED: u64 = 2500;
 /// Longest random case that is kept.
 const LONGEST: usize = 1200;
 /// The program reads its input in blocks of this length; no case goes over a block's end, and the second part begins with one.
 const BLOCK: usize = 65_536;
+/// Longest second part: the program reads 64 blocks, and the scripts have the others.
+const MOST_GIVEN: usize = 23 * BLOCK;
 /// The line before the second part.
 const SECOND: &str = "calls of the second implementation\n";
 /// Equal entries in a row that are stored as one.
@@ -246,17 +248,22 @@ impl Numbers {
         match case {
             Case::Values {
                 tables,
+                left,
+                right,
                 number,
                 values,
             } => {
-                self.number(0);
-                self.tables(tables)?;
+                self.pair(0, tables, left, right)?;
                 self.number((*number).into());
                 self.lent(values, MOST_VALUES)
             }
-            Case::Number { tables, values } => {
-                self.number(1);
-                self.tables(tables)?;
+            Case::Number {
+                tables,
+                left,
+                right,
+                values,
+            } => {
+                self.pair(1, tables, left, right)?;
                 self.list(values, MOST_VALUES)
             }
             Case::Policy { tables, policy } => {
@@ -404,11 +411,15 @@ impl Given<'_> {
         let case = match self.number()? {
             0 => Case::Values {
                 tables: self.tables()?,
+                left: self.nodes()?,
+                right: self.nodes()?,
                 number: u16::parse(self)?,
                 values: self.lent()?,
             },
             1 => Case::Number {
                 tables: self.tables()?,
+                left: self.nodes()?,
+                right: self.nodes()?,
                 values: self.list()?,
             },
             2 => Case::Policy {
@@ -520,8 +531,12 @@ impl Stored {
             return;
         }
         let room = BLOCK - self.given.len() % BLOCK;
-        if numbers.0.len() > room {
-            self.given.push_str(&" ".repeat(room - 1));
+        let padding = if numbers.0.len() > room { room } else { 0 };
+        if self.given.len() + padding + numbers.0.len() > MOST_GIVEN {
+            return;
+        }
+        if padding > 0 {
+            self.given.push_str(&" ".repeat(padding - 1));
             self.given.push('\n');
         }
         numbers.0.pop();

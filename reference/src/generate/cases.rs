@@ -9,9 +9,9 @@ use crate::answer::{Refusal, Verdict};
 use crate::automaton::{Automaton, State, Step, START};
 use crate::case::Case;
 use crate::evidence::Record;
-use crate::names::OwnedTables;
+use crate::names::{Fields, OwnedTables, MOST_FIELDS};
 use crate::packets::{set, Packets};
-use crate::policy::{self, OwnedLists, MOST_DUPS, MOST_NODES};
+use crate::policy::{self, OwnedLists, Pair, Policy, MOST_DUPS, MOST_NODES};
 use crate::random::Random;
 use crate::search::{search, Lists, LEAST_WORK, MOST_ROWS};
 
@@ -26,22 +26,71 @@ pub enum Extent {
 
 /// A random call with everything it is handed.
 pub fn case(random: &mut Random, extent: Extent) -> Case {
-    match random.below(22) {
-        0 => values(random),
-        1 => number(random),
-        2 | 3 => policy_case(random, extent),
-        4 | 5 => read(random),
-        6..=9 => search_case(random, extent),
-        10 | 11 => texts(random, extent),
-        12..=15 => evidence(random, extent),
-        16 | 17 => trace(random, extent),
-        18 | 19 => run_out::case(random, extent),
+    match random.below(24) {
+        0 | 1 => values(random, extent),
+        2 | 3 => number(random, extent),
+        4 | 5 => policy_case(random, extent),
+        6 | 7 => read(random),
+        8..=11 => search_case(random, extent),
+        12 | 13 => texts(random, extent),
+        14..=17 => evidence(random, extent),
+        18 | 19 => trace(random, extent),
+        20 | 21 => run_out::case(random, extent),
         _ => program(random, extent),
     }
 }
 
-/// Legal sizes.
-pub(super) fn legal_sizes(random: &mut Random, extent: Extent) -> Vec<u16> {
+/// Joint fields, and those of them that policies are made over.
+#[derive(Clone, Debug)]
+pub(super) struct Header {
+    /// By joint field.
+    pub(super) sizes: Vec<u16>,
+    /// Together they make at most 1,024 packets. The others may have any sizes.
+    pub(super) spoken: Vec<u16>,
+}
+
+impl Header {
+    /// The sizes of the fields that policies are made over.
+    pub(super) fn spoken_sizes(&self) -> Vec<u16> {
+        let size = |&field: &u16| self.sizes[usize::from(field)];
+        self.spoken.iter().map(size).collect()
+    }
+
+    /// Some field with one of its values.
+    fn any_value(&self, random: &mut Random) -> (u16, u16) {
+        let field = random.below(self.sizes.len());
+        let value = random.below(self.sizes[field].into());
+        (field as u16, value as u16)
+    }
+}
+
+/// Fields for policies, in half of the cases among others.
+pub(super) fn header(random: &mut Random, extent: Extent) -> Header {
+    let own = legal_sizes(random, extent);
+    let mut fields: Vec<(u16, bool)> = own.into_iter().map(|size| (size, true)).collect();
+    if random.one_in(2) {
+        for _ in 0..random.below(MOST_FIELDS - fields.len() + 1) {
+            let place = random.below(fields.len() + 1);
+            fields.insert(place, (any_size(random), false));
+        }
+    }
+    let spoken = (0u16..).zip(&fields).filter(|(_, field)| field.1);
+    Header {
+        spoken: spoken.map(|(field, _)| field).collect(),
+        sizes: fields.iter().map(|field| field.0).collect(),
+    }
+}
+
+/// A size that a field may have that nobody mentions.
+fn any_size(random: &mut Random) -> u16 {
+    match random.below(3) {
+        0 => random.between(1, 65_535) as u16,
+        _ => random.pick(&[1, 2, 7, 1_000, 1_023, 1_024, 1_025, 4_096, 32_768, 65_535]),
+    }
+}
+
+/// Sizes of fields that make at most 1,024 packets.
+fn legal_sizes(random: &mut Random, extent: Extent) -> Vec<u16> {
     const SMALL: &[&[u16]] = &[
         &[1],
         &[2],
@@ -56,15 +105,19 @@ pub(super) fn legal_sizes(random: &mut Random, extent: Extent) -> Vec<u16> {
         &[1, 2, 1],
         &[5, 2],
         &[9],
+        &[3, 3, 2, 2],
     ];
     const LARGE: &[&[u16]] = &[
         &[32, 32],
         &[1024],
         &[2, 2, 2, 2, 2, 2, 2, 2],
+        &[2, 2, 2, 2, 2, 2, 4, 4],
         &[4, 4, 4, 4, 4],
         &[65],
         &[64],
         &[63],
+        &[5, 13],
+        &[3, 11, 31],
         &[7, 11, 13],
         &[1, 1, 1, 1, 1, 1, 1, 1],
         &[128, 2],
@@ -88,29 +141,44 @@ fn tables(random: &mut Random, legal: &Named, one_damaged_in: usize) -> OwnedTab
 /// Of so many calls on policies or texts, one has damaged tables.
 const SELDOM: usize = 12;
 
-fn values(random: &mut Random) -> Case {
-    let legal = legal_sizes(random, Extent::Large);
-    let named = named(random, &legal);
-    let packets: usize = legal.iter().map(|&size| usize::from(size)).product();
-    let number = match random.below(4) {
+/// What packets are turned by: two policies over fields that may make many packets.
+fn turned(random: &mut Random, extent: Extent) -> (Vec<u16>, OwnedLists, OwnedLists) {
+    let header = header(random, Extent::Large);
+    let (left, right) = numbered_over(random, &header, extent);
+    (header.sizes, left, right)
+}
+
+fn values(random: &mut Random, extent: Extent) -> Case {
+    let (legal, left, right) = turned(random, extent);
+    let packets = packet_count(&legal, &left, &right);
+    // what all declared fields would make, in so few bits
+    let declared = legal.iter().fold(1u16, |all, &size| all.wrapping_mul(size));
+    let number = match random.below(8) {
         0 => random.bits() as u16,
         1 => packets as u16,
-        _ => random.below(packets.clamp(1, 65_536)) as u16,
+        2 => (packets - 1) as u16,
+        3 => declared,
+        4 => declared.wrapping_sub(1),
+        _ => random.below(packets) as u16,
     };
     let length = match random.below(8) {
         0 => random.below(11),
         _ => legal.len(),
     };
     let values = (0..length).map(|_| random.bits() as u16).collect();
+    let (left, right) = damaged_pair(random, &legal, left, right);
+    let named = named(random, &legal);
     Case::Values {
         tables: tables(random, &named, 3),
+        left,
+        right,
         number,
         values,
     }
 }
 
-fn number(random: &mut Random) -> Case {
-    let legal = legal_sizes(random, Extent::Large);
+fn number(random: &mut Random, extent: Extent) -> Case {
+    let (legal, left, right) = turned(random, extent);
     let mut values: Vec<u16> = legal
         .iter()
         .map(|&size| random.below(size.into()) as u16)
@@ -123,9 +191,14 @@ fn number(random: &mut Random) -> Case {
         3 => values.truncate(place),
         _ => {}
     }
+    let (left, right) = damaged_pair(random, &legal, left, right);
     let named = named(random, &legal);
-    let tables = tables(random, &named, 3);
-    Case::Number { tables, values }
+    Case::Number {
+        tables: tables(random, &named, 3),
+        left,
+        right,
+        values,
+    }
 }
 
 /// A random tree of a size that the extent allows.
@@ -159,19 +232,23 @@ fn pair(random: &mut Random, sizes: &[u16], extent: Extent) -> (Tree, Tree) {
         _ => tree::same(random, sizes, &left),
     };
     // Laws may double dups past what is legal; damaged policies are made elsewhere.
-    let right = if is_legal(&right) {
-        right
-    } else {
-        left.clone()
-    };
+    let right = if_legal(right, left.clone());
     let (left, right) = match random.below(9) {
         0 => {
             // so that the last dups are often reached
-            let recorded = |policy| tree::sequence(policy, tree::star(Tree::Dup));
+            let recorded = |policy: Tree| {
+                let recorded = tree::sequence(policy.clone(), tree::star(Tree::Dup));
+                if_legal(recorded, policy)
+            };
             (wide(random, recorded(left)), wide(random, recorded(right)))
         }
         1 => (left, wide(random, right)),
         _ => (left, right),
+    };
+    let right = match (extent, random.below(6)) {
+        (_, 0) => mentioning(random, sizes, right),
+        (_, 1) | (Extent::Large, 2 | 3) => naming(sizes, right),
+        _ => right,
     };
     if random.one_in(2) {
         (left, right)
@@ -180,8 +257,13 @@ fn pair(random: &mut Random, sizes: &[u16], extent: Extent) -> (Tree, Tree) {
     }
 }
 
-pub(super) fn is_legal(policy: &Tree) -> bool {
-    policy.dups() <= MOST_DUPS && policy.size() <= MOST_NODES
+/// What was made of a policy, or the policy if that has too many dups or nodes.
+pub(super) fn if_legal(made: Tree, policy: Tree) -> Tree {
+    if made.dups() <= MOST_DUPS && made.size() <= MOST_NODES {
+        made
+    } else {
+        policy
+    }
 }
 
 /// A policy with the same traces and 32 to 63 dups, often as many as may be, if it has nodes to spare.
@@ -191,12 +273,21 @@ fn wide(random: &mut Random, policy: Tree) -> Tree {
         3 => MOST_DUPS - 1,
         _ => random.between(32, MOST_DUPS),
     };
-    let widened = tree::widened(random, &policy, dups);
-    if is_legal(&widened) {
-        widened
-    } else {
-        policy
-    }
+    if_legal(tree::widened(random, &policy, dups), policy)
+}
+
+/// A policy with the same traces that mentions one of these fields besides, if it has nodes to spare.
+pub(super) fn mentioning(random: &mut Random, sizes: &[u16], policy: Tree) -> Tree {
+    let field = random.below(sizes.len());
+    let value = random.below(sizes[field].into());
+    let made = tree::mentioning(random, field as u16, value as u16, policy.clone());
+    if_legal(made, policy)
+}
+
+/// A policy with the same traces to which no two packets over these fields are alike, if it has nodes to spare.
+pub(super) fn naming(sizes: &[u16], policy: Tree) -> Tree {
+    let made = tree::sequence(tree::naming(sizes), policy.clone());
+    if_legal(made, policy)
 }
 
 /// Node lists of a tree, in some numbering.
@@ -209,23 +300,39 @@ pub(super) fn numbered(random: &mut Random, policy: &Tree) -> OwnedLists {
     }
 }
 
-/// Legal sizes and two policies over them, often with the same traces.
+/// Joint sizes and two policies over some of these fields, often with the same traces.
 pub fn numbered_pair(random: &mut Random, extent: Extent) -> (Vec<u16>, OwnedLists, OwnedLists) {
-    let legal = legal_sizes(random, extent);
-    let (left, right) = pair(random, &legal, extent);
-    let left = numbered(random, &left);
-    let right = numbered(random, &right);
-    (legal, left, right)
+    let header = header(random, extent);
+    let (left, right) = numbered_over(random, &header, extent);
+    (header.sizes, left, right)
+}
+
+/// The policies, over these fields.
+fn numbered_over(random: &mut Random, header: &Header, extent: Extent) -> (OwnedLists, OwnedLists) {
+    let (left, right) = pair(random, &header.spoken_sizes(), extent);
+    let mut lists = |tree| numbered(random, &named::over(&header.spoken, tree));
+    (lists(&left), lists(&right))
+}
+
+/// The policies with their packets, if they are legal.
+pub(super) fn legal(sizes: &[u16], left: &OwnedLists, right: &OwnedLists) -> Option<Pair> {
+    let fields = Fields::new(OwnedTables::numbered(sizes).lend()).ok()?;
+    policy::pair(&fields, left.lists(), right.lists()).ok()
+}
+
+/// How many packets the policies make; 1 if they are not legal.
+pub(super) fn packet_count(sizes: &[u16], left: &OwnedLists, right: &OwnedLists) -> usize {
+    legal(sizes, left, right).map_or(1, |pair| pair.numbering.count())
 }
 
 fn policy_case(random: &mut Random, extent: Extent) -> Case {
-    let legal = legal_sizes(random, extent);
-    let tree = random_tree(random, &legal, extent);
-    let mut policy = numbered(random, &tree);
+    let header = header(random, extent);
+    let tree = random_tree(random, &header.spoken_sizes(), extent);
+    let mut policy = numbered(random, &named::over(&header.spoken, &tree));
     if !random.one_in(4) {
-        policy = damage::nodes(random, &legal, &policy);
+        policy = damage::nodes(random, &header.sizes, &policy);
     }
-    let named = named(random, &legal);
+    let named = named(random, &header.sizes);
     let tables = tables(random, &named, SELDOM);
     Case::Policy { tables, policy }
 }
@@ -241,8 +348,8 @@ fn text(random: &mut Random, names: &[String], policy: &Tree, one_damaged_in: us
 }
 
 fn read(random: &mut Random) -> Case {
-    let sizes = legal_sizes(random, Extent::Large);
-    let named = named(random, &sizes);
+    let header = header(random, Extent::Large);
+    let named = named(random, &header.sizes);
     let spoken = named.spoken(random);
     let tree = random_tree(random, &named.sizes_of(&spoken), Extent::Small);
     let tree = named::over(&spoken, &tree);
@@ -380,7 +487,7 @@ pub(super) fn lists_of(random: &mut Random, lengths: [usize; 4], trace: usize) -
     }
 }
 
-/// Damages one policy or both, now and then.
+/// Damages one policy or both, now and then; a damage may be that a field is mentioned besides, and so too many packets made.
 fn damaged_pair(
     random: &mut Random,
     sizes: &[u16],
@@ -395,6 +502,15 @@ fn damaged_pair(
         }
         2 => {
             let right = damage::nodes(random, sizes, &right);
+            (damage::nodes(random, sizes, &left), right)
+        }
+        3 => (damage::mentioning(random, sizes, &left), right),
+        4 => {
+            let right = damage::mentioning(random, sizes, &right);
+            (left, right)
+        }
+        5 => {
+            let right = damage::mentioning(random, sizes, &right);
             (damage::nodes(random, sizes, &left), right)
         }
         _ => (left, right),
@@ -417,11 +533,23 @@ fn search_case(random: &mut Random, extent: Extent) -> Case {
 
 /// Tables and two trees over the fields that texts are made over.
 fn spoken_pair(random: &mut Random, extent: Extent) -> (Named, Tree, Tree) {
-    let legal = legal_sizes(random, extent);
-    let named = named(random, &legal);
-    let spoken = named.spoken(random);
+    let header = header(random, extent);
+    let named = named(random, &header.sizes);
+    let shared = named.spoken(random);
+    let mut spoken = header.spoken.clone();
+    spoken.retain(|field| shared.contains(field));
+    if spoken.is_empty() {
+        spoken = header.spoken.clone();
+    }
     let (left, right) = pair(random, &named.sizes_of(&spoken), extent);
-    let (left, right) = (named::over(&spoken, &left), named::over(&spoken, &right));
+    let (mut left, mut right) = (named::over(&spoken, &left), named::over(&spoken, &right));
+    // any field, so that too many packets may be made
+    let (field, value) = header.any_value(random);
+    match random.below(24) {
+        0 => left = if_legal(tree::mentioning(random, field, value, left.clone()), left),
+        1 => right = if_legal(tree::mentioning(random, field, value, right.clone()), right),
+        _ => {}
+    }
     (named, left, right)
 }
 
@@ -438,12 +566,13 @@ fn texts(random: &mut Random, extent: Extent) -> Case {
     }
 }
 
-/// Tables for texts, now and then with other sizes, so that values may be out of range.
+/// Tables for texts, now and then with other sizes, so that values may be out of range, or too many packets made.
 fn other_tables(random: &mut Random, named: &Named) -> OwnedTables {
     let mut tables = tables(random, named, SELDOM);
     if random.one_in(12) {
-        tables.left.sizes.fill(1);
-        tables.right.sizes.fill(1);
+        let size = random.pick(&[1, 1, 1_025, 65_535]);
+        tables.left.sizes.fill(size);
+        tables.right.sizes.fill(size);
     }
     tables
 }
@@ -479,7 +608,7 @@ fn evidence(random: &mut Random, extent: Extent) -> Case {
     if random.one_in(2) {
         random.shuffle(&mut rows);
     }
-    let packets = Packets::new(&legal).map_or(1, |packets| packets.count());
+    let packets = packet_count(&legal, &left, &right);
     for _ in 0..random.below(4) {
         if random.one_in(2) {
             harmless(random, &mut rows, packets);
@@ -606,12 +735,8 @@ fn tamper(random: &mut Random, rows: &mut Vec<Row>) {
 }
 
 /// A trace of a policy from a packet: at random on to a marked packet, or out.
-fn walk(random: &mut Random, packets: &Packets, lists: &OwnedLists, entering: usize) -> Vec<u16> {
-    let policy = match policy::single(packets, lists.lists()) {
-        Ok(policy) => policy,
-        Err(_) => return Vec::new(),
-    };
-    let mut automaton = Automaton::new(packets, &policy);
+fn walk(random: &mut Random, packets: &Packets, policy: &Policy, entering: usize) -> Vec<u16> {
+    let mut automaton = Automaton::new(packets, policy);
     let mut step = Step::new(packets);
     let (mut state, mut packet) = (START, entering);
     let mut trace = Vec::new();
@@ -637,16 +762,21 @@ fn walk(random: &mut Random, packets: &Packets, lists: &OwnedLists, entering: us
 }
 
 fn trace(random: &mut Random, extent: Extent) -> Case {
-    let (legal, left, right) = numbered_pair(random, extent);
-    let packets = Packets::new(&legal).expect("legal sizes");
-    let needs = needs(&legal, &left, &right, extent);
+    let (sizes, left, right) = numbered_pair(random, extent);
+    let pair = legal(&sizes, &left, &right).expect("legal policies");
+    let packets = Packets::new(pair.numbering);
+    let needs = needs(&sizes, &left, &right, extent);
     let (mut entering, mut trace) = match needs.answer {
         Ok(Verdict::Different {
             length, entering, ..
         }) if random.one_in(2) => (entering, needs.lists.trace[..length].to_vec()),
         _ => {
             let entering = random.below(packets.count());
-            let policy = if random.one_in(2) { &left } else { &right };
+            let policy = if random.one_in(2) {
+                &pair.left
+            } else {
+                &pair.right
+            };
             let trace = walk(random, &packets, policy, entering);
             (entering as u16, trace)
         }
@@ -662,10 +792,15 @@ fn trace(random: &mut Random, extent: Extent) -> Case {
             let place = random.below(trace.len());
             trace[place] = random.between(packets.count(), 65_535) as u16;
         }
+        6 => {
+            // the lowest number that is none
+            let place = random.below(trace.len());
+            trace[place] = packets.count() as u16;
+        }
         _ => {}
     }
-    let (left, right) = damaged_pair(random, &legal, left, right);
-    let named = named(random, &legal);
+    let (left, right) = damaged_pair(random, &sizes, left, right);
+    let named = named(random, &sizes);
     Case::Trace {
         tables: tables(random, &named, SELDOM),
         left,

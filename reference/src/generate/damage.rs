@@ -6,7 +6,7 @@ use crate::names::{OwnedTable, OwnedTables, CELL};
 use crate::policy::{kind, Act, OwnedLists};
 use crate::random::Random;
 
-/// Sizes that 1, 2 or 3 refuses.
+/// Sizes that 1 or 2 refuses, or that make too many packets where all fields are mentioned.
 pub fn sizes(random: &mut Random, legal: &[u16]) -> Vec<u16> {
     let mut sizes = legal.to_vec();
     match random.below(7) {
@@ -30,7 +30,7 @@ pub fn sizes(random: &mut Random, legal: &[u16]) -> Vec<u16> {
     sizes
 }
 
-/// Tables meant for one of the causes 4 with side 0, 20, 21, 1, 2 and 3, or for two of them. A change may hit none: what is
+/// Tables meant for one of the causes 4 with side 0, 20, 21, 1 and 2, or for two of them. A change may hit none: what is
 /// refused is for the call to say.
 pub fn tables(random: &mut Random, legal: &Named) -> OwnedTables {
     let (mut tables, changes) = match random.below(2) {
@@ -130,12 +130,26 @@ fn change_cell(random: &mut Random, table: &mut OwnedTable, at: usize) {
     }
 }
 
-/// Node lists meant for one of the causes 4 to 9 and 19. The change may hit an earlier cause or none: what is refused is for
+/// The policy beside a branch that nothing enters, which mentions some field: too many packets may be made then.
+pub fn mentioning(random: &mut Random, sizes: &[u16], legal: &OwnedLists) -> OwnedLists {
+    let mut lists = legal.clone();
+    let root = lists.kind.len() as u16 - 1;
+    let field = random.below(sizes.len());
+    let value = random.below(sizes[field].into());
+    let act = random.pick(&[kind::EQUALS, kind::DIFFERS, kind::SET]);
+    let act = lists.push(act, field as u16, value as u16);
+    let closed = lists.push(kind::DROP, 0, 0);
+    let dead = lists.push(kind::SEQUENCE, closed, act);
+    lists.push(kind::SUM, root, dead);
+    lists
+}
+
+/// Node lists meant for one of the causes 4 to 9, 19 and 3. The change may hit an earlier cause or none: what is refused is for
 /// the call to say.
 pub fn nodes(random: &mut Random, sizes: &[u16], legal: &OwnedLists) -> OwnedLists {
     let mut lists = legal.clone();
     let node = random.below(lists.kind.len());
-    match random.below(10) {
+    match random.below(11) {
         0 => unequal(random, &mut lists),
         1 => lists = over(random, legal),
         2 => lists.kind[node] = random.between(10, 255) as u8,
@@ -154,6 +168,7 @@ pub fn nodes(random: &mut Random, sizes: &[u16], legal: &OwnedLists) -> OwnedLis
         }
         7 => lists = many_dups(random, sizes).lists(),
         8 => lists = negated(random, sizes).lists(),
+        9 => lists = mentioning(random, sizes, legal),
         _ => lists = hostile_nodes(random),
     }
     lists

@@ -1,7 +1,8 @@
 //! Cases that are always worth running: the pairs and edges that the requirements name, and each refusal.
 
+use super::fixed_mentions;
 use super::fixed_names;
-use super::heavy;
+use super::heavy::{self, THOUSAND};
 use super::lent::fill;
 use crate::answer::Side;
 use crate::automaton::State;
@@ -33,23 +34,42 @@ pub fn cases() -> Vec<Case> {
     cases.extend(traces());
     cases.extend(large_tables());
     cases.extend(fixed_names::cases());
+    cases.extend(fixed_mentions::cases());
     cases.extend(inputs().into_iter().map(program));
     cases.extend(fixed_names::inputs().into_iter().map(program));
+    cases.extend(fixed_mentions::inputs().into_iter().map(program));
     for (at, case) in cases.iter_mut().enumerate() {
         fill(case, at);
     }
     cases
 }
 
+/// Packets of fields that are all mentioned.
 fn turning() -> Vec<Case> {
-    let values = |sizes: &[u16], number, length| Case::Values {
-        tables: OwnedTables::numbered(sizes),
-        number,
-        values: vec![0; length],
+    let all = |sizes: &[u16]| {
+        let tests: Vec<String> = (0..sizes.len())
+            .map(|field| format!("f{field}=0"))
+            .collect();
+        (nodes_of(&tests.join(";")), nodes_of("id"))
     };
-    let number = |sizes: &[u16], values: &[u16]| Case::Number {
-        tables: OwnedTables::numbered(sizes),
-        values: values.to_vec(),
+    let values = |sizes: &[u16], number, length| {
+        let (left, right) = all(sizes);
+        Case::Values {
+            tables: OwnedTables::numbered(sizes),
+            left,
+            right,
+            number,
+            values: vec![0; length],
+        }
+    };
+    let number = |sizes: &[u16], values: &[u16]| {
+        let (left, right) = all(sizes);
+        Case::Number {
+            tables: OwnedTables::numbered(sizes),
+            left,
+            right,
+            values: values.to_vec(),
+        }
     };
     vec![
         values(&[], 0, 0),
@@ -76,7 +96,7 @@ fn turning() -> Vec<Case> {
 }
 
 /// Lists from nodes.
-fn nodes(given: &[(u8, u16, u16)]) -> OwnedLists {
+pub(super) fn nodes(given: &[(u8, u16, u16)]) -> OwnedLists {
     let mut lists = OwnedLists::default();
     for &(kind, first, second) in given {
         lists.push(kind, first, second);
@@ -328,6 +348,7 @@ fn pair(sizes: &[u16], left: &str, right: &str, rows: usize, trace: usize) -> Pa
 fn pairs() -> Vec<Pair> {
     let most = |join| dups(MOST_DUPS, join);
     let too_many = |join| dups(MOST_DUPS + 1, join);
+    let naming = heavy::naming;
     vec![
         pair(&[2], "drop", "id", 9, 3),
         pair(&[2], "f0=0;dup", "dup;f0=0", 9, 3),
@@ -342,15 +363,22 @@ fn pairs() -> Vec<Pair> {
         pair(&[2], "f0<-1;f0=1", "f0<-1", 9, 3),
         pair(&[2], "f0<-0+f0<-1", "id", 9, 3),
         pair(&[1], "dup;drop", "drop", 9, 3),
-        pair(&[2, 2], "id", "drop", 3, 3),
-        pair(&[2, 2], "id", "drop", 0, 3),
-        pair(&[2, 2], "id", "drop", 4, 0),
-        pair(&[32, 32], "id", "f0=3;f0<-3+f0!=3", 1030, 3),
-        pair(&[5, 205], "id", "id", 9, 3),
-        pair(&[2], &most(";"), &most(";"), 140, 3),
-        pair(&[2], &most(";"), &most(";"), 127, 3),
+        pair(&[2, 2], "id", "f0=0;f1=0;drop", 3, 3),
+        pair(&[2, 2], "id", "f0=0;f1=0;drop", 0, 3),
+        pair(&[2, 2], "id", "f0=0;f1=0;drop", 4, 0),
+        pair(&[32, 32], &naming(&[32, 32]), "f0=3;f0<-3+f0!=3", 1030, 3),
+        pair(&THOUSAND, "id", &naming(&THOUSAND), 1024, 3),
+        pair(&THOUSAND, "id", &naming(&THOUSAND), 1023, 3),
+        pair(&[2], &most(";"), &format!("f0=0*;{}", most(";")), 140, 3),
+        pair(&[2], &most(";"), &format!("f0=0*;{}", most(";")), 127, 3),
         pair(&[1], &most("+"), "dup", 9, 3),
-        pair(&[3], &dups(32, "+"), &dups(33, "+"), 9, 3),
+        pair(
+            &[3],
+            &dups(32, "+"),
+            &format!("{};({})", naming(&[3]), dups(33, "+")),
+            9,
+            3,
+        ),
         pair(&[1], &dups(62, ";"), &most(";"), 80, 70),
         pair(&[1], &most(";"), &dups(62, ";"), 80, 62),
         pair(
@@ -387,7 +415,21 @@ fn pairs() -> Vec<Pair> {
         pair(&[2], "!f0=0", "f0=0", 9, 3),
         pair(&[2], "dup;!f0=0", "dup", 9, 3),
         pair(&[65], "!!f0=64;dup", "f0=64;!drop;dup", 99, 3),
+        pair(
+            &[5, 13],
+            &format!("{};!!(f0=4;f1=12);dup", naming(&[5, 13])),
+            "f0=4;f1=12;!drop;dup",
+            99,
+            3,
+        ),
         pair(&[33], "!(f0=32+!f0!=0)", "f0!=0;!f0=32", 99, 3),
+        pair(
+            &[3, 11],
+            &format!("{};!(f0=2;f1=10+!(f0!=0+f1!=0))", naming(&[3, 11])),
+            "(f0!=0+f1!=0);!(f0=2;f1=10)",
+            99,
+            3,
+        ),
         pair(
             &[2, 3],
             "(!(f0=0;f1=0);f1<-0;dup)*",
@@ -397,16 +439,23 @@ fn pairs() -> Vec<Pair> {
         ),
         pair(&[1024], &format!("{}f0=3", negations(500)), "f0=3", 1030, 3),
         pair(
-            &[1024],
-            &format!("{}f0=3", negations(511)),
-            "f0!=3",
+            &THOUSAND,
+            &format!("{}f0=3", negations(500)),
+            &format!("{};f0=3", naming(&THOUSAND)),
             1030,
             3,
         ),
         pair(
-            &[1024],
+            &THOUSAND,
+            &format!("{}f0=3", negations(511)),
+            &format!("{};f0!=3", naming(&THOUSAND)),
+            1030,
+            3,
+        ),
+        pair(
+            &THOUSAND,
             &format!("{}f0=3", negations(500)),
-            "!f0=3",
+            &format!("{};!f0=3", naming(&THOUSAND)),
             1030,
             3,
         ),
@@ -472,8 +521,20 @@ fn run_out() -> Vec<Case> {
         pair(&[1], "dup*", "id+dup;dup*", 3, 9),
         pair(&[2], "f0=0;dup", "dup;f0=0", 4, 9),
         pair(&[1], "dup;dup;dup", "dup;dup;dup;drop+dup;dup;dup", 4, 9),
-        pair(&[3], &dups(4, ";"), &dups(4, ";"), 15, 9),
-        pair(&[2, 2], "dup;dup;f0<-1;dup", "dup;dup;dup;f0<-1", 16, 2),
+        pair(
+            &[3],
+            &dups(4, ";"),
+            &format!("(f0=0+f0=1)*;{}", dups(4, ";")),
+            15,
+            9,
+        ),
+        pair(
+            &[2, 2],
+            "dup;dup;f0<-1;dup",
+            "f1=0*;dup;dup;dup;f0<-1",
+            16,
+            2,
+        ),
         pair(&[5], &way(5), "f0=0;(f0<-1+f0!=0;f0<-2);dup", 7, 9),
         pair(&[9], &way(9), &way(8), 18, 9),
     ];
@@ -481,7 +542,8 @@ fn run_out() -> Vec<Case> {
     for pair in &pairs {
         lent_rows.extend((0..=pair.3).map(|rows| (pair, rows)));
     }
-    let chain = pair(&[2], &dups(60, ";"), &dups(61, ";"), 0, 70);
+    let longer = format!("f0=0*;{}", dups(61, ";"));
+    let chain = pair(&[2], &dups(60, ";"), &longer, 0, 70);
     lent_rows.extend([1, 2, 3, 60, 61, 119, 120, 121, 122].map(|rows| (&chain, rows)));
     let mut cases = Vec::new();
     for (pair, rows) in lent_rows {
@@ -590,8 +652,10 @@ fn wide_tables() -> Vec<Case> {
     // every dup is marked at once, and nothing after
     let all = |dups: usize| State::MAX >> (63 - dups) & !1;
     let mut cases = Vec::new();
+    // of two packets, for a test of the field changes nothing
+    let both = |dups: &str| format!("f0=0*;({dups})");
     for (left, right) in [(63, 63), (63, 62), (62, 63)] {
-        let policies = (dups(left, "+"), dups(right, "+"));
+        let policies = (dups(left, "+"), both(&dups(right, "+")));
         let (l, r) = (all(left), all(right));
         let order = [&starts[..], &[(0, l, r), (1, l, r)]].concat();
         let mut push = |rows: &[Row]| {
@@ -617,7 +681,7 @@ fn wide_tables() -> Vec<Case> {
         .collect();
     for (left, right) in [(63, 63), (63, 62)] {
         for rows in [&chain[..], &chain[..127], &chain[1..], &chain[..64]] {
-            let policies = (dups(left, ";"), dups(right, ";"));
+            let policies = (both(&dups(left, ";")), dups(right, ";"));
             cases.push(table(&policies.0, &policies.1, rows, LEAST_WORK));
         }
     }
@@ -698,11 +762,23 @@ fn traces() -> Vec<Case> {
             work: vec![0; work],
         })
     };
-    let mut cases = trace("dup*", "dup;dup*").to_vec();
-    cases.extend(trace("dup;dup", "id+dup;dup"));
+    let mut cases = trace("f0=0*;dup*", "dup;dup*").to_vec();
+    cases.extend(trace("dup*", "dup;dup*"));
+    cases.extend(trace("dup;dup", "f0=1*;(id+dup;dup)"));
     cases.extend(trace("(dup;!f0=0)*", "(!f0=1;dup)*"));
     cases.extend(trace("id", "!(f0=0+dup)"));
     cases
+}
+
+/// So many dups at 1,024 packets.
+pub fn recorded(count: usize) -> heavy::Pair {
+    let dups = dups(count, ";");
+    heavy::Pair {
+        name: format!("{count} dups"),
+        sizes: THOUSAND.to_vec(),
+        left: dups.clone(),
+        right: format!("{};{dups}", heavy::naming(&THOUSAND)),
+    }
 }
 
 fn program(input: String) -> Case {
@@ -768,8 +844,9 @@ fn inputs() -> Vec<String> {
     inputs.push(format!("f0=2\nf0=2\n{0}id\n{0}drop", negations(511)));
     inputs.push(format!("f0=2\nf0=2\nid\n{}id", negations(513)));
     inputs.push(format!("f0=2\nf0=2\n{}id\nid", negations(32_753)));
-    inputs.push(format!("f0=1024\nf0=1024\n{0}\n{0}", dups(3, ";")));
-    inputs.push(format!("f0=1024\nf0=1024\n{0}\n{0}", dups(4, ";")));
+    for count in [3, 4] {
+        inputs.push(recorded(count).input());
+    }
     // a text that ends next to the end of a block of 4,096 bytes
     for width in [4_076, 4_077, 4_078, 8_173] {
         inputs.push(format!("f0=2\nf0=2\n{:>width$}\ndup;f0=0", "f0=0;dup"));

@@ -189,7 +189,7 @@ fn too_many() -> Vec<OwnedTables> {
     ]
 }
 
-/// 21, 2 and 3.
+/// 21 and 2, and sizes that make many packets.
 fn sizes() -> Vec<OwnedTables> {
     let sw = ("sw", 2);
     vec![
@@ -213,26 +213,30 @@ fn sizes() -> Vec<OwnedTables> {
 /// Each call on the tables, with policies that pass, and with ones that a cause behind the tables refuses.
 fn every_call(tables: &OwnedTables) -> Vec<Case> {
     let tables = || tables.clone();
-    let (id, none) = (nodes_of("id"), OwnedLists::default());
-    let mut cases = vec![
-        Case::Values {
+    // any fields have this one, with this value
+    let (test, none) = (nodes_of("f0=0"), OwnedLists::default());
+    let mut cases = Vec::new();
+    for policy in [&test, &none] {
+        cases.push(Case::Values {
             tables: tables(),
+            left: test.clone(),
+            right: policy.clone(),
             number: 1,
             values: vec![0; 2],
-        },
-        Case::Number {
+        });
+        cases.push(Case::Number {
             tables: tables(),
+            left: policy.clone(),
+            right: test.clone(),
             values: vec![1, 0],
-        },
-    ];
-    for policy in [&id, &none] {
+        });
         cases.push(Case::Policy {
             tables: tables(),
             policy: policy.clone(),
         });
         cases.push(Case::Policies {
             tables: tables(),
-            left: id.clone(),
+            left: test.clone(),
             right: policy.clone(),
         });
     }
@@ -256,14 +260,19 @@ fn every_call(tables: &OwnedTables) -> Vec<Case> {
             lists: Lists::new(8, 3, work),
         });
     }
-    for (right, work) in [(&id, LEAST_WORK), (&none, 0)] {
-        cases.extend(on_lists(&tables(), &id, right, work));
+    for (right, work) in [(&test, LEAST_WORK), (&none, 0)] {
+        cases.extend(on_lists(&tables(), &test, right, work));
     }
     cases
 }
 
 /// The calls on two policies as lists that take a work list.
-fn on_lists(tables: &OwnedTables, left: &OwnedLists, right: &OwnedLists, work: usize) -> Vec<Case> {
+pub(super) fn on_lists(
+    tables: &OwnedTables,
+    left: &OwnedLists,
+    right: &OwnedLists,
+    work: usize,
+) -> Vec<Case> {
     let policies = || (tables.clone(), left.clone(), right.clone());
     let searched = {
         let (tables, left, right) = policies();

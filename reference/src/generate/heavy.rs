@@ -1,7 +1,8 @@
-//! Pairs that cost a search much, for benchmarks.
+//! Pairs that cost a search much, for benchmarks. No two packets are alike to any of them: of each field that a pair mentions
+//! it names all values but one, at least.
 
 use super::network::{ring, tree};
-use crate::names::OwnedTables;
+use crate::names::{OwnedTables, MOST_FIELDS};
 
 /// A pair of texts over the fields f0, f1 and so on, with their sizes.
 #[derive(Clone, Debug)]
@@ -22,12 +23,62 @@ impl Pair {
         OwnedTables::numbered(&self.sizes)
     }
 
+    /// The same with its fields at these places, in ascending order, among eight, of which the others are as wide as may be.
+    pub fn among_wide(&self, places: &[usize]) -> Pair {
+        let mut sizes = vec![u16::MAX; MOST_FIELDS];
+        for (&place, &size) in places.iter().zip(&self.sizes) {
+            sizes[place] = size;
+        }
+        // the last field first: a place is not below the field that goes there
+        let moved = |text: &str| {
+            let fields = places.iter().enumerate().rev();
+            fields.fold(text.to_string(), |text, (field, place)| {
+                text.replace(&format!("f{field}"), &format!("f{place}"))
+            })
+        };
+        Pair {
+            name: self.name.clone(),
+            sizes,
+            left: moved(&self.left),
+            right: moved(&self.right),
+        }
+    }
+
     /// The program's input that asks of the pair.
     pub fn input(&self) -> String {
         let sizes = self.sizes.iter().enumerate();
         let table = joined(",", sizes.map(|(field, size)| format!("f{field}={size}")));
         format!("{table}\n{table}\n{}\n{}\n", self.left, self.right)
     }
+}
+
+/// Eight fields that make 1,024 packets; twelve tests name all values of each but the last.
+pub const THOUSAND: [u16; MOST_FIELDS] = [4, 4, 2, 2, 2, 2, 2, 2];
+
+/// Tests of all values of each field but the last, if it has others.
+fn named(sizes: &[u16]) -> Vec<String> {
+    let of_field = |(field, &size): (usize, &u16)| {
+        let last = size.max(2) - 1;
+        (0..last).map(move |value| format!("f{field}={value}"))
+    };
+    sizes.iter().enumerate().flat_map(of_field).collect()
+}
+
+/// Passes every packet, and has these tests.
+fn passing(tests: &[String]) -> String {
+    format!("!(drop;({}))", tests.join("+"))
+}
+
+/// Passes every packet, and names all values of each field but the last, if it has others.
+pub fn naming(sizes: &[u16]) -> String {
+    passing(&named(sizes))
+}
+
+/// The same in two, for the two policies of a pair.
+fn naming_by_halves(sizes: &[u16]) -> (String, String) {
+    let tests = named(sizes);
+    let (one, other) = tests.split_at(tests.len() / 2);
+    (passing(one), passing(other))
 }
 
 /// All of them. Each is equal, with at most 65,535 rows.
@@ -49,7 +100,25 @@ pub fn pairs() -> Vec<Pair> {
     ]);
     pairs.extend(negations());
     pairs.extend(wide());
+    pairs.extend(among_wide());
     pairs
+}
+
+/// Few fields mentioned among eight, the others as wide as may be; the first mentions none.
+pub fn among_wide() -> Vec<Pair> {
+    let none = Pair {
+        name: "no field".to_string(),
+        sizes: Vec::new(),
+        left: "dup*".to_string(),
+        right: "id+dup;dup*".to_string(),
+    };
+    vec![
+        none.among_wide(&[]),
+        ring(14).rule_orders().among_wide(&[2, 5]),
+        tree(3).slices().among_wide(&[0, 3, 7]),
+        rule_list(40).among_wide(&[1, 6]),
+        many_dups(31).among_wide(&[0, 2, 3, 6, 7]),
+    ]
 }
 
 /// Policies with 63 dups, or nearly so many.
@@ -109,9 +178,9 @@ pub fn nested_stars(stars: usize, body: &str) -> Pair {
     let once = if body == "id" { "" } else { "*" };
     Pair {
         name: format!("{stars} stars on {body}"),
-        sizes: vec![1024],
+        sizes: THOUSAND.to_vec(),
         left: format!("{body}{}", "*".repeat(stars)),
-        right: format!("{body}{once}"),
+        right: format!("{};{body}{once}", naming(&THOUSAND)),
     }
 }
 
@@ -119,9 +188,9 @@ pub fn nested_stars(stars: usize, body: &str) -> Pair {
 fn nested_negations(count: usize, test: &str) -> Pair {
     Pair {
         name: format!("{count} negations of a test"),
-        sizes: vec![1024],
+        sizes: THOUSAND.to_vec(),
         left: format!("{}f0=3;dup", "!".repeat(count)),
-        right: format!("dup;{test}"),
+        right: format!("{};dup;{test}", naming(&THOUSAND)),
     }
 }
 
@@ -285,10 +354,20 @@ pub fn small() -> Vec<Pair> {
             "10 rows",
             10,
             "(f0=0+f0=1;f0<-2)*;f0!=1",
-            "f0!=1+f0=1;f0<-2",
+            "f0=0+f0=1;f0<-2+f0=2+f0=3+f0=4+f0=5+f0=6+f0=7+f0=8+f0=9",
         ),
-        pair("10 rows, a dup", 5, "dup;f0!=0", "f0!=0;dup"),
-        pair("10 rows, a negation", 5, "dup;!f0=0", "!f0=0;dup"),
+        pair(
+            "10 rows, a dup",
+            5,
+            "dup;f0!=0",
+            "(f0=1+f0=2+f0=3+f0=4);dup",
+        ),
+        pair(
+            "10 rows, a negation",
+            5,
+            "dup;!f0=0",
+            "!(f0!=1;f0!=2;f0!=3;f0!=4);dup",
+        ),
     ]
 }
 
@@ -312,38 +391,41 @@ fn rounds(dups: usize) -> String {
 
 /// `dup*` in rounds of two numbers of dups. If they have no common divisor, their product and 1 are the pairs of states
 /// at each packet, and each row has one next row.
-fn in_rounds(name: &str, packets: u16, left: usize, right: usize) -> Pair {
+fn in_rounds(name: &str, sizes: &[u16], left: usize, right: usize) -> Pair {
+    let (one, other) = naming_by_halves(sizes);
     Pair {
         name: name.to_string(),
-        sizes: vec![packets],
-        left: rounds(left),
-        right: rounds(right),
+        sizes: sizes.to_vec(),
+        left: format!("{one};{}", rounds(left)),
+        right: format!("{other};{}", rounds(right)),
     }
 }
 
 /// 85 pairs of states at 771 packets: 65,535 rows, as many as there may be.
 pub fn full_table() -> Pair {
-    in_rounds("full table", 771, 7, 12)
+    in_rounds("full table", &[3, 257], 7, 12)
 }
 
-/// 241 pairs of states at 271 packets: as many rows as fit with fewer packets, so that few rows are starting rows.
+/// 241 pairs of states at 270 packets, 65,070 rows: fewer packets, so that few rows are starting rows.
 pub fn cycles() -> Pair {
-    in_rounds("cycles", 271, 15, 16)
+    in_rounds("cycles", &[5, 6, 9], 15, 16)
 }
 
 /// The same with 63 dups on the left and 61 on the right: 993 pairs of states at 65 packets.
 pub fn wide_cycles() -> Pair {
-    in_rounds("wide cycles", 65, 32, 31)
+    in_rounds("wide cycles", &[5, 13], 32, 31)
 }
 
 /// 63 dups in a row, grouped to the left and to the right, at 1,023 packets: 65,472 rows, each with one mark a side.
 pub fn chain() -> Pair {
     let grouped = (1..63).fold("dup".to_string(), |rest, _| format!("dup;({rest})"));
+    let sizes = vec![3, 11, 31];
+    let (one, other) = naming_by_halves(&sizes);
     Pair {
         name: "chain of 63 dups".to_string(),
-        sizes: vec![1023],
-        left: ["dup"; 63].join(";"),
-        right: grouped.replace("(dup)", "dup"),
+        sizes,
+        left: format!("{one};{}", ["dup"; 63].join(";")),
+        right: format!("{other};({})", grouped.replace("(dup)", "dup")),
     }
 }
 
@@ -427,7 +509,7 @@ pub fn long_lines() -> Pair {
         name: "long lines".to_string(),
         sizes: vec![5],
         left: policy(29),
-        right: policy(28),
+        right: format!("{};({})", naming(&[5]), policy(28)),
     }
 }
 

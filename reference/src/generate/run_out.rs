@@ -1,10 +1,10 @@
 //! Searches whose rows run out, or nearly so: policies that record much, so that their rows lie deep, with few rows lent.
 
-use super::cases::{is_legal, legal_sizes, lists_of, needs, numbered, Extent};
-use super::named::named;
+use super::cases::{header, if_legal, lists_of, mentioning, naming, needs, numbered};
+use super::cases::{packet_count, Extent};
+use super::named::{named, over};
 use super::tree::{self, sequence, star, sum, Tree};
 use crate::case::Case;
-use crate::packets::Packets;
 use crate::policy::Act;
 use crate::random::Random;
 use crate::search::MOST_ROWS;
@@ -17,11 +17,13 @@ const MOST_ON_WAY: usize = 24;
 
 /// A search on two policies or on two texts.
 pub fn case(random: &mut Random, extent: Extent) -> Case {
-    let sizes = legal_sizes(random, extent);
-    let (left, right) = pair(random, &sizes);
-    let needed = needs(&sizes, &left.lists(), &right.lists(), extent).rows;
-    let packets = Packets::new(&sizes).map_or(1, |packets| packets.count());
-    let rows = rows_lent(random, packets, needed);
+    let header = header(random, extent);
+    let (left, right) = pair(random, &header.spoken_sizes());
+    let (left, right) = (over(&header.spoken, &left), over(&header.spoken, &right));
+    let sizes = header.sizes;
+    let (one, other) = (left.lists(), right.lists());
+    let needed = needs(&sizes, &one, &other, extent).rows;
+    let rows = rows_lent(random, packet_count(&sizes, &one, &other), needed);
     let trace = random.below(4) * random.below(30);
     let lists = lists_of(random, [rows; 4], trace);
     let named = named(random, &sizes);
@@ -68,10 +70,12 @@ pub fn pair(random: &mut Random, sizes: &[u16]) -> (Tree, Tree) {
         _ => right,
     };
     // Laws may double dups past what is legal.
-    let right = if is_legal(&right) {
-        right
-    } else {
-        left.clone()
+    let right = if_legal(right, left.clone());
+    // More packets, for chains and rounds mention no field of their own.
+    let right = match random.below(3) {
+        0 => naming(sizes, right),
+        1 => mentioning(random, sizes, right),
+        _ => right,
     };
     if random.one_in(2) {
         (left, right)

@@ -166,29 +166,20 @@ pub fn tests(random: &mut Random, sizes: &[u16], nodes: usize) -> Tree {
 
 /// A random policy over legal sizes with about this many nodes and at most this many dups.
 pub fn tree(random: &mut Random, sizes: &[u16], nodes: usize, dups: usize) -> Tree {
-    grown(random, sizes, nodes, dups, true)
-}
-
-/// The same without negations, which the forty checks of the benchmarks are made of, as before there were negations.
-pub fn plain(random: &mut Random, sizes: &[u16], nodes: usize, dups: usize) -> Tree {
-    grown(random, sizes, nodes, dups, false)
-}
-
-fn grown(random: &mut Random, sizes: &[u16], nodes: usize, dups: usize, negations: bool) -> Tree {
     if nodes < 2 {
         return leaf(random, sizes, dups > 0);
     }
     // A negation has no dups below it, so large parts are negated seldom.
-    if negations && random.one_in(if nodes <= 12 { 6 } else { 40 }) {
+    if random.one_in(if nodes <= 12 { 6 } else { 40 }) {
         return not(tests(random, sizes, nodes - 1));
     }
     if random.one_in(5) {
-        return star(grown(random, sizes, nodes - 1, dups, negations));
+        return star(tree(random, sizes, nodes - 1, dups));
     }
     let share = random.between(0, nodes - 2);
-    let one = grown(random, sizes, share, dups, negations);
+    let one = tree(random, sizes, share, dups);
     let left = dups - one.dups();
-    let other = grown(random, sizes, nodes - 1 - share, left, negations);
+    let other = tree(random, sizes, nodes - 1 - share, left);
     if random.one_in(2) {
         sum(one, other)
     } else {
@@ -325,6 +316,34 @@ pub fn widened(random: &mut Random, policy: &Tree, dups: usize) -> Tree {
         };
     }
     widened
+}
+
+/// A policy with the same traces that also mentions a field: by a test or a change that all or no packets come to, or that does
+/// nothing to those that do.
+pub fn mentioning(random: &mut Random, field: u16, value: u16, policy: Tree) -> Tree {
+    let is = Field(Act::Equals, field, value);
+    let set = Field(Act::Set, field, value);
+    match random.below(8) {
+        0 => sequence(sum(Id, is), policy),
+        1 => sequence(not(sequence(Tree::Drop, is)), policy),
+        2 => sequence(policy, not(not(sum(is, Id)))),
+        3 => sum(policy, sequence(Tree::Drop, is)),
+        4 => sum(sequence(Tree::Drop, set), policy),
+        5 => sequence(policy, sum(Id, sequence(set, Tree::Drop))),
+        6 => sequence(sum(Id, sequence(is, set)), policy),
+        _ => sequence(policy, star(sequence(is, set))),
+    }
+}
+
+/// Passes every packet, and names all values of each field but the last, if it has others: no two packets are alike to a policy
+/// with it.
+pub fn naming(sizes: &[u16]) -> Tree {
+    let named = |(field, &size): (usize, &u16)| {
+        let last = size.max(2) - 1;
+        (0..last).map(move |value| Field(Act::Equals, field as u16, value))
+    };
+    let tests = sizes.iter().enumerate().flat_map(named).reduce(sum);
+    not(sequence(Tree::Drop, tests.unwrap_or(Id)))
 }
 
 /// Makes some dup the sum of two; false if there is none.

@@ -2,9 +2,13 @@
 
 #![allow(dead_code)]
 
+use std::collections::BTreeSet;
+
 use netkat_reference::answer::{Refusal, Side, Verdict};
+use netkat_reference::case::Case;
+use netkat_reference::evidence::Record;
 use netkat_reference::names::{Fields, OwnedTables};
-use netkat_reference::policy::OwnedLists;
+use netkat_reference::policy::{kind, OwnedLists};
 use netkat_reference::search::{search_texts, Lists, LEAST_WORK};
 use netkat_reference::text;
 
@@ -73,4 +77,63 @@ pub fn read(text: &str) -> Result<OwnedLists, Refusal> {
 /// The nodes of a legal text over f0 to f7.
 pub fn nodes(text: &str) -> OwnedLists {
     read(text).expect("a legal text")
+}
+
+/// The nodes of a policy that mentions the first so many fields, and lets every packet through.
+pub fn mentioning(fields: usize) -> OwnedLists {
+    let tests: Vec<String> = (0..fields).map(|field| format!("f{field}=0*")).collect();
+    nodes(&tests.join(";"))
+}
+
+/// How many packets two policies can tell apart at most: the values of a field that neither names are alike.
+pub fn told_apart(sizes: &[u16], left: &OwnedLists, right: &OwnedLists) -> usize {
+    let mut named = vec![BTreeSet::new(); sizes.len()];
+    for lists in [left, right] {
+        for node in 0..lists.kind.len() {
+            if matches!(lists.kind[node], kind::EQUALS | kind::DIFFERS | kind::SET) {
+                named[usize::from(lists.first[node])].insert(lists.second[node]);
+            }
+        }
+    }
+    let values = named.iter().zip(sizes);
+    values
+        .map(|(named, &size)| (named.len() + 1).min(size.into()))
+        .product()
+}
+
+/// The calls on node lists that are lent more, each with lists that 10 refuses and packets that 13 refuses.
+pub fn calls_on_lists(given: impl Fn() -> (OwnedTables, OwnedLists, OwnedLists)) -> Vec<Case> {
+    let mut cases = Vec::new();
+    let (tables, left, right) = given();
+    cases.push(Case::Search {
+        tables,
+        left,
+        right,
+        lists: Lists::new(3, 3, 3),
+    });
+    let (tables, left, right) = given();
+    cases.push(Case::Evidence {
+        tables,
+        left,
+        right,
+        lists: Lists::new(3, 0, 3),
+    });
+    let (tables, left, right) = given();
+    cases.push(Case::Records {
+        tables,
+        left,
+        right,
+        rows: vec![Record::default()],
+        work: vec![9; 3],
+    });
+    let (tables, left, right) = given();
+    cases.push(Case::Trace {
+        tables,
+        left,
+        right,
+        entering: 65_535,
+        trace: vec![65_535],
+        work: vec![9; 3],
+    });
+    cases
 }

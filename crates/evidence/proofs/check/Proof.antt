@@ -24,11 +24,11 @@ wide-requires c κs = search needs
 first-stray-requires : tie.Need-first-stray-requires
 first-stray-requires c κs = stray-asks _ _ _ _ _ _ (c .before .before .before .before .before .before .before .before .before .before .before .before .before .before .before .before .before .before .before .before .args .work .now) (c .before .before .before .before .before .evidence-lists .ensures) (c .before .before .before .before .front .ensures) (c .before .enum-told .given .1) (c .wide .ensures)
 
-array-share-prefix-sizes : tie.Need-array-share-prefix-sizes
-array-share-prefix-sizes c = search needs
+array-share-prefix-core : tie.Need-array-share-prefix-core
+array-share-prefix-core c = search needs
 
 slice-aggregate-table-checked : tie.Need-slice-aggregate-table-checked
-slice-aggregate-table-checked c = sym (length-take-le _ _ (c .before .before .before .before .before .before .front .ensures .few))
+slice-aggregate-table-checked c = sym (length-take-le _ _ (c .before .before .before .before .before .before .front .ensures .few .1))
 
 table-checked-requires : tie.Need-table-checked-requires
 table-checked-requires c κs = table-asks _ _ _ _ _ _ _ (c .before .before .before .before .before .before .before .before .evidence-lists .ensures) (c .before .before .before .before .before .before .before .front .ensures) (c .before .before .before .before .enum-told .given .1) (c .before .before .before .wide .ensures) (c .before .before .first-stray .ensures)
@@ -52,7 +52,7 @@ check-spec =
     enum-told
     wide-requires
     first-stray-requires
-    array-share-prefix-sizes
+    array-share-prefix-core
     slice-aggregate-table-checked
     table-checked-requires
     returns

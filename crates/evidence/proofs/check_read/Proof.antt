@@ -18,11 +18,11 @@ enum-known-tested c = search needs
 enum-told : tie.Need-enum-told
 enum-told c = search needs
 
-array-share-prefix-sizes : tie.Need-array-share-prefix-sizes
-array-share-prefix-sizes c = search needs
+array-share-prefix-core : tie.Need-array-share-prefix-core
+array-share-prefix-core c = search needs
 
 slice-aggregate-table-checked : tie.Need-slice-aggregate-table-checked
-slice-aggregate-table-checked c = sym (length-take-le _ _ (c .before .before .before .before .front .ensures .few))
+slice-aggregate-table-checked c = sym (length-take-le _ _ (c .before .before .before .before .front .ensures .few .1))
 
 slice-aggregate-table-checked-2 : tie.Need-slice-aggregate-table-checked-2
 slice-aggregate-table-checked-2 c = sym (length-take-le _ _ (read-long _ _ _ _ _ _ _ (c .before .before .before .before .before .before .before .before .before .before .before .before .before .before .before .before .before .before .before .before .before .args .work .now) (c .before .before .before .before .before .before .evidence-lists .ensures) (c .before .before .before .before .before .front .ensures) (c .before .before .before .before .before .before .before .before .before .before .before .before .before .before .before .before .before .before .before .before .before .pre) (c .before .before .enum-told .given .1) .0))
@@ -56,7 +56,7 @@ check-read-spec =
     front-requires
     enum-known-tested
     enum-told
-    array-share-prefix-sizes
+    array-share-prefix-core
     slice-aggregate-table-checked
     slice-aggregate-table-checked-2
     slice-aggregate-table-checked-3

@@ -18,11 +18,11 @@ enum-known-tested c = search needs
 enum-told : tie.Need-enum-told
 enum-told c = search needs
 
-array-share-prefix-sizes : tie.Need-array-share-prefix-sizes
-array-share-prefix-sizes c = search needs
+array-share-prefix-core : tie.Need-array-share-prefix-core
+array-share-prefix-core c = search needs
 
 slice-aggregate-search-accepted : tie.Need-slice-aggregate-search-accepted
-slice-aggregate-search-accepted c = sym (length-take-le _ _ (c .before .before .before .before .front .ensures .few))
+slice-aggregate-search-accepted c = sym (length-take-le _ _ (c .before .before .before .before .front .ensures .few .1))
 
 search-accepted-requires : tie.Need-search-accepted-requires
 search-accepted-requires c κs = let h = tests-pass _ _ _ _ (c .before .before .before .before .before .before .before .before .before .before .before .search-lists .ensures) (c .before .before .before .before .before .before .before .before .before .before .front .ensures) (c .before .before .before .before .before .before .before .enum-told .given .1) in accepts _ (h .0) _ (h .1) (h .2)
@@ -59,7 +59,7 @@ search-spec =
     front-requires
     enum-known-tested
     enum-told
-    array-share-prefix-sizes
+    array-share-prefix-core
     slice-aggregate-search-accepted
     search-accepted-requires
     returns

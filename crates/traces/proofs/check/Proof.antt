@@ -34,23 +34,23 @@ enum-known-r c = search needs
 enum-told-2 : tie.Need-enum-told-2
 enum-told-2 c = search needs
 
-array-share-prefix-sizes : tie.Need-array-share-prefix-sizes
-array-share-prefix-sizes c = search needs
+array-share-prefix-core : tie.Need-array-share-prefix-core
+array-share-prefix-core c = search needs
 
 slice-aggregate-has-trace : tie.Need-slice-aggregate-has-trace
-slice-aggregate-has-trace c = sym (length-take-le _ _ (c .before .before .before .before .before .before .before .before .before .before .before .before .front .ensures .few))
+slice-aggregate-has-trace c = sym (length-take-le _ _ (c .before .before .before .before .before .before .before .before .before .before .before .before .front .ensures .few .1))
 
 has-trace-requires : tie.Need-has-trace-requires
-has-trace-requires c κs = let n = c .before .before .before .before .before .before .before .before .before .before .before .before .before .front .ensures .packets (c .before .before .before .before .before .before .before .before .before .before .enum-told .given .1) in left-ready _ _ _ _ _ _ (sym (tests-made _ _ _ _ (c .before .before .before .before .before .before .before .before .before .before .before .before .before .before .work-list .ensures) (c .before .before .before .before .before .before .before .before .before .before .before .before .before .front .ensures)) ∙ c .before .before .before .before .before .before .before .before .before .before .enum-told .given .1) (c .before .before .before .before .before .before .before .before .clear .ensures) (packets-tested _ _ _ n (c .before .before .before .before .refused-at .ensures) (c .before .before .before .before .before .lowest-bad .ensures) ∙ c .before .before .enum-told2 .given .1) n (c .before .before .before .before .before .before .before .before .before .before .before .before .before .front .ensures .joint (c .before .before .before .before .before .before .before .before .before .before .enum-told .given .1))
+has-trace-requires c κs = let n = c .before .before .before .before .before .before .before .before .before .before .before .before .before .front .ensures .packets (c .before .before .before .before .before .before .before .before .before .before .enum-told .given .1) in left-ready _ _ _ _ _ _ (sym (tests-made _ _ _ _ (c .before .before .before .before .before .before .before .before .before .before .before .before .before .before .work-list .ensures) (c .before .before .before .before .before .before .before .before .before .before .before .before .before .front .ensures)) ∙ c .before .before .before .before .before .before .before .before .before .before .enum-told .given .1) (c .before .before .before .before .before .before .before .before .clear .ensures) (packets-tested _ _ _ n (c .before .before .before .before .refused-at .ensures) (c .before .before .before .before .before .lowest-bad .ensures) ∙ c .before .before .enum-told2 .given .1) n (c .before .before .before .before .before .before .before .before .before .before .before .before .before .front .ensures .core (c .before .before .before .before .before .before .before .before .before .before .enum-told .given .1))
 
-array-share-prefix-sizes-2 : tie.Need-array-share-prefix-sizes-2
-array-share-prefix-sizes-2 c = search needs
+array-share-prefix-core-2 : tie.Need-array-share-prefix-core-2
+array-share-prefix-core-2 c = search needs
 
 slice-aggregate-has-trace-2 : tie.Need-slice-aggregate-has-trace-2
-slice-aggregate-has-trace-2 c = sym (length-take-le _ _ (c .before .before .before .before .before .before .before .before .before .before .before .before .before .before .before .before .before .front .ensures .few))
+slice-aggregate-has-trace-2 c = sym (length-take-le _ _ (c .before .before .before .before .before .before .before .before .before .before .before .before .before .before .before .before .before .front .ensures .few .1))
 
 has-trace-requires-2 : tie.Need-has-trace-requires-2
-has-trace-requires-2 c κs = let n = c .before .before .before .before .before .before .before .before .before .before .before .before .before .before .before .before .before .before .front .ensures .packets (c .before .before .before .before .before .before .before .before .before .before .before .before .before .before .before .enum-told .given .1) in right-ready _ _ _ _ _ _ (sym (tests-made _ _ _ _ (c .before .before .before .before .before .before .before .before .before .before .before .before .before .before .before .before .before .before .before .work-list .ensures) (c .before .before .before .before .before .before .before .before .before .before .before .before .before .before .before .before .before .before .front .ensures)) ∙ c .before .before .before .before .before .before .before .before .before .before .before .before .before .before .before .enum-told .given .1) (c .before .before .before .before .has-trace .ensures .kept ∙ c .before .before .before .before .before .before .before .before .before .before .before .before .before .clear .ensures) (packets-tested _ _ _ n (c .before .before .before .before .before .before .before .before .before .refused-at .ensures) (c .before .before .before .before .before .before .before .before .before .before .lowest-bad .ensures) ∙ c .before .before .before .before .before .before .before .enum-told2 .given .1) n (c .before .before .before .before .before .before .before .before .before .before .before .before .before .before .before .before .before .before .front .ensures .joint (c .before .before .before .before .before .before .before .before .before .before .before .before .before .before .before .enum-told .given .1))
+has-trace-requires-2 c κs = let n = c .before .before .before .before .before .before .before .before .before .before .before .before .before .before .before .before .before .before .front .ensures .packets (c .before .before .before .before .before .before .before .before .before .before .before .before .before .before .before .enum-told .given .1) in right-ready _ _ _ _ _ _ (sym (tests-made _ _ _ _ (c .before .before .before .before .before .before .before .before .before .before .before .before .before .before .before .before .before .before .before .work-list .ensures) (c .before .before .before .before .before .before .before .before .before .before .before .before .before .before .before .before .before .before .front .ensures)) ∙ c .before .before .before .before .before .before .before .before .before .before .before .before .before .before .before .enum-told .given .1) (c .before .before .before .before .has-trace .ensures .kept ∙ c .before .before .before .before .before .before .before .before .before .before .before .before .before .clear .ensures) (packets-tested _ _ _ n (c .before .before .before .before .before .before .before .before .before .refused-at .ensures) (c .before .before .before .before .before .before .before .before .before .before .lowest-bad .ensures) ∙ c .before .before .before .before .before .before .before .enum-told2 .given .1) n (c .before .before .before .before .before .before .before .before .before .before .before .before .before .before .before .before .before .before .front .ensures .core (c .before .before .before .before .before .before .before .before .before .before .before .before .before .before .before .enum-told .given .1))
 
 named-requires : tie.Need-named-requires
 named-requires c κs = search needs
@@ -68,7 +68,7 @@ same-length-2 : tie.Need-same-length-2
 same-length-2 c = search needs
 
 returns-3 : tie.Need-returns-3
-returns-3 c = let n = c .before .before .before .before .before .before .before .before .before .before .before .before .before .before .before .before .before .before .before .before .before .before .front .ensures .packets (c .before .before .before .before .before .before .before .before .before .before .before .before .before .before .before .before .before .before .before .enum-told .given .1) in answered _ _ _ _ _ _ (sym (tests-made _ _ _ _ (c .before .before .before .before .before .before .before .before .before .before .before .before .before .before .before .before .before .before .before .before .before .before .before .work-list .ensures) (c .before .before .before .before .before .before .before .before .before .before .before .before .before .before .before .before .before .before .before .before .before .before .front .ensures)) ∙ c .before .before .before .before .before .before .before .before .before .before .before .before .before .before .before .before .before .before .before .enum-told .given .1) (c .before .before .before .before .before .before .before .before .before .before .before .before .before .before .before .before .before .clear .ensures) (packets-tested _ _ _ n (c .before .before .before .before .before .before .before .before .before .before .before .before .before .refused-at .ensures) (c .before .before .before .before .before .before .before .before .before .before .before .before .before .before .lowest-bad .ensures) ∙ c .before .before .before .before .before .before .before .before .before .before .before .enum-told2 .given .1) (c .before .before .before .before .before .before .before .before .before .before .before .before .before .before .before .before .before .before .before .before .before .before .front .ensures .joint (c .before .before .before .before .before .before .before .before .before .before .before .before .before .before .before .before .before .before .before .enum-told .given .1)) (c .before .before .before .before .before .before .before .before .has-trace .ensures) (c .before .before .before .has-trace2 .ensures) _ (c .named .ensures)
+returns-3 c = let n = c .before .before .before .before .before .before .before .before .before .before .before .before .before .before .before .before .before .before .before .before .before .before .front .ensures .packets (c .before .before .before .before .before .before .before .before .before .before .before .before .before .before .before .before .before .before .before .enum-told .given .1) in answered _ _ _ _ _ _ (sym (tests-made _ _ _ _ (c .before .before .before .before .before .before .before .before .before .before .before .before .before .before .before .before .before .before .before .before .before .before .before .work-list .ensures) (c .before .before .before .before .before .before .before .before .before .before .before .before .before .before .before .before .before .before .before .before .before .before .front .ensures)) ∙ c .before .before .before .before .before .before .before .before .before .before .before .before .before .before .before .before .before .before .before .enum-told .given .1) (c .before .before .before .before .before .before .before .before .before .before .before .before .before .before .before .before .before .clear .ensures) (packets-tested _ _ _ n (c .before .before .before .before .before .before .before .before .before .before .before .before .before .refused-at .ensures) (c .before .before .before .before .before .before .before .before .before .before .before .before .before .before .lowest-bad .ensures) ∙ c .before .before .before .before .before .before .before .before .before .before .before .enum-told2 .given .1) (c .before .before .before .before .before .before .before .before .before .before .before .before .before .before .before .before .before .before .before .before .before .before .front .ensures .core (c .before .before .before .before .before .before .before .before .before .before .before .before .before .before .before .before .before .before .before .enum-told .given .1)) (c .before .before .before .before .before .before .before .before .has-trace .ensures) (c .before .before .before .has-trace2 .ensures) _ (c .named .ensures)
 
 pub check-spec : {M : Type 1} → statement M
 check-spec =
@@ -83,10 +83,10 @@ check-spec =
     refused-at-requires
     enum-known-r
     enum-told-2
-    array-share-prefix-sizes
+    array-share-prefix-core
     slice-aggregate-has-trace
     has-trace-requires
-    array-share-prefix-sizes-2
+    array-share-prefix-core-2
     slice-aggregate-has-trace-2
     has-trace-requires-2
     named-requires

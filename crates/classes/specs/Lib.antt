@@ -1,0 +1,2 @@
+pub mod Classing
+pub mod Mentioned
