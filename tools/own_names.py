@@ -14,6 +14,8 @@ import sys
 
 NAME = r'[^\s(){}.;,@"«»]+'
 DECLARED = re.compile(rf"(?m)^( *)((?:(?:pub|abbrev|unfoldable|mutual|data|record|rec) )*)({NAME})((?: [({{][^=\n]*?[)}}])*) :(?: |$)")
+# constructors of one type, on one line
+CONSTRUCTORS = re.compile(rf"(?m)^  ((?:{NAME} )+{NAME}) : [A-Z]\w*$")
 USE = re.compile(r"(?m)^[ \t]*(?:pub )?use ([^\s;{]+?)(?:\.?\{([^}]*)\})?(?: as ([^\s;]+))?[ \t]*$")
 GHOST_USE = re.compile(r"ghost use ([^\s;{]+?)(?:\.?\{([^}]*)\})?(?: as ([^\s;]+))?;")
 # A name whose new spelling a tactic, a field or a definition beside it has already. A lemma that would have its function's name gets `_lem`.
@@ -26,19 +28,31 @@ BY_HAND = {
     "breaks-b": "breaks_rule_b",
     "breaks-d": "breaks_rule_d",
 }
-# Lemmas of one file that had the new spelling before: they get `_lem`.
+# Lemmas of one file that had the new spelling before, each with the definition that gets it: they get `_lem`.
 LEMMAS = {
-    "listed_rows/proofs/Growing.antt": ("next_row", "both_zero"),
-    "policy/proofs/Nodes.antt": ("node_at",),
+    "listed_rows/proofs/Growing.antt": {"next_row": "nextRow", "both_zero": "bothZero"},
+    "policy/proofs/Nodes.antt": {"node_at": "nodeAt"},
+}
+# What port.py spelled as a lemma of another name, and is none.
+NO_LEMMAS = {"out_of_lem": "out_of"}
+# Variables of one file that are spelled like a definition of another.
+VARIABLES = {
+    "changes/proofs/Walking.antt": ("inField",),
+    "console/proofs/Printing.antt": ("leftTable", "rightTable"),
+    "exports/proofs/Laws.antt": ("leftTable", "rightTable"),
+    "exports/specs/Promises.antt": ("leftTable", "rightTable"),
+    "index/proofs/Looking.antt": ("isEntry", "isSide"),
+    "search_texts/proofs/Running.antt": ("leftTable", "rightTable"),
+    "search_texts/specs/Call.antt": ("leftTable", "rightTable"),
 }
 # Lemmas named as a definition is, but for their spelling.
 FALLING = set(
     """
-    answer-here answer-in bit-and bit-or bit-xor bytes-kept cell-name class-entry comparison-of constant-of entry-at field-
-    token is-dup is-named is-table joint-names left-dups lefts-of lists-stage named-below names-from node-on on-classes
-    packets-of policy-tests right-dups rights-of same-states switch-names token-of tree-in tree-of tree-read word-drop word-
-    dup word-id zero-size
-""".split()
+    answer-here answer-in bit-and bit-or bit-xor bytes-kept cell-name class-entry comparison-of constant-of entry-at
+    field-token is-dup is-named is-table joint-names left-dups lefts-of lists-stage named-below names-from node-on
+    on-classes packets-of policy-tests right-dups rights-of same-states switch-names token-of tree-in tree-of tree-read
+    word-drop word-dup word-id zero-size
+    """.split()
 )
 
 
@@ -82,6 +96,10 @@ def declared_in(code):
         if re.search(r" : (tie|goal)\.", line) or name in ("use", "let", "in", "module", "where"):
             continue
         found[name] = len(m[1])
+    for names in CONSTRUCTORS.findall(code):
+        found.update({name: 1 for name in names.split()})
+    for items in re.findall(r"(?m)^use [^\n{]*\{([^}]*)\}", code):
+        found.update({alias: 1 for alias in re.findall(rf" as ({NAME})", items)})
     return found
 
 
@@ -100,10 +118,13 @@ def spans_of_rt(text, code):
 def read(root):
     texts = {p: open(p, encoding="utf-8").read() for p in files(root)}
     for p, text in texts.items():
+        for n, word in NO_LEMMAS.items():
+            text = texts[p] = re.sub(rf"(?<![\w-]){n}(?![\w-])", word, text)
         for end, names in LEMMAS.items():
             if p.endswith(end):
-                for n in names:
-                    text = re.sub(rf"(?<![^\s(){{}};]){n}(?![^\s(){{}};])", n + "_lem", text)
+                for n, definition in names.items():
+                    if definition in text:
+                        text = re.sub(rf"(?<![^\s(){{}};]){n}(?![^\s(){{}};])", n + "_lem", text)
                 texts[p] = text
     return texts
 
@@ -119,20 +140,23 @@ def turned(texts, crates):
         code = codes[p]
         here = declared.get(p, {})
         own, others, aliases = set(here), set(), set()
+        for items in re.findall(r"\bopen [^\n{]*? use \{([^}]*)\}", code):
+            own.update(re.split(r"[\s,]+", items))
+        own.update(*[names for end, names in VARIABLES.items() if p.endswith(end)])
         for path, items, alias in USE.findall(code) + GHOST_USE.findall(code):
             steps = path.split(".")
             yours = steps[0] == "Rattle" and len(steps) > 1 and steps[1] in crates
-            names = [w for w in re.split(r"[\s,]+|\bas\b", items) if w]
+            names = [w for w in re.split(r"[\s,]+", items) if w not in ("", "as")]
             if not items and yours:
                 aliases.add(alias or steps[-1])
             (own if yours else others).update(names)
         parts = [(0, len(text))] if p.endswith(".antt") else list(spans_of_rt(text, code))
-        walked = p.endswith("/Proof.antt")
+        walked = re.search(r"/(Proof|Answers|Invariants)\.antt$", p)
         out, at, used = [], 0, {}
         for start, end in parts:
             for m in re.finditer(NAME, code[start:end]):
                 w, i = m[0], start + m.start()
-                if w not in everywhere or not is_old(w):
+                if w not in everywhere and w not in own or not is_old(w):
                     continue
                 dotted = i > 0 and code[i - 1] == "."
                 if dotted:
@@ -186,4 +210,5 @@ def main(argv):
                 f.write(text)
 
 
-main(sys.argv[1:])
+if __name__ == "__main__":
+    main(sys.argv[1:])

@@ -1,4 +1,6 @@
 // The eight numbers of each answer, for the C interface.
+#![tactic(auto)]
+
 ghost use Rattle.std.specs.Prelude.{◌≡◌};
 ghost use Rattle.answer_numbers.specs.Numbers.{eight, refused_numbers, values_numbers, number_numbers, policy_numbers, pair_numbers, text_numbers, full_numbers, verdict_numbers, evidence_numbers, trace_numbers};
 

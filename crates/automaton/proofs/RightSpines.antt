@@ -158,7 +158,7 @@ is_spine F n p i = go (right_spine p (suc i)) refl
     go none e x = absurd (n x)
     go (some r) e x = term_spine p (suc i) r e
 
--- and one of those that `ofMarked` goes over
+-- and one of those that `of_marked` goes over
 pub remainder_listed : (F : Policy → Type 0) → (F drop → ⊥) → (p : Policy) (j : ℕ) → F (remainder p j) → 0 < occurrences j (0 ∷ labels p)
 unfolding occurrences
 remainder_listed F n p zero x = omega (arith, one_same 0 0 refl)

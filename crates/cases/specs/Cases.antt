@@ -3,7 +3,7 @@
 -- A line is a call with every list lent to it, and the answer and the lists that are stated; `result_of` is what the calls promise.
 use Rattle.std.specs.Prelude.{ℕ, zero, suc, ◌+◌, ◌-◌, List, [], ◌∷◌, ◌++◌, length, replicate}
 use Prim.Native.Char.{code}
-use Prim.Native.String.{String, [] as noText, ◌∷◌ as ◌thenText◌}
+use Prim.Native.String.{String, [] as no_text, ◌∷◌ as ◌thenText◌}
 use Rattle.packet.specs.Refusals.{refusal}
 use Rattle.fields.specs.Tables.{Table, table}
 use Rattle.policy.specs.NodeLists.{NodeLists}
@@ -96,7 +96,7 @@ gives call stated = record { call = call; stated = stated }
 
 -- the bytes of an ASCII text
 unfoldable pub bytes : String → List ℕ
-bytes noText = []
+bytes no_text = []
 bytes (◌thenText◌ c s) = code c ∷ bytes s
 
 -- ---- tables

@@ -70,7 +70,7 @@ digit_within t z α = le_trans (mul-le-mul_right t (mod-le (α / t) z)) (div-mul
 module _ (sizes : List ℕ) (field value : ℕ) (legal : LegalSizes sizes) (is_in_field : bad_field sizes field value ≡ false) where
   pub in_field : (field < length sizes) × (value < get_or sizes field 0)
   unfolding bad_field
-  in_field = let h = or_false (leb (length sizes) field) (leb (get_or sizes field 0) value) inField in
+  in_field = let h = or_false (leb (length sizes) field) (leb (get_or sizes field 0) value) is_in_field in
       (leb-false (length sizes) field h.0, leb-false (get_or sizes field 0) value h.1)
 
   some_packet : 0 < product sizes

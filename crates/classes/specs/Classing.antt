@@ -60,7 +60,7 @@ module _ (c : Classing) where
   class_entries (k ∷ ks) (f ∷ fs) [] = []
   class_entries (k ∷ ks) (f ∷ fs) (s ∷ ss) = class_entry (node_of k f s) s ∷ class_entries ks fs ss
 
-  -- the policy on classes, as node lists: what the rows are about
+  -- the policy on classes, as node lists (for A.7; nothing uses it yet)
   unfoldable pub on_classes : NodeLists → NodeLists
   on_classes L = record { kind = L.kind; first = L.first; second = class_entries L.kind L.first L.second }
 

@@ -18,7 +18,7 @@ use Rattle.loaded.specs.Loaded.{Loaded}
 use Rattle.packet_set.specs.InnerMembers.{member, lowest_in, lowest_answer, exclusive_or_of, empty_set, words_for}
 use Rattle.packet_set.specs.declared.Lowest.{Lowest}
 use Rattle.packet_set.specs.declared.Lowest.TheVariants.{At, Nothing}
-use Rattle.packet_set.proofs.Walk.{lowest_in_only, lowest-as, found_at, found_none}
+use Rattle.packet_set.proofs.Walk.{lowest_in_only, lowest_as, found_at, found_none}
 use Rattle.packet_set.proofs.Words.{member_exclusive_or}
 use Rattle.system.specs.System as system
 use Rattle.system.specs.System.{System, tells}
@@ -154,7 +154,7 @@ module _ {sizes : List ℕ} {nodes tests : List (List ℕ)} {β : ℕ} {next : L
         lowest_apart : lowest_in k 0 (exclusive_or_of k outL outR) ≡ lowest_telling S row
         unfolding lowest_telling xor
         lowest_apart =
-            lowest-as k (product sizes) (exclusive_or_of k outL outR) (tells S row)
+            lowest_as k (product sizes) (exclusive_or_of k outL outR) (tells S row)
             (λ γ g l. apart γ l ∙ tells_is γ)
             (λ γ g l. sym (tells_is γ) ∙ (let z = beyond γ g in ap₂ xor z.0 z.1))
             (λ γ g l. apart γ l ∙ xor_same _ _ (output_beyond rd.blank.left_blank sl (left_stands b) γ g ∙ sym (output_beyond (right_blank) sr (right_stands b) γ g)))

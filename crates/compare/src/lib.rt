@@ -1,4 +1,6 @@
 // One row of two policies evaluated and compared. All functions here are inner.
+#![tactic(auto)]
+
 ghost use Rattle.std.specs.Prelude.{◌≡◌, ◌≤◌};
 ghost use Rattle.policy.specs.AsLists.{as_lists, policy_at_entry};
 ghost use Rattle.compare.specs.Comparison.{compared_sets, LoadReady, BothLoaded, BothMarking, BothBlank, CompareReady, ComparedStates};

@@ -97,49 +97,49 @@ module _ (core : List ℕ) (L R : NodeLists) (x : SearchLists) where
       fits_passed (rows_full n d) e = tt
       fits_passed (trace_short n) e = tt
 
-module _ (leftTable right_table : Table) (left-text right-text : List ℕ) (x : SearchLists) where
+module _ (left_table right_table : Table) (left-text right-text : List ℕ) (x : SearchLists) where
   abbrev L : NodeLists
-  L = text_nodes (text_names leftTable rightTable 1) left-text
+  L = text_nodes (text_names left_table right_table 1) left-text
 
   abbrev R : NodeLists
-  R = text_nodes (text_names leftTable rightTable 2) right-text
+  R = text_nodes (text_names left_table right_table 2) right-text
 
   abbrev core : List ℕ
-  core = texts_core leftTable rightTable left-text right-text
+  core = texts_core left_table right_table left-text right-text
 
-  legal : texts_tests leftTable rightTable left-text right-text x ≡ Passed → Legal core L × Legal core R
+  legal : texts_tests left_table right_table left-text right-text x ≡ Passed → Legal core L × Legal core R
   unfolding texts_tests Each
   legal e = let g = policies_legal _ _ _ _ _ (passing _ _ _ _ _ e) in (g.0, g.1.0)
 
-  module _ {v : Verdict} {y : SearchLists} (D : TextsSearched leftTable rightTable left-text right-text x v y) where
+  module _ {v : Verdict} {y : SearchLists} (D : TextsSearched left_table right_table left-text right-text x v y) where
     -- the lines printed of what the search leaves are the program's output
-    pub lines_are : verdict_lines v y.packets y.lefts y.rights y.trace ≡ output_after (texts_tests leftTable rightTable left-text right-text x) (texts_rows leftTable rightTable left-text right-text x) (texts_answer leftTable rightTable left-text right-text x)
+    pub lines_are : verdict_lines v y.packets y.lefts y.rights y.trace ≡ output_after (texts_tests left_table right_table left-text right-text x) (texts_rows left_table right_table left-text right-text x) (texts_answer left_table right_table left-text right-text x)
     unfolding texts_verdict texts_leaves verdict_after lent_after output_after verdict_lines
-    lines_are = go (texts_tests leftTable rightTable left-text right-text x) refl
+    lines_are = go (texts_tests left_table right_table left-text right-text x) refl
       where
         rows : Columns
-        rows = texts_rows leftTable rightTable left-text right-text x
+        rows = texts_rows left_table right_table left-text right-text x
 
         a : SearchAnswer
-        a = texts_answer leftTable rightTable left-text right-text x
+        a = texts_answer left_table right_table left-text right-text x
 
         shown : Verdict → SearchLists → List ℕ
         shown w z = verdict_lines w z.packets z.lefts z.rights z.trace
 
-        go : (t : Tested) → texts_tests leftTable rightTable left-text right-text x ≡ t → shown v y ≡ output_after t rows a
+        go : (t : Tested) → texts_tests left_table right_table left-text right-text x ≡ t → shown v y ≡ output_after t rows a
         go Passed e =
             ap₂ shown (D.answers ∙ ap (λ (t : Tested). verdict_after t a) e) (D.leaves ∙ ap (λ (t : Tested). lent_after t rows a x) e) ∙ lines_passed core L R x (legal e) a refl
         go (Stopped r) e = ap₂ shown (D.answers ∙ ap (λ (t : Tested). verdict_after t a) e) (D.leaves ∙ ap (λ (t : Tested). lent_after t rows a x) e)
 
     pub lines_fit : length x.packets ≡ 4096 → length x.lefts ≡ 4096 → length x.rights ≡ 4096 → length x.trace ≡ 4096 → Fits v y.packets y.lefts y.rights y.trace
     unfolding texts_verdict texts_leaves verdict_after lent_after Fits
-    lines_fit p l r t = go (texts_tests leftTable rightTable left-text right-text x) refl
+    lines_fit p l r t = go (texts_tests left_table right_table left-text right-text x) refl
       where
         rows : Columns
-        rows = texts_rows leftTable rightTable left-text right-text x
+        rows = texts_rows left_table right_table left-text right-text x
 
         a : SearchAnswer
-        a = texts_answer leftTable rightTable left-text right-text x
+        a = texts_answer left_table right_table left-text right-text x
 
         FitsIn : Verdict → SearchLists → Type 0
         FitsIn w z = Fits w z.packets z.lefts z.rights z.trace
@@ -147,7 +147,7 @@ module _ (leftTable right_table : Table) (left-text right-text : List ℕ) (x : 
         moved : {w : Verdict} {z : SearchLists} → v ≡ w → y ≡ z → FitsIn w z → FitsIn v y
         moved {w} {z} e f h = subst (λ u. FitsIn u y) (sym e) (subst (FitsIn w) (sym f) h)
 
-        go : (u : Tested) → texts_tests leftTable rightTable left-text right-text x ≡ u → FitsIn v y
+        go : (u : Tested) → texts_tests left_table right_table left-text right-text x ≡ u → FitsIn v y
         go Passed e = moved (D.answers ∙ ap (λ (u : Tested). verdict_after u a) e) (D.leaves ∙ ap (λ (u : Tested). lent_after u rows a x) e) (fits_passed core L R x (legal e) p l r t a refl)
         go (Stopped q) e = moved (D.answers ∙ ap (λ (u : Tested). verdict_after u a) e) (D.leaves ∙ ap (λ (u : Tested). lent_after u rows a x) e) tt
 
@@ -200,38 +200,38 @@ program_lengths : (length program_lent.packets ≡ 4096) × (length program_lent
 unfolding program_lent
 program_lengths = (length-replicate {A = ℕ} 4096 0, length-replicate {A = ℕ} 4096 0, length-replicate {A = ℕ} 4096 0, length-replicate {A = ℕ} 4096 0)
 
-module _ {leftTable right_table : Table} {left-text right-text : List ℕ} {v : Verdict} {y : SearchLists} (D : TextsSearched leftTable rightTable left-text right-text program_lent v y) where
+module _ {left_table right_table : Table} {left-text right-text : List ℕ} {v : Verdict} {y : SearchLists} (D : TextsSearched left_table right_table left-text right-text program_lent v y) where
   pub shows : Fits v y.packets y.lefts y.rights y.trace
-  shows = let l = program_lengths in lines_fit leftTable rightTable left-text right-text program_lent D l.0 l.1 l.2 l.3
+  shows = let l = program_lengths in lines_fit left_table right_table left-text right-text program_lent D l.0 l.1 l.2 l.3
 
   -- the trace list's first packets are the trace
-  trace_left : (s : Side) (h : Tells (texts_tests leftTable rightTable left-text right-text program_lent) (texts_answer leftTable rightTable left-text right-text program_lent) s) → take (length h.trace) y.trace ≡ h.trace
+  trace_left : (s : Side) (h : Tells (texts_tests left_table right_table left-text right-text program_lent) (texts_answer left_table right_table left-text right-text program_lent) s) → take (length h.trace) y.trace ≡ h.trace
   unfolding texts_leaves lent_after filled trace_after
   trace_left s h =
-      ap (λ (z : SearchLists). take (length h.trace) z.trace) (D.leaves ∙ ap (λ (t : Tested). lent_after t (texts_rows leftTable rightTable left-text right-text program_lent) (texts_answer leftTable rightTable left-text right-text program_lent) program_lent) h.passed)
+      ap (λ (z : SearchLists). take (length h.trace) z.trace) (D.leaves ∙ ap (λ (t : Tested). lent_after t (texts_rows left_table right_table left-text right-text program_lent) (texts_answer left_table right_table left-text right-text program_lent) program_lent) h.passed)
       ∙ ap (λ a. take (length h.trace) (trace_after a program_lent.trace)) h.answer
       ∙ take_written h.trace program_lent.trace
 
-  telling_is : (s : Side) (h : Tells (texts_tests leftTable rightTable left-text right-text program_lent) (texts_answer leftTable rightTable left-text right-text program_lent) s) → v ≡ telling_verdict s (length h.trace) h.entering
+  telling_is : (s : Side) (h : Tells (texts_tests left_table right_table left-text right-text program_lent) (texts_answer left_table right_table left-text right-text program_lent) s) → v ≡ telling_verdict s (length h.trace) h.entering
   unfolding texts_verdict verdict_after verdict_of
   telling_is s h = D.answers ∙ ap₂ verdict_after h.passed h.answer
 
-  pub printed : {old new : List ℕ} {e : ℕ} → Wrote old new 0 e (verdict_lines v y.packets y.lefts y.rights y.trace) → Printed leftTable rightTable left-text right-text old e new
+  pub printed : {old new : List ℕ} {e : ℕ} → Wrote old new 0 e (verdict_lines v y.packets y.lefts y.rights y.trace) → Printed left_table right_table left-text right-text old e new
   unfolding output_of output_after answer_lines texts_verdict
   printed {old} {new} {e} W =
       record {
-        wrote = subst (Wrote old new 0 e) (lines_are leftTable rightTable left-text right-text program_lent D) W;
+        wrote = subst (Wrote old new 0 e) (lines_are left_table right_table left-text right-text program_lent D) W;
         equal_same = λ q. let h = starts_equal _ _ _ q in D.equal_same h.0 (D.answers ∙ h.1);
         different_tells = λ s q. tells s (starts_side s _ _ _ q);
       }
     where
-      tells : (s : Side) → Tells (texts_tests leftTable rightTable left-text right-text program_lent) (texts_answer leftTable rightTable left-text right-text program_lent) s → TellingPrinted leftTable rightTable left-text right-text s
+      tells : (s : Side) → Tells (texts_tests left_table right_table left-text right-text program_lent) (texts_answer left_table right_table left-text right-text program_lent) s → TellingPrinted left_table right_table left-text right-text s
       tells s h =
           record {
             entering = h.entering;
             trace = h.trace;
-            printed = ap₂ (λ t a. output_after t (texts_rows leftTable rightTable left-text right-text program_lent) a) h.passed h.answer;
-            tells = subst (TextsTell leftTable rightTable left-text right-text s h.entering) (trace_left s h) (D.different_tells s (length h.trace) h.entering (telling_is s h)).tells;
+            printed = ap₂ (λ t a. output_after t (texts_rows left_table right_table left-text right-text program_lent) a) h.passed h.answer;
+            tells = subst (TextsTell left_table right_table left-text right-text s h.entering) (trace_left s h) (D.different_tells s (length h.trace) h.entering (telling_is s h)).tells;
           }
 
 -- ---- the whole program
@@ -255,18 +255,18 @@ module _ {input : List ℕ} where
         different_tells = λ s q. absurd (refusal_not_side s _ (ap (take (length (word_of_side s))) (sym is) ∙ q));
       }
 
-  pub answers_searched : {leftTable right_table : Table} {left-text right-text : List ℕ} → asked input ≡ compare leftTable rightTable left-text right-text → {old new : List ℕ} {e : ℕ} → Printed leftTable rightTable left-text right-text old e new → Answered input old e new
+  pub answers_searched : {left_table right_table : Table} {left-text right-text : List ℕ} → asked input ≡ compare left_table right_table left-text right-text → {old new : List ℕ} {e : ℕ} → Printed left_table right_table left-text right-text old e new → Answered input old e new
   unfolding program_output
-  answers_searched {leftTable} {rightTable} {left-text} {right-text} a {old} {new} {e} P =
-      let is : program_output input ≡ output_of (compare leftTable rightTable left-text right-text) = ap output_of a in
+  answers_searched {left_table} {right_table} {left-text} {right-text} a {old} {new} {e} P =
+      let is : program_output input ≡ output_of (compare left_table right_table left-text right-text) = ap output_of a in
       let w = wrote_front P.wrote in
       record {
         count = w.0 ∙ ap length (sym is);
         output = w.1 ∙ ap (λ xs. written xs old) (sym is);
-        equal_same = λ q. record { left_table = leftTable; right_table = rightTable; left = left-text; right = right-text; asks = a; same = P.equal_same (ap (take (length word_equal)) (sym is) ∙ q) };
+        equal_same = λ q. record { left_table = left_table; right_table = right_table; left = left-text; right = right-text; asks = a; same = P.equal_same (ap (take (length word_equal)) (sym is) ∙ q) };
         different_tells = λ s q.
             let t = P.different_tells s (ap (take (length (word_of_side s))) (sym is) ∙ q) in
-            record { left_table = leftTable; right_table = rightTable; left = left-text; right = right-text; asks = a; entering = t.entering; trace = t.trace; printed = is ∙ t.printed; tells = t.tells };
+            record { left_table = left_table; right_table = right_table; left = left-text; right = right-text; asks = a; entering = t.entering; trace = t.trace; printed = is ∙ t.printed; tells = t.tells };
       }
 
 -- an answer fits where it was written

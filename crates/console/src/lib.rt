@@ -1,4 +1,6 @@
 // The program as a function of bytes (document 01, "The program"; document 02, A.4).
+#![tactic(auto)]
+
 ghost use Rattle.std.specs.Prelude.{◌≡◌, true, ◌≤◌, length};
 ghost use Rattle.fields.specs.Tables.{table};
 ghost use Rattle.input.specs.Inner.{FourLines};

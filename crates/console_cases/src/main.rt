@@ -2,6 +2,9 @@
 // input, and for each part how often it stands there, its length and its bytes. Every byte of the output is 7 before the
 // call. What is written is held to the stored output; after it stands the verdict word that the output starts with, and
 // whether the bytes beyond are kept.
+#![tactic(auto)]
+
+use std::io::Stdout;
 
 // Whether the output starts with the word and a comma.
 fn starts(output: &[u8], word: &[u8]) -> bool {
@@ -22,10 +25,10 @@ fn starts(output: &[u8], word: &[u8]) -> bool {
 }
 
 // Names the word if the output starts with it.
-fn name(output: &[u8], word: &[u8]) {
+fn name(stdout: Stdout, output: &[u8], word: &[u8]) {
     if starts(output, word) {
-        io::write_all(1, b"starts with ");
-        io::write_all(1, word);
+        harness::write(stdout, b"starts with ");
+        harness::write(stdout, word);
     }
 }
 
@@ -42,44 +45,44 @@ fn kept(output: &[u8], from: usize) -> bool {
 }
 
 // What the call wrote, and what the output starts with.
-fn show(output: &[u8], n: usize) {
+fn show(stdout: Stdout, output: &[u8], n: usize) {
     let len = harness::least(n, output.len());
     let said = &output[..len];
-    io::write_all(1, said);
-    name(said, b"equal");
-    name(said, b"left");
-    name(said, b"right");
-    name(said, b"refused");
-    io::write_all(1, b", bytes ");
-    harness::number(n as u64);
+    harness::write(stdout, said);
+    name(stdout, said, b"equal");
+    name(stdout, said, b"left");
+    name(stdout, said, b"right");
+    name(stdout, said, b"refused");
+    harness::write(stdout, b", bytes ");
+    harness::number(stdout, n as u64);
     if kept(output, len) {
-        io::write_all(1, b", beyond as before");
+        harness::write(stdout, b", beyond as before");
     }
-    harness::line_end();
+    harness::line_end(stdout);
 }
 
-fn one_case(input: &[u8], from: usize, given: &mut [u8]) -> usize {
+fn one_case(stdout: Stdout, input: &[u8], from: usize, given: &mut [u8]) -> usize {
     let b = harness::build(input, from, given);
     let len = b.len;
     let mut output = [7u8; 262208];
     let n = console::answer(&given[..len], &mut output);
-    show(&output, n);
+    show(stdout, &output, n);
     b.at
 }
 
-fn run(input: &[u8], given: &mut [u8]) {
+fn run(stdout: Stdout, input: &[u8], given: &mut [u8]) {
     let mut at = harness::next_digit(input, 0);
     for _ in 0..input.len() {
         if input.len() <= at {
             return;
         }
-        at = harness::next_digit(input, one_case(input, at, given));
+        at = harness::next_digit(input, one_case(stdout, input, at, given));
     }
 }
 
-fn main() {
-    let mut input = io::large_buffer();
-    let n = io::read_full(0, &mut input);
+fn main(rt: HostRuntime) {
+    let mut input = [0u8; 65536];
+    let n = harness::read_full(rt.stdin(), &mut input);
     let mut given = [0u8; 40000];
-    run(&input[..n], &mut given);
+    run(rt.stdout(), &input[..n], &mut given);
 }

@@ -13,7 +13,7 @@ use Rattle.policy.specs.NodeLists.{NodeLists, node_count, node_at, children}
 use Rattle.packet_set.specs.InnerMembers.{Members, Within}
 use Rattle.loaded.specs.Nodes.{tests_at, up_at}
 use Rattle.loaded.specs.Loaded.{Linked, Rises, ends, rises, DupAt, Loaded}
-use Rattle.engine.specs.Going.{Way, by-rule, out_of_lem, Goes, let_out, resting, repeating, Through}
+use Rattle.engine.specs.Going.{Way, by_rule, out_of, Goes, let_out, resting, repeating, Through}
 use Rattle.engine.proofs.Parts.{two_kids}
 use Rattle.engine.proofs.Goings.{goes_map}
 use Rattle.engine.proofs.Throughs.{goes_wider, through_below}
@@ -29,8 +29,8 @@ pub record Climbing (sizes : List ℕ) (L : NodeLists) (nodes tests : List ℕ) 
   pub dups : (j δ : ℕ) → T (D j δ) → T (D₀ j δ) ⊎ Tail sizes L nodes (meets j δ) d β
   pub slots_stay : (n : ℕ) → Within (S₀ n) (S n)
   pub dups_stay : (j : ℕ) → Within (D₀ j) (D j)
-  pub started : Goes sizes L nodes tests S D (up_at nodes m) X out_of_lem d β
-  pub gone : (n α : ℕ) → T (S n α) → T (S₀ n α) ⊎ Goes sizes L nodes tests S D (up_at nodes m) X by-rule n α
+  pub started : Goes sizes L nodes tests S D (up_at nodes m) X out_of d β
+  pub gone : (n α : ℕ) → T (S n α) → T (S₀ n α) ⊎ Goes sizes L nodes tests S D (up_at nodes m) X by_rule n α
 
 -- the node to which the way up leads
 pub data Joint (L : NodeLists) (q : ℕ) : Type 0 where

@@ -22,7 +22,7 @@ use Rattle.automaton.specs.Reaches.{Passes, Reaches}
 use Rattle.automaton.proofs.Spines.{meets_iff, meets_has, rem_has, rem_meets_of}
 use Rattle.loaded.specs.Nodes.{tests_at, up_at, guard_at}
 use Rattle.loaded.specs.Loaded.{Linked, OnlyTests, Enterable, Enters, DupAt, Loaded}
-use Rattle.engine.specs.Going.{into, by-rule, out_of_lem, Goes, blocked, noted, ruled, tested, changing, recorded, branching, starting, turning, let_out, resting, repeating}
+use Rattle.engine.specs.Going.{into, by_rule, out_of, Goes, blocked, noted, ruled, tested, changing, recorded, branching, starting, turning, let_out, resting, repeating}
 use Rattle.engine.proofs.Parts.{two_kids, one_kid, Turns, stay, turn, pass_below, change_pass, dup_pass, dup_reach, sum_pass, sum_reach, seq_pass, seq_reach, star_pass, star_pass_self, star_reach}
 use Rattle.engine.proofs.Remains.{RemPass, RemReach, HasBy, PassBy, ReachBy, same_label, has_by, pass_by, reach_by}
 use Rattle.engine.proofs.Goings.{out_same}
@@ -79,12 +79,12 @@ module _ {sizes : List ℕ} {L : NodeLists} {nodes tests : List ℕ} (ld : Loade
   unfolding Passes
   tests_pass n o α γ b h = head-eq_of_cons-eq ((o.traces α b (γ ∷ [])).0 h).1
 
-  module _ (S D : ℕ → Members) (R : Members) (closed : (m α : ℕ) → m < node_count L → T (S m α) → Goes sizes L nodes tests S D 512 R by-rule m α) where
+  module _ (S D : ℕ → Members) (R : Members) (closed : (m α : ℕ) → m < node_count L → T (S m α) → Goes sizes L nodes tests S D 512 R by_rule m α) where
     abbrev Into : ℕ → ℕ → Type 0
     Into n α = Goes sizes L nodes tests S D 512 R into n α
 
     abbrev OutOf : ℕ → ℕ → Type 0
-    OutOf n α = Goes sizes L nodes tests S D 512 R out_of_lem n α
+    OutOf n α = Goes sizes L nodes tests S D 512 R out_of n α
 
     -- what it means that a packet has gone on as the kind of its node says
     Rule : ℕ → ℕ → Node → Type 0
@@ -99,7 +99,7 @@ module _ {sizes : List ℕ} {L : NodeLists} {nodes tests : List ℕ} (ld : Loade
     Rule n α (Star x) = (tests_at nodes n ≡ false) × Into x α × OutOf n α
     Rule n α (Neg x) = ⊥
 
-    rule_of : (n α : ℕ) → Goes sizes L nodes tests S D 512 R by-rule n α → (OnlyTests sizes L nodes tests n × OutOf n α) ⊎ Rule n α (node_at L n)
+    rule_of : (n α : ℕ) → Goes sizes L nodes tests S D 512 R by_rule n α → (OnlyTests sizes L nodes tests n × OutOf n α) ⊎ Rule n α (node_at L n)
     unfolding Rule
     rule_of n α (tested o g) = inl (o, g)
     rule_of n α (changing f v e g) = inr (subst (Rule n α) (sym e) g)
@@ -131,7 +131,7 @@ module _ {sizes : List ℕ} {L : NodeLists} {nodes tests : List ℕ} (ld : Loade
     -- nothing of node n is left out
     pub record Complete (n : ℕ) : Type 0 where
       pub pass : (α γ : ℕ) → α < product sizes → Goes sizes L nodes tests S D 512 R into n α → Passes (numbered sizes) (tree_of L n) α γ
-          → Goes sizes L nodes tests S D 512 R out_of_lem n γ
+          → Goes sizes L nodes tests S D 512 R out_of n γ
       pub reach : (α i γ : ℕ) → α < product sizes → Goes sizes L nodes tests S D 512 R into n α → Reaches (numbered sizes) (tree_of L n) i α γ → T (D i γ)
 
     module _ (n : ℕ) (l : n < node_count L) (en : Enterable sizes L nodes tests n) (ih : (c : ℕ) → c < n → Enterable sizes L nodes tests c → Complete c) where
@@ -242,7 +242,7 @@ module _ {sizes : List ℕ} {L : NodeLists} {nodes tests : List ℕ} (ld : Loade
     completes n l en = complete (suc n) n (omega arith) l en
 
     -- ---- β has come out of dup i, at node d
-    module _ (i d β : ℕ) (b : β < product sizes) (dp : DupAt L i d) (g : Goes sizes L nodes tests S D 512 R out_of_lem d β) where
+    module _ (i d β : ℕ) (b : β < product sizes) (dp : DupAt L i d) (g : Goes sizes L nodes tests S D 512 R out_of d β) where
       -- so has all that passes from there on
       abbrev Resumes : ℕ → Type 0
       Resumes n = (γ : ℕ) → RemPass sizes L n i β γ → (γ < product sizes) × OutOf n γ
@@ -314,7 +314,7 @@ module _ {sizes : List ℕ} {L : NodeLists} {nodes tests : List ℕ} (ld : Loade
 
       -- what remains of node n after dup i comes out of it
       pub resumes : (n : ℕ) → n < node_count L → Enterable sizes L nodes tests n → (γ : ℕ) → RemPass sizes L n i β γ
-          → Goes sizes L nodes tests S D 512 R out_of_lem n γ
+          → Goes sizes L nodes tests S D 512 R out_of n γ
       resumes n l en γ h = (resume (suc n) n (omega arith) l en γ h).1
 
       -- what it reaches is recorded

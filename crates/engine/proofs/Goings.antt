@@ -6,12 +6,12 @@ use lib.Dec.{T}
 use Rattle.policy.specs.NodeLists.{NodeLists}
 use Rattle.packet_set.specs.InnerMembers.{Members, Within}
 use Rattle.loaded.specs.Nodes.{up_at}
-use Rattle.engine.specs.Going.{Way, out_of_lem, Goes, blocked, noted, ruled, tested, changing, recorded, branching, starting, turning, let_out, resting, repeating}
+use Rattle.engine.specs.Going.{Way, out_of, Goes, blocked, noted, ruled, tested, changing, recorded, branching, starting, turning, let_out, resting, repeating}
 
 module _ {sizes : List ℕ} {L : NodeLists} {nodes tests : List ℕ} where
   -- more is recorded, and what was let out goes on
   pub goes_map : {S D S' D' : ℕ → Members} {u u' : ℕ} {R R' : Members} → ((m : ℕ) → Within (S m) (S' m)) → ((i : ℕ) → Within (D i) (D' i))
-      → ((m γ : ℕ) → up_at nodes m ≡ u → T (R γ) → Goes sizes L nodes tests S' D' u' R' out_of_lem m γ) → {w : Way} {n α : ℕ}
+      → ((m γ : ℕ) → up_at nodes m ≡ u → T (R γ) → Goes sizes L nodes tests S' D' u' R' out_of m γ) → {w : Way} {n α : ℕ}
       → Goes sizes L nodes tests S D u R w n α → Goes sizes L nodes tests S' D' u' R' w n α
   goes_map s d on (blocked e) = blocked e
   goes_map s d on (noted {n = m} {α = γ} t) = noted (s m γ t)
@@ -27,8 +27,8 @@ module _ {sizes : List ℕ} {L : NodeLists} {nodes tests : List ℕ} where
   goes_map s d on (repeating q c e b k g) = repeating q c e b k (goes_map s d on g)
 
   -- nodes with the same way up
-  pub out_same : {S D : ℕ → Members} {u : ℕ} {R : Members} {m n γ : ℕ} → up_at nodes m ≡ up_at nodes n → Goes sizes L nodes tests S D u R out_of_lem m γ
-      → Goes sizes L nodes tests S D u R out_of_lem n γ
+  pub out_same : {S D : ℕ → Members} {u : ℕ} {R : Members} {m n γ : ℕ} → up_at nodes m ≡ up_at nodes n → Goes sizes L nodes tests S D u R out_of m γ
+      → Goes sizes L nodes tests S D u R out_of n γ
   out_same i (let_out e t) = let_out (sym i ∙ e) t
   out_same i (resting q l r e b k g) = resting q l r (sym i ∙ e) b k g
   out_same i (repeating q c e b k g) = repeating q c (sym i ∙ e) b k g

@@ -1,6 +1,6 @@
 -- Each way out of a visit, over the lists.
 use Prim.Native.Nat.{ℕ, suc, ◌≤◌, ◌<◌}
-use mathlib.Core.Bool.{Bool, true, false, ◌&&◌, ◌||◌, not, or_false}
+use mathlib.Core.Bool.{Bool, true, false, ◌&&◌, ◌||◌, not, or-false}
 use mathlib.Core.List.{List}
 use mathlib.Core.Logic.{inl, inr}
 use mathlib.Core.Path.{◌≡◌, refl, sym, ap, ◌∙◌, subst}
@@ -276,7 +276,7 @@ module _ {sizes nodes tests : List ℕ} {n from to : ℕ} {set work : List ℕ} 
             → ThroughLists sizes L nodes tests n set work seen next f t setR work₂ seen₂ next₂
         leave_sum_first none a =
             leave_sum e a (shut_out none)
-            (record { spanned = a.spanned; members = λ γ. sym (ap (λ b. member setR γ || b) (member_empty γ) ∙ or_false (member setR γ)) })
+            (record { spanned = a.spanned; members = λ γ. sym (ap (λ b. member setR γ || b) (member_empty γ) ∙ or-false (member setR γ)) })
 
         pub leave_sum_second : ((γ : ℕ) → (member set₂ γ && guard_at nodes tests x γ) ≡ false) → ThroughLists sizes L nodes tests y set₂ work₁ seen₁ next f t setR work₂ seen₂ next₂
             → ThroughLists sizes L nodes tests n set work seen next f t setR work₂ seen₂ next₂

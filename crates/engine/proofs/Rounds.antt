@@ -15,7 +15,7 @@ use Rattle.automaton.specs.Reaches.{Passes, Reaches}
 use Rattle.automaton.proofs.Tests.{both, either, eqb_true}
 use Rattle.loaded.specs.Nodes.{tests_at, up_at, guard_at}
 use Rattle.loaded.specs.Loaded.{Linked, KeepsSlot, Loaded}
-use Rattle.engine.specs.Going.{Way, by-rule, Goes, blocked, noted, turning, let_out, repeating, Through}
+use Rattle.engine.specs.Going.{Way, by_rule, Goes, blocked, noted, turning, let_out, repeating, Through}
 use Rattle.engine.proofs.Parts.{pass_below, star_pass_self, star_pass_more, star_reach}
 use Rattle.engine.proofs.Goings.{goes_map}
 use Rattle.engine.proofs.Entries.{Entered, decide, not_false}
@@ -30,7 +30,7 @@ pub record Turning (sizes : List ℕ) (L : NodeLists) (nodes tests : List ℕ) (
   pub dups_stay : (i : ℕ) → Within (D₀ i) (D i)
   pub within : Within new out
   pub entered : (α : ℕ) → T (X α) → (guard_at nodes tests n α ≡ false) ⊎ T (S n α)
-  pub gone : (m α : ℕ) → T (S m α) → T (S₀ m α) ⊎ (Goes sizes L nodes tests S D (up_at nodes n) out by-rule m α ⊎ ((m ≡ n) × T (new α)))
+  pub gone : (m α : ℕ) → T (S m α) → T (S₀ m α) ⊎ (Goes sizes L nodes tests S D (up_at nodes n) out by_rule m α ⊎ ((m ≡ n) × T (new α)))
 
 module _ {sizes : List ℕ} {L : NodeLists} {nodes tests : List ℕ} (ld : Loaded sizes L nodes tests) (lg : Legal sizes L) {n : ℕ} (l : n < node_count L)
     (z : tests_at nodes n ≡ false) (c : ℕ) (e : node_at L n ≡ Star c) where
@@ -96,11 +96,11 @@ module _ {sizes : List ℕ} {L : NodeLists} {nodes tests : List ℕ} (ld : Loade
       inner = goes_map grows (λ i γ d. d) (λ m γ k r. repeating n c (k ∙ up) l e (noted (kept γ r)))
 
       -- what was new has gone through the body
-      turned : (α : ℕ) → T (new α) → Goes sizes L nodes tests S₃ D₂ (up_at nodes n) out' by-rule n α
+      turned : (α : ℕ) → T (new α) → Goes sizes L nodes tests S₃ D₂ (up_at nodes n) out' by_rule n α
       turned α s = turning c z e (inner (th.entered α s)) (let_out refl (widens α (t.within α s)))
 
       Gone : ℕ → ℕ → Type 0
-      Gone m α = T (S₀ m α) ⊎ (Goes sizes L nodes tests S₃ D₂ (up_at nodes n) out' by-rule m α ⊎ ((m ≡ n) × T (new' α)))
+      Gone m α = T (S₀ m α) ⊎ (Goes sizes L nodes tests S₃ D₂ (up_at nodes n) out' by_rule m α ⊎ ((m ≡ n) × T (new' α)))
 
       before : (m α : ℕ) → T (S₂ m α) → Gone m α
       before m α s =
@@ -108,7 +108,7 @@ module _ {sizes : List ℕ} {L : NodeLists} {nodes tests : List ℕ} (ld : Loade
           (λ a.
           ⊎_elim inl
           (⊎_elim (λ g. inr (inl (outer g)))
-          (λ h. inr (inl (subst (λ (k : ℕ). Goes sizes L nodes tests S₃ D₂ (up_at nodes n) out' by-rule k α) (sym h.0) (turned α h.1)))))
+          (λ h. inr (inl (subst (λ (k : ℕ). Goes sizes L nodes tests S₃ D₂ (up_at nodes n) out' by_rule k α) (sym h.0) (turned α h.1)))))
           (t.gone m α a))
           (λ g. inr (inl (inner g))) (th.gone m α s)
 

@@ -26,7 +26,7 @@ use Rattle.automaton.proofs.Laws.{next_iff, output_mask_iff, next_mask_bit}
 use Rattle.automaton.proofs.Trees.{policy_evaluable}
 use Rattle.loaded.specs.Nodes.{up_at, place_at}
 use Rattle.loaded.specs.Loaded.{DupAt, Loaded}
-use Rattle.engine.specs.Going.{Way, into, by-rule, out_of_lem, Goes, let_out, resting, repeating, Through}
+use Rattle.engine.specs.Going.{Way, into, by_rule, out_of, Goes, let_out, resting, repeating, Through}
 use Rattle.engine.specs.Stepping.{Steps}
 use Rattle.engine.proofs.Parts.{passes_iff, root_inside, root_tree}
 use Rattle.engine.proofs.Goings.{goes_map}
@@ -112,9 +112,9 @@ module _ {sizes : List ℕ} {L : NodeLists} {nodes tests : List ℕ} (ld : Loade
       steps_more : {S' D' : ℕ → Members} (Q R' : Members) → ((γ : ℕ) → R' γ ≡ (R γ || Q γ)) → T (marks i) → ((m : ℕ) → Within (S m) (S' m))
           → ((k : ℕ) → Within (D k) (D' k)) → ((γ : ℕ) → T (Q γ) → Passes (numbered sizes) (remainder policy i) β γ)
           → ((k γ : ℕ) → T (D' k γ) → T (D k γ) ⊎ Reaches (numbered sizes) (remainder policy i) k β γ)
-          → ((m α : ℕ) → T (S' m α) → T (S m α) ⊎ Goes sizes L nodes tests S' D' 512 R' by-rule m α)
+          → ((m α : ℕ) → T (S' m α) → T (S m α) ⊎ Goes sizes L nodes tests S' D' 512 R' by_rule m α)
           → (i ≡ 0 → Goes sizes L nodes tests S' D' 512 R' into (pred (node_count L)) β)
-          → (0 < i → Goes sizes L nodes tests S' D' 512 R' out_of_lem (place_at nodes i) β) → Steps sizes L nodes tests R₀ D₀ marks β (suc i) S' D' R'
+          → (0 < i → Goes sizes L nodes tests S' D' 512 R' out_of (place_at nodes i) β) → Steps sizes L nodes tests R₀ D₀ marks β (suc i) S' D' R'
       steps_more {S'} {D'} Q R' all marked slots marking passes reaches gone first later = record {
         outputs = λ γ t. ⊎_elim (st.outputs γ) (λ q. inr (i, marked, passes γ q)) ((either (R γ) (Q γ)).0 (subst T (all γ) t));
         dups = λ k γ t. ⊎_elim (st.dups k γ) (λ h. inr (i, marked, h)) (reaches k γ t);
@@ -125,7 +125,7 @@ module _ {sizes : List ℕ} {L : NodeLists} {nodes tests : List ℕ} (ld : Loade
         after = λ j p o q t.
             ⊎_elim (λ k. still (st.after j p k q t))
             (λ e.
-            subst (λ (k : ℕ). Goes sizes L nodes tests S' D' 512 R' out_of_lem (place_at nodes k) β) (sym e) (later (subst (λ (k : ℕ). 0 < k) e p)))
+            subst (λ (k : ℕ). Goes sizes L nodes tests S' D' 512 R' out_of (place_at nodes k) β) (sym e) (later (subst (λ (k : ℕ). 0 < k) e p)))
             (last_or_before o);
       }
         where
@@ -184,7 +184,7 @@ module _ {sizes : List ℕ} {L : NodeLists} {nodes tests : List ℕ} (ld : Loade
     module _ (b : β < product sizes) {i : ℕ} {S D : ℕ → Members} {R : Members} (st : Steps sizes L nodes tests R₀ D₀ marks β i S D R)
         (full : (j : ℕ) → j ≤ dups_below L (node_count L) → T (marks j) → j < i) where
       -- what comes out of the root is let out
-      leaves_root : (γ : ℕ) → Goes sizes L nodes tests S D 512 R out_of_lem (pred (node_count L)) γ → T (R γ)
+      leaves_root : (γ : ℕ) → Goes sizes L nodes tests S D 512 R out_of (pred (node_count L)) γ → T (R γ)
       leaves_root γ (let_out e t) = t
       leaves_root γ (resting q x y e l k g) = let few = lg.well_formed.few in absurd (omega (arith, ld.last))
       leaves_root γ (repeating q c e l k g) = let few = lg.well_formed.few in absurd (omega (arith, ld.last))

@@ -16,7 +16,7 @@ use Rattle.automaton.specs.Reaches.{Passes}
 use Rattle.automaton.proofs.Tests.{both, either, eqb_true}
 use Rattle.loaded.specs.Nodes.{tests_at, up_at, guard_at}
 use Rattle.loaded.specs.Loaded.{Linked, OnlyTests, Loaded}
-use Rattle.engine.specs.Going.{Way, into, by-rule, Goes, blocked, noted, ruled, tested, changing, recorded, branching, starting, let_out, resting, Through}
+use Rattle.engine.specs.Going.{Way, into, by_rule, Goes, blocked, noted, ruled, tested, changing, recorded, branching, starting, let_out, resting, Through}
 use Rattle.engine.proofs.Parts.{pass_below, change_pass, dup_reach, sum_pass, sum_reach, seq_pass, seq_reach}
 use Rattle.engine.proofs.Goings.{goes_map}
 use Rattle.engine.proofs.Entries.{Entered}
@@ -34,16 +34,16 @@ module _ {sizes : List ℕ} {L : NodeLists} {nodes tests : List ℕ} where
   -- ---- the entry of a node
 
   module _ {n : ℕ} {X Y : Members} {S S₁ : ℕ → Members} (en : Entered nodes tests n X S Y S₁) {S' D' : ℕ → Members} {u : ℕ} {R : Members}
-      (rule : (α : ℕ) → T (Y α) → Goes sizes L nodes tests S' D' u R by-rule n α) where
+      (rule : (α : ℕ) → T (Y α) → Goes sizes L nodes tests S' D' u R by_rule n α) where
     -- what enters goes on
     pub entry_entered : ((m : ℕ) → Within (S₁ m) (S' m)) → (α : ℕ) → T (X α) → Goes sizes L nodes tests S' D' u R into n α
     entry_entered more α x =
         ⊎_elim blocked (⊎_elim (λ t. noted (more n α (en.stays n α t))) (λ t. ruled (rule α t))) (en.each α x)
 
     -- what is recorded at the entry goes on
-    pub entry_gone : (m α : ℕ) → T (S₁ m α) → T (S m α) ⊎ Goes sizes L nodes tests S' D' u R by-rule m α
+    pub entry_gone : (m α : ℕ) → T (S₁ m α) → T (S m α) ⊎ Goes sizes L nodes tests S' D' u R by_rule m α
     entry_gone m α t =
-        ⊎_elim inl (λ h. inr (subst (λ (k : ℕ). Goes sizes L nodes tests S' D' u R by-rule k α) (sym h.0) (rule α h.1))) (en.new m α t)
+        ⊎_elim inl (λ h. inr (subst (λ (k : ℕ). Goes sizes L nodes tests S' D' u R by_rule k α) (sym h.0) (rule α h.1))) (en.new m α t)
 
   -- ---- nothing goes on
 
@@ -113,7 +113,7 @@ module _ {sizes : List ℕ} {L : NodeLists} {nodes tests : List ℕ} where
       gone = entry_gone en rule;
     }
       where
-        rule : (α : ℕ) → T (Y α) → Goes sizes L nodes tests S₁ D (up_at nodes n) R by-rule n α
+        rule : (α : ℕ) → T (Y α) → Goes sizes L nodes tests S₁ D (up_at nodes n) R by_rule n α
         rule α y = changing f v e (let_out refl (all α y))
 
     -- a dup
@@ -133,7 +133,7 @@ module _ {sizes : List ℕ} {L : NodeLists} {nodes tests : List ℕ} where
         label : ℕ
         label = dups_below L (suc n)
 
-        rule : (α : ℕ) → T (Y α) → Goes sizes L nodes tests S₁ D' (up_at nodes n) R by-rule n α
+        rule : (α : ℕ) → T (Y α) → Goes sizes L nodes tests S₁ D' (up_at nodes n) R by_rule n α
         rule α y =
             recorded e
             (subst T (sym (marks label α)) ((either (D label α) (eqb label label && Y α)).1 (inr ((both (eqb label label) (Y α)).1 (eqb_true label label refl, y)))))
@@ -171,7 +171,7 @@ module _ {sizes : List ℕ} {L : NodeLists} {nodes tests : List ℕ} where
           second : {w : Way} {m α : ℕ} → Goes sizes L nodes tests S₃ D₃ (up_at nodes y) R₂ w m α → Goes sizes L nodes tests S₃ D₃ (up_at nodes n) R w m α
           second = goes_wider (λ m γ t. t) (λ i γ t. t) up.1 (λ γ t. subst T (sym (all γ)) ((either (R₁ γ) (R₂ γ)).1 (inr t)))
 
-          rule : (α : ℕ) → T (Y α) → Goes sizes L nodes tests S₃ D₃ (up_at nodes n) R by-rule n α
+          rule : (α : ℕ) → T (Y α) → Goes sizes L nodes tests S₃ D₃ (up_at nodes n) R by_rule n α
           rule α t = branching x y z e (first (a.entered α t)) (second (b.entered α t))
 
       -- a sequence
@@ -206,7 +206,7 @@ module _ {sizes : List ℕ} {L : NodeLists} {nodes tests : List ℕ} where
           first : {w : Way} {m α : ℕ} → Goes sizes L nodes tests S₂ D₂ (up_at nodes x) R₁ w m α → Goes sizes L nodes tests S₃ D₃ (up_at nodes n) R w m α
           first = goes_map b.slots_stay b.dups_stay (λ m γ k t. resting n x y (k ∙ up.0) l e (second (b.entered γ t)))
 
-          rule : (α : ℕ) → T (Y α) → Goes sizes L nodes tests S₃ D₃ (up_at nodes n) R by-rule n α
+          rule : (α : ℕ) → T (Y α) → Goes sizes L nodes tests S₃ D₃ (up_at nodes n) R by_rule n α
           rule α t = starting x y z e (first (a.entered α t))
 
   -- what comes out is below N

@@ -22,9 +22,9 @@ pub record Recorded (sizes work seen next work' seen' next' : List ℕ) : Type 0
   pub seen_long : length seen' ≡ length seen
   pub next_long : length next' ≡ length next
 
--- `into`: entering a node; `by-rule`: entering it and going on as its kind says; `out_of_lem`: coming out of it
+-- `into`: entering a node; `by_rule`: entering it and going on as its kind says; `out_of`: coming out of it
 pub data Way : Type 0 where
-  into by-rule out_of_lem : Way
+  into by_rule out_of : Way
 
 module _ (sizes : List ℕ) (L : NodeLists) (nodes tests : List ℕ) where
   -- A packet on its way has gone on. S: what is recorded to have entered the nodes with a slot; D i: the packets that have reached
@@ -32,16 +32,16 @@ module _ (sizes : List ℕ) (L : NodeLists) (nodes tests : List ℕ) where
   pub data Goes (S D : ℕ → Members) (u : ℕ) (R : Members) : Way → ℕ → ℕ → Type 0 where
     blocked : {n α : ℕ} → guard_at nodes tests n α ≡ false → Goes S D u R into n α
     noted : {n α : ℕ} → T (S n α) → Goes S D u R into n α
-    ruled : {n α : ℕ} → Goes S D u R by-rule n α → Goes S D u R into n α
-    tested : {n α : ℕ} → OnlyTests sizes L nodes tests n → Goes S D u R out_of_lem n α → Goes S D u R by-rule n α
-    changing : {n α : ℕ} (f v : ℕ) → node_at L n ≡ Field (Set f v) → Goes S D u R out_of_lem n (changed sizes f v α) → Goes S D u R by-rule n α
-    recorded : {n α : ℕ} → node_at L n ≡ Dup → T (D (dups_below L (suc n)) α) → Goes S D u R by-rule n α
-    branching : {n α : ℕ} (l r : ℕ) → tests_at nodes n ≡ false → node_at L n ≡ Sum l r → Goes S D u R into l α → Goes S D u R into r α → Goes S D u R by-rule n α
-    starting : {n α : ℕ} (l r : ℕ) → tests_at nodes n ≡ false → node_at L n ≡ Seq l r → Goes S D u R into l α → Goes S D u R by-rule n α
-    turning : {n α : ℕ} (c : ℕ) → tests_at nodes n ≡ false → node_at L n ≡ Star c → Goes S D u R into c α → Goes S D u R out_of_lem n α → Goes S D u R by-rule n α
-    let_out : {n γ : ℕ} → up_at nodes n ≡ u → T (R γ) → Goes S D u R out_of_lem n γ
-    resting : {n γ : ℕ} (q l r : ℕ) → up_at nodes n ≡ q → q < node_count L → node_at L q ≡ Seq l r → Goes S D u R into r γ → Goes S D u R out_of_lem n γ
-    repeating : {n γ : ℕ} (q c : ℕ) → up_at nodes n ≡ q → q < node_count L → node_at L q ≡ Star c → Goes S D u R into q γ → Goes S D u R out_of_lem n γ
+    ruled : {n α : ℕ} → Goes S D u R by_rule n α → Goes S D u R into n α
+    tested : {n α : ℕ} → OnlyTests sizes L nodes tests n → Goes S D u R out_of n α → Goes S D u R by_rule n α
+    changing : {n α : ℕ} (f v : ℕ) → node_at L n ≡ Field (Set f v) → Goes S D u R out_of n (changed sizes f v α) → Goes S D u R by_rule n α
+    recorded : {n α : ℕ} → node_at L n ≡ Dup → T (D (dups_below L (suc n)) α) → Goes S D u R by_rule n α
+    branching : {n α : ℕ} (l r : ℕ) → tests_at nodes n ≡ false → node_at L n ≡ Sum l r → Goes S D u R into l α → Goes S D u R into r α → Goes S D u R by_rule n α
+    starting : {n α : ℕ} (l r : ℕ) → tests_at nodes n ≡ false → node_at L n ≡ Seq l r → Goes S D u R into l α → Goes S D u R by_rule n α
+    turning : {n α : ℕ} (c : ℕ) → tests_at nodes n ≡ false → node_at L n ≡ Star c → Goes S D u R into c α → Goes S D u R out_of n α → Goes S D u R by_rule n α
+    let_out : {n γ : ℕ} → up_at nodes n ≡ u → T (R γ) → Goes S D u R out_of n γ
+    resting : {n γ : ℕ} (q l r : ℕ) → up_at nodes n ≡ q → q < node_count L → node_at L q ≡ Seq l r → Goes S D u R into r γ → Goes S D u R out_of n γ
+    repeating : {n γ : ℕ} (q c : ℕ) → up_at nodes n ≡ q → q < node_count L → node_at L q ≡ Star c → Goes S D u R into q γ → Goes S D u R out_of n γ
 
   -- X enters node n, where S and D are recorded before; R comes out, and then S' and D' are recorded
   pub record Through (n : ℕ) (X : Members) (S D : ℕ → Members) (R : Members) (S' D' : ℕ → Members) : Type 0 where
@@ -53,7 +53,7 @@ module _ (sizes : List ℕ) (L : NodeLists) (nodes tests : List ℕ) where
     pub dups_stay : (i : ℕ) → Within (D i) (D' i)
     -- no less: what entered has gone on, and so has all that is newly recorded
     pub entered : (α : ℕ) → T (X α) → Goes S' D' (up_at nodes n) R into n α
-    pub gone : (m α : ℕ) → T (S' m α) → T (S m α) ⊎ Goes S' D' (up_at nodes n) R by-rule m α
+    pub gone : (m α : ℕ) → T (S' m α) → T (S m α) ⊎ Goes S' D' (up_at nodes n) R by_rule m α
 
   -- the same of the lists: slots in the work list, marks in the next list
   pub record ThroughLists (n : ℕ) (set work seen next : List ℕ) (from to : ℕ) (set' work' seen' next' : List ℕ) : Type 0 where

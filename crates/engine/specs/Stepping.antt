@@ -13,7 +13,7 @@ use Rattle.automaton.specs.State.{Marks, output_mask, next_mask}
 use Rattle.spans.specs.Spans.{slot, has_mark, touched, Spanned, Holds}
 use Rattle.loaded.specs.Nodes.{place_at}
 use Rattle.loaded.specs.Loaded.{Loaded}
-use Rattle.engine.specs.Going.{into, by-rule, out_of_lem, Goes, Recorded}
+use Rattle.engine.specs.Going.{into, by_rule, out_of, Goes, Recorded}
 
 -- The marked remainders below i have been stepped from β, where R₀ and D₀ were gathered before and nothing was recorded in the slots.
 -- By now S is recorded, and R and D are gathered.
@@ -23,9 +23,9 @@ pub record Steps (sizes : List ℕ) (L : NodeLists) (nodes tests : List ℕ) (R�
   pub outputs_stay : Within R₀ R
   pub dups_stay : (k : ℕ) → Within (D₀ k) (D k)
   -- all has gone on
-  pub closed : (m α : ℕ) → m < node_count L → T (S m α) → Goes sizes L nodes tests S D 512 R by-rule m α
+  pub closed : (m α : ℕ) → m < node_count L → T (S m α) → Goes sizes L nodes tests S D 512 R by_rule m α
   pub whole : 0 < i → T (marks 0) → Goes sizes L nodes tests S D 512 R into (pred (node_count L)) β
-  pub after : (j : ℕ) → 0 < j → j < i → j ≤ dups_below L (node_count L) → T (marks j) → Goes sizes L nodes tests S D 512 R out_of_lem (place_at nodes j) β
+  pub after : (j : ℕ) → 0 < j → j < i → j ≤ dups_below L (node_count L) → T (marks j) → Goes sizes L nodes tests S D 512 R out_of (place_at nodes j) β
 
 -- whether remainder i or a later one is marked; `left` false: none is
 pub record MarksLeft (state i : ℕ) (left : Bool) : Type 0 where

@@ -1,5 +1,7 @@
 // One step of a state of a loaded policy at a packet (document 01, "States and rows"): one remainder at a time, by packet sets.
 // All functions here are inner.
+#![tactic(auto)]
+
 ghost use Rattle.std.specs.Prelude.{ℕ, ◌<◌, ◌≤◌, false, ◌&&◌, ◌≡◌, length, get_or};
 ghost use Rattle.policy.specs.Legality.{field_of, value_of};
 ghost use Rattle.packet_set.specs.Bits.{mask_bits};

@@ -1,5 +1,7 @@
 // Runs the steps of its input through the engine: the sizes, a policy's kinds, first and second entries, each list after
 // its length, then a state, as its four quarters, and a packet. It writes the packets of the output, and each packet with the state next there.
+#![tactic(auto)]
+
 ghost use Rattle.std.specs.Prelude.{◌≡◌};
 ghost use Rattle.packet.specs.declared.Tested.TheVariants.{Passed};
 ghost use Rattle.packet.specs.Sizes.{product_stage, LegalSizes};
@@ -10,16 +12,17 @@ use marks::Next;
 use packet::Tested;
 use packet_set::{Lowest, Mask, PacketWords};
 use spans::Span;
+use std::io::Stdout;
 
-fn output(set: PacketWords) {
+fn output(stdout: Stdout, set: PacketWords) {
     let mut from: u16 = 0;
     let mut turns: usize = 0;
     while turns < 1024 {
         let Lowest::At(packet) = packet_set::next_member(&set, from, 32) else {
             return;
         };
-        harness::space();
-        harness::number(harness::wide(packet));
+        harness::space(stdout);
+        harness::number(stdout, harness::wide(packet));
         if packet == 65535 {
             return;
         }
@@ -28,14 +31,14 @@ fn output(set: PacketWords) {
     }
 }
 
-fn states(next: &Next) {
+fn states(stdout: Stdout, next: &Next) {
     let mut i = 0;
     while i < 1024 {
         if next[i] != 0 {
-            harness::space();
-            harness::number(i as u64);
-            io::write_all(1, b":");
-            harness::number(next[i]);
+            harness::space(stdout);
+            harness::number(stdout, i as u64);
+            harness::write(stdout, b":");
+            harness::number(stdout, next[i]);
         }
         i += 1;
     }
@@ -53,15 +56,23 @@ fn tested(sizes: &[u16], kind: &[u8], first: &[u16], second: &[u16]) -> Tested
     packet::first_of(fields, packet::first_of(product, policies))
 }
 
-fn step(sizes: &[u16], kind: &[u8], first: &[u16], second: &[u16], state: Mask, packet: u16) {
+fn step(
+    stdout: Stdout,
+    sizes: &[u16],
+    kind: &[u8],
+    first: &[u16],
+    second: &[u16],
+    state: Mask,
+    packet: u16,
+) {
     let Tested::Passed = tested(sizes, kind, first, second) else {
-        io::write_all(1, b"refused\n");
+        harness::write(stdout, b"refused\n");
         return;
     };
     let counted = packet::packet_count(sizes);
     let count = counted.packets;
     if count <= packet {
-        io::write_all(1, b"no packet\n");
+        harness::write(stdout, b"no packet\n");
         return;
     }
     let mut nodes = [0u64; 576];
@@ -81,14 +92,14 @@ fn step(sizes: &[u16], kind: &[u8], first: &[u16], second: &[u16], state: Mask, 
         &mut next,
         &mut work,
     );
-    io::write_all(1, b"output");
-    output(out);
-    io::write_all(1, b", next");
-    states(&next);
-    harness::line_end();
+    harness::write(stdout, b"output");
+    output(stdout, out);
+    harness::write(stdout, b", next");
+    states(stdout, &next);
+    harness::line_end(stdout);
 }
 
-fn one_case(input: &[u8], from: usize) -> usize {
+fn one_case(stdout: Stdout, input: &[u8], from: usize) -> usize {
     let mut sizes = [0u16; 16];
     let declared = harness::scan_list(input, from, &mut sizes);
     let mut kind = [0u8; 520];
@@ -104,6 +115,7 @@ fn one_case(input: &[u8], from: usize) -> usize {
     let f = firsts.len;
     let s = seconds.len;
     step(
+        stdout,
         &sizes[..d],
         &kind[..k],
         &first[..f],
@@ -114,18 +126,18 @@ fn one_case(input: &[u8], from: usize) -> usize {
     packet.at
 }
 
-fn run(input: &[u8]) {
+fn run(stdout: Stdout, input: &[u8]) {
     let mut at = harness::next_digit(input, 0);
     for _ in 0..input.len() {
         if input.len() <= at {
             return;
         }
-        at = harness::next_digit(input, one_case(input, at));
+        at = harness::next_digit(input, one_case(stdout, input, at));
     }
 }
 
-fn main() {
-    let mut input = io::large_buffer();
-    let n = io::read_full(0, &mut input);
-    run(&input[..n]);
+fn main(rt: HostRuntime) {
+    let mut input = [0u8; 65536];
+    let n = harness::read_full(rt.stdin(), &mut input);
+    run(rt.stdout(), &input[..n]);
 }

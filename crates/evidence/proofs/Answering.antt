@@ -23,7 +23,7 @@ use Rattle.policy.specs.Meaning.{SameTracesBelow, SameTracesDeclared}
 use Rattle.legality.specs.declared.CallTested.{CallTested}
 use Rattle.legality.specs.Answers.{FrontOf}
 use Rattle.system.specs.System.{System}
-use Rattle.system.specs.RowOrder.{Entry, finished, turn, run, full, equal as allHandled, held}
+use Rattle.system.specs.RowOrder.{Entry, finished, turn, run, full, equal as all_handled, held}
 use Rattle.system.proofs.Answers.{full_iff, answer_finished, held_stopped}
 use Rattle.system.proofs.Runs.{finished≢handling}
 use Rattle.pair.specs.Sides.{policies}
@@ -197,7 +197,7 @@ module _ (ts : List Table) (L R : NodeLists) where
       S : System
       S = pair_system (pair_core ts L R) (policies L R)
 
-      not_full : {c d : ℕ} → full d ≡ allHandled c → ⊥
+      not_full : {c d : ℕ} → full d ≡ all_handled c → ⊥
       not_full e = true≢false (cc)
 
       same : (run S k).rows ≡ held S (length (run S k).rows)

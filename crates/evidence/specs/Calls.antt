@@ -31,7 +31,7 @@ evidence_of (Refused r) x = NotChecked r
 
 module _ (sizes : List ℕ) (L R : NodeLists) (packets lefts rights : List ℕ) where
   -- The columns hold the row order itself, row for row: it needs no more than `room` rows, at most 65,535, and they are what so
-  -- many lent rows hold in the end (law `whole-order`: the rows listed when all of them are handled).
+  -- many lent rows hold in the end (law `whole_order`: the rows listed when all of them are handled).
   pub record HoldRowOrder : Type 0 where
     pub room : ℕ
     pub few : room ≤ 65535

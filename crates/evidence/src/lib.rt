@@ -1,4 +1,6 @@
 // The evidence checker (document 01, "Row rules for evidence"): do rows that anybody made show that two policies are equal?
+#![tactic(auto)]
+
 ghost use Rattle.std.specs.Prelude.{[], ◌∷◌, ◌≡◌, ◌<◌, length};
 ghost use Rattle.fields.specs.Tables.{tables, tables_at_entry};
 ghost use Rattle.policy.specs.AsLists.{as_lists, policy_at_entry};

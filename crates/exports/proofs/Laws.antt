@@ -22,9 +22,9 @@ pub read_out : {left right : Table} {side : ℕ} {text kind first second answer 
 read_out {left} {right} {side} {text} {kind} {first} {second} {answer} {kind'} {first'} {second'} {r} read n =
     record { numbers = n ∙ ap text_numbers read.answer; promised = subst (λ (v : Answer). TextRead left right side text kind first second v kind' first' second') read.answer read }
 
-pub texts_out : {leftTable right_table : Table} {left right : List ℕ} {x y : SearchLists} {answer : List ℕ} {r : Verdict} → TextsSearched leftTable rightTable left right x r y → answer ≡ verdict_numbers r → TextsOut leftTable rightTable left right x answer y
-texts_out {leftTable} {rightTable} {left} {right} {x} {y} {answer} {r} done n =
-    record { numbers = n ∙ ap verdict_numbers done.answers; promised = subst (λ (v : Verdict). TextsSearched leftTable rightTable left right x v y) done.answers done }
+pub texts_out : {left_table right_table : Table} {left right : List ℕ} {x y : SearchLists} {answer : List ℕ} {r : Verdict} → TextsSearched left_table right_table left right x r y → answer ≡ verdict_numbers r → TextsOut left_table right_table left right x answer y
+texts_out {left_table} {right_table} {left} {right} {x} {y} {answer} {r} done n =
+    record { numbers = n ∙ ap verdict_numbers done.answers; promised = subst (λ (v : Verdict). TextsSearched left_table right_table left right x v y) done.answers done }
 
 module _ {ts : List Table} {L R : NodeLists} where
   pub searched_out : {x y : SearchLists} {answer : List ℕ} {r : Verdict} → Searched ts L R x r y → answer ≡ verdict_numbers r → SearchedOut ts L R x answer y

@@ -18,9 +18,9 @@ pub record SearchedOut (ts : List Table) (L R : NodeLists) (x : SearchLists) (an
   pub numbers : answer ≡ verdict_numbers (search_verdict ts L R x)
   pub promised : Searched ts L R x (search_verdict ts L R x) y
 
-pub record TextsOut (leftTable right_table : Table) (left right : List ℕ) (x : SearchLists) (answer : List ℕ) (y : SearchLists) : Type 0 where
-  pub numbers : answer ≡ verdict_numbers (texts_verdict leftTable rightTable left right x)
-  pub promised : TextsSearched leftTable rightTable left right x (texts_verdict leftTable rightTable left right x) y
+pub record TextsOut (left_table right_table : Table) (left right : List ℕ) (x : SearchLists) (answer : List ℕ) (y : SearchLists) : Type 0 where
+  pub numbers : answer ≡ verdict_numbers (texts_verdict left_table right_table left right x)
+  pub promised : TextsSearched left_table right_table left right x (texts_verdict left_table right_table left right x) y
 
 pub record EvidenceOut (ts : List Table) (L R : NodeLists) (packets lefts rights work answer work' : List ℕ) : Type 0 where
   pub numbers : answer ≡ evidence_numbers (evidence_call ts L R packets lefts rights (length work))

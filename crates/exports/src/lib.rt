@@ -1,4 +1,6 @@
 // The C interface (include/netkat.h): each public call, its answer as eight numbers.
+#![tactic(auto)]
+
 ghost use Rattle.std.specs.Prelude.{◌≡◌, length};
 ghost use Rattle.fields.specs.Tables.{table, tables, tables_at_entry};
 ghost use Rattle.policy.specs.AsLists.{as_lists, policy_at_entry};
@@ -15,8 +17,7 @@ use packet_set::Mask;
 use records::RowRecord;
 
 // A packet's number turned into its values.
-#[unsafe(no_mangle)]
-pub extern "C" fn netkat_values(
+pub fn netkat_values(
     left_names: &[u8],
     left_sizes: &[u16],
     right_names: &[u8],
@@ -51,8 +52,7 @@ pub extern "C" fn netkat_values(
 }
 
 // Values turned into a packet's number.
-#[unsafe(no_mangle)]
-pub extern "C" fn netkat_number(
+pub fn netkat_number(
     left_names: &[u8],
     left_sizes: &[u16],
     right_names: &[u8],
@@ -84,8 +84,7 @@ pub extern "C" fn netkat_number(
 }
 
 // One policy tested.
-#[unsafe(no_mangle)]
-pub extern "C" fn netkat_policy(
+pub fn netkat_policy(
     left_names: &[u8],
     left_sizes: &[u16],
     right_names: &[u8],
@@ -109,8 +108,7 @@ pub extern "C" fn netkat_policy(
 }
 
 // Two policies tested.
-#[unsafe(no_mangle)]
-pub extern "C" fn netkat_policies(
+pub fn netkat_policies(
     left_names: &[u8],
     left_sizes: &[u16],
     right_names: &[u8],
@@ -140,8 +138,7 @@ pub extern "C" fn netkat_policies(
 }
 
 // One text read.
-#[unsafe(no_mangle)]
-pub extern "C" fn netkat_read(
+pub fn netkat_read(
     left_names: &[u8],
     left_sizes: &[u16],
     right_names: &[u8],
@@ -169,8 +166,7 @@ pub extern "C" fn netkat_read(
 }
 
 // Two policies searched.
-#[unsafe(no_mangle)]
-pub extern "C" fn netkat_search(
+pub fn netkat_search(
     left_names: &[u8],
     left_sizes: &[u16],
     right_names: &[u8],
@@ -212,8 +208,7 @@ pub extern "C" fn netkat_search(
 }
 
 // Two texts searched.
-#[unsafe(no_mangle)]
-pub extern "C" fn netkat_search_texts(
+pub fn netkat_search_texts(
     left_names: &[u8],
     left_sizes: &[u16],
     right_names: &[u8],
@@ -247,8 +242,7 @@ pub extern "C" fn netkat_search_texts(
 }
 
 // A row table checked.
-#[unsafe(no_mangle)]
-pub extern "C" fn netkat_evidence(
+pub fn netkat_evidence(
     left_names: &[u8],
     left_sizes: &[u16],
     right_names: &[u8],
@@ -330,8 +324,7 @@ fn evidence_read(
 
 // A table of row records checked: as `netkat_evidence` on the columns of the records. Their columns are read to lists of its own, where
 // the index looks rows up.
-#[unsafe(no_mangle)]
-pub extern "C" fn netkat_evidence_rows(
+pub fn netkat_evidence_rows(
     left_names: &[u8],
     left_sizes: &[u16],
     right_names: &[u8],
@@ -396,8 +389,7 @@ pub extern "C" fn netkat_evidence_rows(
 }
 
 // A trace checked.
-#[unsafe(no_mangle)]
-pub extern "C" fn netkat_trace(
+pub fn netkat_trace(
     left_names: &[u8],
     left_sizes: &[u16],
     right_names: &[u8],

@@ -51,16 +51,16 @@ not_bad names i e =
     let first = or_false (not (well_formed w)) (is_constant w) last.0 in
     (not-false (well_formed w) first.0, first.1, last.1)
 
-any_none : (test : Table → Bool) (ts : List Table) (t : Table) → any_table test ts ≡ false → Memᴰ t ts → test t ≡ false
+any_none : (test : Table → Bool) (t : Table) (ts : List Table) → any_table test ts ≡ false → Memᴰ t ts → test t ≡ false
 unfolding any_table
-any_none test ts t e (Memᴰ.head {x} {xs} q) = ap test q ∙ (or_false (test x) (any_table test xs) e).0
-any_none test ts t e (Memᴰ.tail {x} {xs} m) = any_none test xs t (or_false (test x) (any_table test xs) e).1 m
+any_none test t ts e (Memᴰ.head {x} {xs} q) = ap test q ∙ (or_false (test x) (any_table test xs) e).0
+any_none test t ts e (Memᴰ.tail {x} {xs} m) = any_none test t xs (or_false (test x) (any_table test xs) e).1 m
 
-names_pass : (side : ℕ) (ts : List Table) (t : Table) → names_stage side ts ≡ Passed → Memᴰ t ts → lowest (bad_name (names_in t.cells)) (length t.sizes) ≡ none
+names_pass : (t : Table) (side : ℕ) (ts : List Table) → names_stage side ts ≡ Passed → Memᴰ t ts → lowest (bad_name (names_in t.cells)) (length t.sizes) ≡ none
 unfolding names_stage
-names_pass side ts t e (Memᴰ.head {x} {xs} q) =
+names_pass t side ts e (Memᴰ.head {x} {xs} q) =
     ap (λ (u : Table). lowest (bad_name (names_in u.cells)) (length u.sizes)) q ∙ refused_at_passed 20 side _ (first_refused_passed _ _ e).0
-names_pass side ts t e (Memᴰ.tail {x} {xs} m) = names_pass (suc side) xs t (first_refused_passed _ _ (first_refused_passed _ _ e).1).0 m
+names_pass t side ts e (Memᴰ.tail {x} {xs} m) = names_pass t (suc side) xs (first_refused_passed _ _ (first_refused_passed _ _ e).1).0 m
 
 module _ (ts : List Table) (e : tables_stage ts ≡ Passed) where
   all_matched : any_table mismatched ts ≡ false
@@ -86,11 +86,11 @@ module _ (ts : List Table) (e : tables_stage ts ≡ Passed) where
       }
     where
       long : length t.cells ≡ length t.sizes * 16
-      long = eqb-true (length t.cells) (length t.sizes * 16) (not-false _ (any_none mismatched ts t all_matched m))
+      long = eqb-true (length t.cells) (length t.sizes * 16) (not-false _ (any_none mismatched t ts all_matched m))
 
       each : (i : ℕ) → i < length t.sizes
           → (well_formed (get_or (names_in t.cells) i []) ≡ true) × (is_constant (get_or (names_in t.cells) i []) ≡ false) × (is_named (take i (names_in t.cells)) (get_or (names_in t.cells) i []) ≡ false)
-      each i h = not_bad (names_in t.cells) i (lowest_none (bad_name (names_in t.cells)) (length t.sizes) (names_pass 1 ts t all_named m) i h)
+      each i h = not_bad (names_in t.cells) i (lowest_none (bad_name (names_in t.cells)) (length t.sizes) (names_pass t 1 ts all_named m) i h)
 
 -- ---- the fields of a table
 
@@ -305,15 +305,15 @@ with_fields_named fs (g ∷ gs) w e = ⊎_elim first (with_fields_named (with_fi
     first : g.name ≡ w → is_named (names_of (with_fields (with_field fs g) gs)) w ≡ true
     first q = named_begins w (with_fields_begins (with_field fs g) gs) (ap (is_named (names_of (with_field fs g))) (sym q) ∙ with_field_named fs g)
 
-with_tables_named : (fs : List Field) (ts : List Table) (t : Table) (w : List ℕ) → Memᴰ t ts → is_named (names_of (fields_of t)) w ≡ true → is_named (names_of (with_tables fs ts)) w ≡ true
+with_tables_named : (t : Table) (fs : List Field) (ts : List Table) (w : List ℕ) → Memᴰ t ts → is_named (names_of (fields_of t)) w ≡ true → is_named (names_of (with_tables fs ts)) w ≡ true
 unfolding with_tables
-with_tables_named fs ts t w (Memᴰ.head {x} {xs} q) e =
+with_tables_named t fs ts w (Memᴰ.head {x} {xs} q) e =
     named_begins w (with_tables_begins (with_fields fs (fields_of x)) xs) (with_fields_named fs (fields_of x) w (ap (λ (u : Table). is_named (names_of (fields_of u)) w) (sym q) ∙ e))
-with_tables_named fs ts t w (Memᴰ.tail {x} {xs} m) e = with_tables_named (with_fields fs (fields_of x)) xs t w m e
+with_tables_named t fs ts w (Memᴰ.tail {x} {xs} m) e = with_tables_named t (with_fields fs (fields_of x)) xs w m e
 
 pub named_joint : (ts : List Table) → tables_stage ts ≡ Passed → (t : Table) → Memᴰ t ts → (w : List ℕ) → is_named (names_in t.cells) w ≡ true → is_named (joint_names ts) w ≡ true
 unfolding joint_names joint
-named_joint ts e t m w n = with_tables_named [] ts t w m (ap (λ (l : List (List ℕ)). is_named l w) (table_names (good ts e t m)) ∙ n)
+named_joint ts e t m w n = with_tables_named t [] ts w m (ap (λ (l : List (List ℕ)). is_named l w) (table_names (good ts e t m)) ∙ n)
 
 -- ---- the field of a word
 
@@ -332,7 +332,7 @@ unfolding sizes_stage other_size another
 later_same t ts side e u m w i j h p q = sym (eqb-true (get_or u.sizes j 0) (get_or t.sizes i 0) (not-false _ agrees))
   where
     none_other : other_size t i u ≡ false
-    none_other = any_none (other_size t i) ts u (lowest_none (λ i. any_table (other_size t i) ts) (length t.sizes) (refused_at_passed 21 side _ (first_refused_passed _ _ e).0) i h) m
+    none_other = any_none (other_size t i) u ts (lowest_none (λ i. any_table (other_size t i) ts) (length t.sizes) (refused_at_passed 21 side _ (first_refused_passed _ _ e).0) i h) m
 
     agrees : not (eqb (get_or u.sizes j 0) (get_or t.sizes i 0)) ≡ false
     agrees = sym (ap (another (get_or t.sizes i 0) u.sizes) (ap (field_named (names_in u.cells)) (found_is (names_in t.cells) w i p) ∙ q)) ∙ none_other

@@ -1,4 +1,6 @@
 // The fields of a call: tables of names and sizes, their causes, and the joint fields (document 02, A.4). All functions here are inner.
+#![tactic(auto)]
+
 pub mod names;
 
 ghost use Rattle.std.specs.Prelude.{◌≡◌, false, not, ◌||◌, [], ◌∷◌, ◌≤◌, ◌*◌, ◌+◌, eqb, length};

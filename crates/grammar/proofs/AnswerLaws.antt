@@ -220,7 +220,7 @@ module _ (names : List (List ℕ)) (text K F S : List ℕ) (room m : ℕ) (r : A
 
 -- ---- the public call: the causes of the tables, then the reader over the names of the text's side
 
-then_passed : (t : Tested) → first_refused (t ∷ Passed ∷ Passed ∷ Passed ∷ []) ≡ t
+then_passed : (t : Tested) → first_refused (t ∷ Passed ∷ Passed ∷ Passed ∷ Passed ∷ []) ≡ t
 unfolding first_refused
 then_passed Passed = refl
 then_passed (Failed r) = refl

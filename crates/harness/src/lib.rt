@@ -1,6 +1,10 @@
 // Reading the numbers of cases from standard input and writing the answers, for the programs that run cases. What such a
 // program writes is held to its stored output.
+#![tactic(auto)]
+
 ghost use Rattle.std.specs.Prelude.{◌≡◌, ◌<◌, ◌≤◌, length};
+
+use std::io::{Read, Stdin, Stdout};
 
 // A number of the input, and the place behind it.
 #[derive(Drop)]
@@ -210,14 +214,37 @@ pub fn wide32(x: u32) -> u64
     x as u64
 }
 
-pub fn number(n: u64) {
-    io::print_decimal(1, n);
+// Reads until the list is full, the input ends or a read fails, and returns how many bytes it put at the start of the list.
+pub fn read_full(stdin: Stdin, list: &mut [u8]) -> usize
+    ensures { result ≤ length list.new }
+{
+    let mut input = stdin;
+    let mut done = 0;
+    while done < list.len() {
+        let Ok(n) = input.read(&mut list[done..]) else {
+            return done;
+        };
+        if n == 0 {
+            return done;
+        }
+        done += n;
+    }
+    done
 }
 
-pub fn space() {
-    io::write_all(1, b" ");
+// What a failed write leaves out is missing from the output, which is held to the stored one.
+pub fn write(stdout: Stdout, bytes: &[u8]) {
+    let _ = stdout.write_all(bytes);
 }
 
-pub fn line_end() {
-    io::write_all(1, b"\n");
+pub fn number(stdout: Stdout, n: u64) {
+    let _ = stdout.print(n);
+}
+
+pub fn space(stdout: Stdout) {
+    write(stdout, b" ");
+}
+
+pub fn line_end(stdout: Stdout) {
+    write(stdout, b"\n");
 }

@@ -50,7 +50,7 @@ module _ {P L R trees : List ℕ} {count n : ℕ} (I : Indexed P L R count n tre
     module _ (entry : ℕ) (is_entry : entry ≡ get_or trees slot 0) where
       pub looking_vacant : entry ≡ 0 → VacantAt (row_at P L R) count n trees r slot
       looking_vacant e =
-          let vacant : get_or trees slot 0 ≡ 0 = sym isEntry ∙ e in
+          let vacant : get_or trees slot 0 ≡ 0 = sym is_entry ∙ e in
           let here : slot_of (row_at P L R) count trees r ≡ slot = w.goes ∙ look_ends (row_at P L R) (bucket_count trees) trees r _ depth slot (ends_none (row_at P L R) r _ vacant) in
           record {
             inside = w.reached.inside;
@@ -67,10 +67,10 @@ module _ {P L R trees : List ℕ} {count n : ℕ} (I : Indexed P L R count n tre
             go m h = omega arith
 
         within : entry ≤ n
-        within = subst (λ m. m ≤ n) (sym isEntry) (I.rising.below slot)
+        within = subst (λ m. m ≤ n) (sym is_entry) (I.rising.below slot)
 
         deeper : depth < entry
-        deeper = subst (λ m. depth < m) (sym isEntry) (w.reached.after (subst (λ m. 0 < m) isEntry positive))
+        deeper = subst (λ m. depth < m) (sym is_entry) (w.reached.after (subst (λ m. 0 < m) is_entry positive))
 
         pub looking_place : entry - 1 < length P
         looking_place = omega (arith, positive, within, I.within)
@@ -86,7 +86,7 @@ module _ {P L R trees : List ℕ} {count n : ℕ} (I : Indexed P L R count n tre
           told t e = ap (λ y. rows_agree y r) (sym is_row) ∙ sym isSame ∙ e
 
           told_at : (t : Bool) → same ≡ t → rows_agree (row_at P L R (get_or trees slot 0 - 1)) r ≡ t
-          told_at t e = subst (λ m. rows_agree (row_at P L R (m - 1)) r ≡ t) isEntry (told t e)
+          told_at t e = subst (λ m. rows_agree (row_at P L R (m - 1)) r ≡ t) is_entry (told t e)
 
           pub looking_listed : same ≡ true → ListedAt (row_at P L R) n r (entry - 1)
           looking_listed e =
@@ -96,15 +96,15 @@ module _ {P L R trees : List ℕ} {count n : ℕ} (I : Indexed P L R count n tre
                 listed =
                     I.finds r small
                     ∙ ap (λ s. ltb 0 (get_or trees s 0)) (w.goes ∙ look_ends (row_at P L R) (bucket_count trees) trees r _ depth slot (ends_row (row_at P L R) r _ (told_at true e)))
-                    ∙ lt-ltb 0 _ (subst (λ m. 0 < m) isEntry positive);
+                    ∙ lt-ltb 0 _ (subst (λ m. 0 < m) is_entry positive);
               }
 
           pub looking_more : same ≡ false → (side : ℕ) → side ≡ side_at depth r.states → Looking P L R count n trees r (bucket_count trees + 2 * (entry - 1) + side) (depth + 1)
-          looking_more e side isSide =
+          looking_more e side is_side =
               record {
                 reached =
                     subst (λ d. Reached (bucket_count trees) n trees d (child_slot (bucket_count trees) (entry - 1) side)) (sym (add-one depth))
-                    (reached_child I.rising w.reached entry side isEntry positive (subst (λ m. m < 2) (sym isSide) (side_below depth r.states)));
+                    (reached_child I.rising w.reached entry side is_entry positive (subst (λ m. m < 2) (sym is_side) (side_below depth r.states)));
                 goes = w.goes ∙ further (bucket_count trees - depth) (omega (arith, deeper, within, I.room));
               }
             where
@@ -112,7 +112,7 @@ module _ {P L R trees : List ℕ} {count n : ℕ} (I : Indexed P L R count n tre
                   → look_from (row_at P L R) (bucket_count trees) trees r k depth slot ≡ look_from (row_at P L R) (bucket_count trees) trees r (bucket_count trees - (depth + 1)) (depth + 1) (child_slot (bucket_count trees) (entry - 1) side)
               further k q =
                   subst (λ m. look_from (row_at P L R) (bucket_count trees) trees r m depth slot ≡ look_from (row_at P L R) (bucket_count trees) trees r (bucket_count trees - (depth + 1)) (depth + 1) (child_slot (bucket_count trees) (entry - 1) side)) q
-                  (look_on (row_at P L R) (bucket_count trees) trees r _ depth slot (ends_not (row_at P L R) r _ (subst (λ m. 0 < m) isEntry positive) (told_at false e))
-                  ∙ ap (λ m. look_from (row_at P L R) (bucket_count trees) trees r (bucket_count trees - (depth + 1)) (suc depth) (child_slot (bucket_count trees) (m - 1) (side_at depth r.states))) (sym isEntry)
-                  ∙ ap (λ m. look_from (row_at P L R) (bucket_count trees) trees r (bucket_count trees - (depth + 1)) (suc depth) (child_slot (bucket_count trees) (entry - 1) m)) (sym isSide)
+                  (look_on (row_at P L R) (bucket_count trees) trees r _ depth slot (ends_not (row_at P L R) r _ (subst (λ m. 0 < m) is_entry positive) (told_at false e))
+                  ∙ ap (λ m. look_from (row_at P L R) (bucket_count trees) trees r (bucket_count trees - (depth + 1)) (suc depth) (child_slot (bucket_count trees) (m - 1) (side_at depth r.states))) (sym is_entry)
+                  ∙ ap (λ m. look_from (row_at P L R) (bucket_count trees) trees r (bucket_count trees - (depth + 1)) (suc depth) (child_slot (bucket_count trees) (entry - 1) m)) (sym is_side)
                   ∙ ap (λ d. look_from (row_at P L R) (bucket_count trees) trees r (bucket_count trees - (depth + 1)) d (child_slot (bucket_count trees) (entry - 1) side)) (sym (add-one depth)))

@@ -1,6 +1,6 @@
 -- A row is appended to the lent columns "unless both states are 0 or the row is listed already"; full when it must be appended and there is no room.
 use Rattle.std.specs.Prelude.{◌≡◌, Bool, true, false, ◌&&◌, ◌||◌, not, List, ℕ, suc, ltb, length, get_or, set}
-use Rattle.std.specs.Borrow.{Bor}
+use Rattle.std.specs.Borrow.{MutBor}
 use denote.Triple.Both.{Both}
 use Rattle.index.specs.declared.Row.{Row}
 use Rattle.index.specs.declared.Vacancy.{Vacancy}
@@ -32,7 +32,7 @@ lists P L R Q trees = record { packets = P; left = L; right = R; parents = Q; tr
 
 -- a lent list in an `ensures`: the reference at entry and at exit
 abbrev pub LentList : Type 0
-LentList = Both (Bor (List ℕ)) (Bor (List ℕ))
+LentList = Both (MutBor (List ℕ)) (MutBor (List ℕ))
 
 abbrev pub lists_at_entry : LentList → LentList → LentList → LentList → LentList → Lists
 lists_at_entry P L R Q trees = lists P.entry.now L.entry.now R.entry.now Q.entry.now trees.entry.now

@@ -1,4 +1,6 @@
 // The row columns and their index (document 01, "States and rows"): is this row listed?
+#![tactic(auto)]
+
 ghost use Rattle.std.specs.Prelude.{◌≡◌, ◌+◌, ◌<◌, ◌≤◌, length, get_or, set};
 ghost use Rattle.index.specs.Columns.{policy_count, EvenColumns, row_at, masks_agree, rows_agree, listed_below};
 ghost use Rattle.index.specs.Index.{hash_prime, mixed, mixed_upper, hash_of, bucket_of, side_at, Indexed, Indexable, RoomFor, LookEnds};
@@ -10,7 +12,7 @@ use packet_set::Mask;
 pub const POLICIES: usize = 2;
 
 // A row: a packet and a state of each policy.
-#[derive(Drop)]
+#[derive(Clone, Copy)]
 pub struct Row {
     pub packet: u16,
     pub states: [Mask; POLICIES],

@@ -1,7 +1,7 @@
 -- What lines of tables are, by computation (document 02, A.4).
 use Prim.Native.Nat.{ℕ}
 use Prim.Native.Char.{code}
-use Prim.Native.String.{String, [] as noText, ◌∷◌ as ◌thenText◌}
+use Prim.Native.String.{String, [] as no_text, ◌∷◌ as ◌thenText◌}
 use mathlib.Core.Bool.{true, false}
 use mathlib.Core.List.{List, [], ◌∷◌, ◌++◌, map}
 use mathlib.Core.Path.{◌≡◌, refl}
@@ -14,7 +14,7 @@ use Rattle.input.specs.Input.{split_by, is_size, is_name_and_size, is_entry, ent
 
 -- the bytes of an ASCII text
 unfoldable pub bytes : String → List ℕ
-bytes noText = []
+bytes no_text = []
 bytes (◌thenText◌ c s) = code c ∷ bytes s
 
 -- malformed: not just one `=`, or no number word after it

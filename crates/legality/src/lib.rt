@@ -1,4 +1,6 @@
 // Which node lists are legal: the causes of a policy in their order, the front of all calls but the reader, and the public calls that say so.
+#![tactic(auto)]
+
 ghost use Rattle.std.specs.Prelude.{◌≤◌, ◌≡◌, length};
 ghost use Rattle.packet.specs.declared.Tested.TheVariants.{Passed};
 ghost use Rattle.fields.specs.Tables.{tables_at_entry};

@@ -1,5 +1,7 @@
 // The lists lent to a call: cause 10, and the work list set to 0 (document 01, "Causes, in the order tested"). All functions
 // here are inner.
+#![tactic(auto)]
+
 ghost use Rattle.std.specs.Prelude.{◌≡◌, ◌||◌, not, [], ◌∷◌, eqb, ltb, length, replicate};
 ghost use Rattle.packet.specs.Refusals.{refused_at, at_zero};
 ghost use Rattle.lent_lists.specs.LentLists.{lists_stage};

@@ -1,4 +1,6 @@
 // The rows of the search: starting rows and successors appended (document 01, "States and rows"). All functions here are inner.
+#![tactic(auto)]
+
 ghost use Rattle.std.specs.Prelude.{◌≡◌, ◌+◌, ◌<◌, ◌≤◌, length};
 ghost use Rattle.index.specs.Columns.{left_of, right_of};
 ghost use Rattle.index.specs.Index.{Indexed, RoomFor};
@@ -41,7 +43,7 @@ pub fn start(
 }
 
 // How far the row order has come: of `listed` rows `handled` are handled; there are `count` packets. Inner.
-#[derive(Drop)]
+#[derive(Clone, Copy)]
 pub struct Progress {
     pub count: u16,
     pub listed: usize,

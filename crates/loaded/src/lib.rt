@@ -1,5 +1,7 @@
 // A policy loaded for evaluation: its nodes packed one to a number, with what each visit of a node asks, and its tests as packet sets.
 // The loaded form stands for the tree of the node lists. All functions here are inner.
+#![tactic(auto)]
+
 ghost use Rattle.std.specs.Prelude.{◌≡◌, length};
 ghost use Rattle.packet.specs.Sizes.{product, LegalSizes};
 ghost use Rattle.policy.specs.AsLists.{as_lists, policy_at_entry};

@@ -1,5 +1,7 @@
 // A next list: the marks of each packet, and the packets that have some, so that a row costs its marked packets and not N. All functions
 // here are inner.
+#![tactic(auto)]
+
 ghost use Rattle.std.specs.Prelude.{ℕ, ◌+◌, ◌*◌, ◌<◌, ◌≤◌, ◌≡◌, ◌||◌, T, length};
 ghost use Rattle.packet_set.specs.InnerMembers.{member};
 ghost use Rattle.spans.specs.Spans.{touched};

@@ -1,4 +1,6 @@
 // Which fields the policies of a call mention: the core sizes, over which packets are numbered (document 02, A.6).
+#![tactic(auto)]
+
 ghost use Rattle.std.specs.Prelude.{◌≤◌, ◌≡◌, length};
 ghost use Rattle.mentions.specs.Noting.{FieldNoted, NodeNoted, PolicyNoted, CoreSizesOf};
 

@@ -1,22 +1,16 @@
 -- What is kept after a read.
 use Prim.Native.Nat.{ℕ, zero, suc, ◌+◌, ◌-◌, ◌≤◌, ◌<◌, min}
 use native.Mathlib.Decide.{dec_lt}
-use native.Mathlib.Nat.{not-suc-le-zero}
 use native.Mathlib.Omega.{arith}
 use mathlib.Core.Bool.{Bool, true, false}
 use mathlib.Core.List.{List, ◌++◌}
 use mathlib.Core.Path.{◌≡◌, refl, sym, ◌∙◌, ap, subst}
-use lib.Dec.{T, ltb}
-use lib.IntN.{ℤ, pos, negsuc}
+use lib.Dec.{ltb}
 use lib.ListN.{length, take, drop, length-append}
 use lib.Seq.{length-take-le, take_all}
-use lib.Signed.{lt_z}
-use mir.Syntax.{w64}
-use mir.Val.{SFits, of_z, to_z}
-use mir.ValLaws.{to_z-of_z}
-use borrow.Author.Tests.{lt-ltb, ltb-true}
-use Rattle.io.specs.Counts.{clamp_len}
-use Rattle.libc.specs.Io.{Moved}
+use borrow.Author.Tests.{lt-ltb}
+use Rattle.std.proofs.Common.{Result, Ok, Err}
+use Rattle.std.specs.declared.io.Error.{Error}
 use Rattle.printing.specs.InnerWrote.{Wrote}
 use Rattle.netkat.specs.InnerReading.{bytes_kept, length_after, bytes_after, goes_on_after, AfterRead, ReadOnce, GoneOn, ReadAll, to_end, endless}
 
@@ -32,58 +26,36 @@ wrote_room {old} {new} chunk room {at} {end} {n} e W = subst (Wrote old new at e
         let q : n ≡ room = omega (arith, e) in
         ap (λ k. take k chunk) q
 
-false_not_true : {A : Type 0} → false ≡ true → A
-false_not_true e = absurd (subst T (sym e) tt)
-
-module _ (old : List ℕ) (len : ℕ) (chunk : List ℕ) where
+module _ (old : List ℕ) (len : ℕ) (chunk : List ℕ) {got : Result ℕ Error} where
   -- a read that failed
-  pub nothing_kept : {z got : ℤ} → z ≡ got → lt_z z (pos 0) ≡ true → AfterRead old len chunk got 0 false old
+  pub nothing_kept : {e : Error} → got ≡ Err e → AfterRead old len chunk got 0 false old
   unfolding length_after bytes_after goes_on_after
-  nothing_kept {z} {got} p t = go got (subst (λ x. lt_z x (pos 0) ≡ true) p t)
-    where
-      go : (got : ℤ) → lt_z got (pos 0) ≡ true → AfterRead old len chunk got 0 false old
-      go (pos n) e = absurd (not-suc-le-zero (ltb-true n 0 e))
-      go (negsuc k) e = record { kept = refl; bytes = refl; goes_on = refl }
+  nothing_kept p = subst (λ x. AfterRead old len chunk x 0 false old) (sym p) (record { kept = refl; bytes = refl; goes_on = refl })
 
   -- a read that did not
-  pub bytes_kept_lem : {new : List ℕ} {r n : ℕ} {z got : ℤ} → z ≡ got → lt_z z (pos 0) ≡ false → Moved (length chunk) got → n ≡ clamp_len z (length chunk)
-      → Wrote old new len r (take (length old - len) (take n chunk)) → AfterRead old len chunk got r (ltb 0 n) new
+  pub bytes_kept_lem : {new : List ℕ} {r n : ℕ} → got ≡ Ok n → Wrote old new len r (take (length old - len) (take n chunk)) → AfterRead old len chunk got r (ltb 0 n) new
   unfolding bytes_kept length_after bytes_after goes_on_after
-  bytes_kept_lem {new} {r} {n} {z} {got} p t h e W = go got (subst (λ x. lt_z x (pos 0) ≡ false) p t) h (subst (λ x. n ≡ clamp_len x (length chunk)) p e)
+  bytes_kept_lem {new} {r} {n} p W = subst (λ x. AfterRead old len chunk x r (ltb 0 n) new) (sym p)
+      (record {
+        kept = W.ends;
+        bytes = W.holds ∙ ap (λ x. take len old ++ take (length old - len) (take n chunk) ++ drop x old) W.ends;
+        goes_on = goes n;
+      })
     where
-      goes : (k : ℕ) → ltb 0 k ≡ goes_on_after (pos k)
+      goes : (k : ℕ) → ltb 0 k ≡ goes_on_after (Ok k)
       goes zero = refl
       goes (suc k) = lt-ltb 0 (suc k) (omega arith)
-
-      go : (got : ℤ) → lt_z got (pos 0) ≡ false → Moved (length chunk) got → n ≡ clamp_len got (length chunk) → AfterRead old len chunk got r (ltb 0 n) new
-      go (pos k) f m e =
-          let q : n ≡ k = omega (arith, e, m) in
-          let X = subst (λ x. Wrote old new len r (take (length old - len) (take x chunk))) q W in
-          record {
-            kept = X.ends;
-            bytes = X.holds ∙ ap (λ x. take len old ++ take (length old - len) (take k chunk) ++ drop x old) X.ends;
-            goes_on = ap (ltb 0) q ∙ goes k;
-          }
-      go (negsuc k) f m e = false_not_true (sym f)
 
 -- what is kept lies within the list
 pub kept_within : {old new : List ℕ} {len n : ℕ} {more : Bool} → len ≤ length old → ReadOnce old len n more new → n ≤ length new
 unfolding length_after bytes_after
 kept_within {old} {new} {len} {n} h R = go R.got R.after.kept R.after.bytes
   where
-    go : (got : ℤ) → n ≡ length_after old len R.chunk got → new ≡ bytes_after old len R.chunk got → n ≤ length new
-    go (pos k) e b =
+    go : (got : Result ℕ Error) → n ≡ length_after old len R.chunk got → new ≡ bytes_after old len R.chunk got → n ≤ length new
+    go (Ok k) e b =
         let xs = bytes_kept old len R.chunk k in
         omega (arith, e, ap length b, length-append (take len old ++ xs) (drop (len + length xs) old), length-append (take len old) xs, length-take-le len old h)
-    go (negsuc k) e b = omega (arith, e)
-
--- what `read` answers on a chunk of 4,096 bytes fits the machine's number
-pub moved_on : {n m : ℕ} (z : ℤ) → n ≡ 4096 → m ≡ n → Moved n z → Moved m (to_z w64 (of_z w64 z))
-moved_on {n} {m} z e p h = subst (Moved m) (sym (to_z-of_z w64 z (fits z h))) (subst (λ k. Moved k z) (sym p) h)
-  where
-    fits : (z : ℤ) → Moved n z → SFits w64 z
-    fits (pos k) h = record { sfits = omega (arith, e, h) }
-    fits (negsuc k) h = record { sfits = omega (arith, h) }
+    go (Err f) e b = omega (arith, e)
 
 -- ---- one read after the other
 

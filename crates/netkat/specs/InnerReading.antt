@@ -1,5 +1,6 @@
--- What one read does to the bytes kept so far. `got` is what the call `read` answered: how many bytes it put at the start of the chunk, or −1.
-use Rattle.std.specs.Prelude.{ℕ, zero, suc, ◌+◌, ◌-◌, Bool, true, false, List, ◌++◌, ◌≡◌, ℤ, pos, negsuc, length, take, drop}
+-- What one read does to the bytes kept so far. `got` is what the call `read` answered: how many bytes it put at the start of the chunk, or an error.
+use Rattle.std.specs.Prelude.{ℕ, zero, suc, ◌+◌, ◌-◌, Bool, true, false, List, ◌++◌, ◌≡◌, Result, Ok, Err, length, take, drop}
+use Rattle.std.specs.declared.io.Error.{Error}
 
 module _ (old : List ℕ) (len : ℕ) (chunk : List ℕ) where
   -- of the bytes that were read, as many as there is room for behind the first len
@@ -7,23 +8,23 @@ module _ (old : List ℕ) (len : ℕ) (chunk : List ℕ) where
   bytes_kept n = take (length old - len) (take n chunk)
 
   -- how many bytes are kept after the read; after one that failed none, since half an input must not get a verdict
-  unfoldable pub length_after : ℤ → ℕ
-  length_after (pos n) = len + length (bytes_kept n)
-  length_after (negsuc k) = 0
+  unfoldable pub length_after : Result ℕ Error → ℕ
+  length_after (Ok n) = len + length (bytes_kept n)
+  length_after (Err e) = 0
 
   -- what is read stands behind what there was
-  unfoldable pub bytes_after : ℤ → List ℕ
-  bytes_after (pos n) = take len old ++ bytes_kept n ++ drop (len + length (bytes_kept n)) old
-  bytes_after (negsuc k) = old
+  unfoldable pub bytes_after : Result ℕ Error → List ℕ
+  bytes_after (Ok n) = take len old ++ bytes_kept n ++ drop (len + length (bytes_kept n)) old
+  bytes_after (Err e) = old
 
 -- the input goes on after a read that handed over bytes
-unfoldable pub goes_on_after : ℤ → Bool
-goes_on_after (pos zero) = false
-goes_on_after (pos (suc n)) = true
-goes_on_after (negsuc k) = false
+unfoldable pub goes_on_after : Result ℕ Error → Bool
+goes_on_after (Ok zero) = false
+goes_on_after (Ok (suc n)) = true
+goes_on_after (Err e) = false
 
 -- n bytes of new are kept after the read, and more tells whether the input goes on
-pub record AfterRead (old : List ℕ) (len : ℕ) (chunk : List ℕ) (got : ℤ) (n : ℕ) (more : Bool) (new : List ℕ) : Type 0 where
+pub record AfterRead (old : List ℕ) (len : ℕ) (chunk : List ℕ) (got : Result ℕ Error) (n : ℕ) (more : Bool) (new : List ℕ) : Type 0 where
   pub kept : n ≡ length_after old len chunk got
   pub bytes : new ≡ bytes_after old len chunk got
   pub goes_on : more ≡ goes_on_after got
@@ -31,7 +32,7 @@ pub record AfterRead (old : List ℕ) (len : ℕ) (chunk : List ℕ) (got : ℤ)
 -- Inner: so it is for some chunk and answer of `read`; what it reads is nobody's promise.
 pub record ReadOnce (old : List ℕ) (len n : ℕ) (more : Bool) (new : List ℕ) : Type 0 where
   pub chunk : List ℕ
-  pub got : ℤ
+  pub got : Result ℕ Error
   pub after : AfterRead old len chunk got n more new
 
 -- k reads, one after the other from no bytes kept, and the input goes on after each: then n bytes of new are kept

@@ -1,10 +1,11 @@
 // The program (document 01, "The program"): reads standard input to its end and writes the answer.
-ghost use Rattle.std.specs.Prelude.{◌-◌, ◌≤◌, length, take};
+#![tactic(auto)]
+
+ghost use Rattle.std.specs.Prelude.{◌-◌, ◌≤◌, IfOk, length, take};
 ghost use Rattle.printing.specs.InnerWrote.{Wrote};
-ghost use Rattle.libc.specs.Io.{Moved};
 ghost use Rattle.netkat.specs.InnerReading.{AfterRead, ReadOnce, ReadAll};
 
-use libc::{STDIN_FILENO, STDOUT_FILENO};
+use std::io::{Read, Stdin};
 
 // How much of the input is kept, and whether there may be more.
 #[derive(Drop)]
@@ -24,17 +25,16 @@ fn keep(input: &mut [u8], len: usize, chunk: &[u8]) -> usize
 
 // What happens to the bytes of one read, which answered `got`. After a read that fails nothing is kept: half an input must not
 // get a verdict, and an empty one is malformed.
-fn take_in(input: &mut [u8], len: usize, chunk: &[u8], got: isize) -> Kept
-    requires { (len ≤ length input.old) × Moved (length chunk.now) got }
+fn take_in(input: &mut [u8], len: usize, chunk: &[u8], got: std::io::Result<usize>) -> Kept
+    requires { (len ≤ length input.old) × IfOk got (λ n. n ≤ length chunk.now) }
     ensures { AfterRead input.old len chunk.now got result.len result.more input.new }
 {
-    if got < 0 {
+    let Ok(n) = got else {
         return Kept {
             len: 0,
             more: false,
         };
-    }
-    let n = io::count(got, chunk);
+    };
     Kept {
         len: keep(input, len, &chunk[..n]),
         more: 0 < n,
@@ -42,24 +42,25 @@ fn take_in(input: &mut [u8], len: usize, chunk: &[u8], got: isize) -> Kept
 }
 
 // One read.
-fn read_some(input: &mut [u8], len: usize) -> Kept
+fn read_some(stdin: Stdin, input: &mut [u8], len: usize) -> Kept
     requires { len ≤ length input.old }
     ensures { ReadOnce input.old len result.len result.more input.new }
 {
-    let mut chunk = io::buffer();
-    let got = libc::read(STDIN_FILENO, &mut chunk);
+    let mut reader = stdin;
+    let mut chunk = [0u8; 4096];
+    let got = reader.read(&mut chunk);
     take_in(input, len, &chunk, got)
 }
 
 // Reads to the end of the input and keeps the first bytes. A proved loop has to end, and nothing says that an input
 // does: the turns are more than any run uses up.
-fn read_all(input: &mut [u8]) -> usize
+fn read_all(stdin: Stdin, input: &mut [u8]) -> usize
     ensures { (result ≤ length input.new) × ReadAll input.old result input.new }
 {
     let mut len = 0;
     let mut turns = u64::MAX;
     while 0 < turns {
-        let kept = read_some(input, len);
+        let kept = read_some(stdin, input, len);
         len = kept.len;
         if !kept.more {
             return len;
@@ -69,11 +70,12 @@ fn read_all(input: &mut [u8]) -> usize
     0
 }
 
-fn main() {
+fn main(rt: HostRuntime) {
     // one byte more than an input may have: that it is too long is all that counts then
     let mut input = [0u8; 32769];
-    let n = read_all(&mut input);
+    let n = read_all(rt.stdin(), &mut input);
     let mut output = [0u8; 262208];
     let written = console::answer(&input[..n], &mut output);
-    io::write_all(STDOUT_FILENO, &output[..written]);
+    // a cut answer shows: the first line says how many follow
+    let _ = rt.write_all(&output[..written]);
 }

@@ -1,4 +1,6 @@
 // Causes 4 to 7 of document 01 on one policy, which look at the lists' lengths and at one node at a time.
+#![tactic(auto)]
+
 ghost use Rattle.std.specs.Prelude.{◌≡◌, ◌||◌, [], leb, length};
 ghost use Rattle.packet.specs.Lowest.{lowest, option_of};
 ghost use Rattle.packet.specs.Refusals.{at_zero};

@@ -1,4 +1,6 @@
 // Sizes of fields, the packet count, and packets as numbers (document 01, "Packets").
+#![tactic(auto)]
+
 ghost use Rattle.std.specs.Prelude.{◌≡◌, ◌<◌, length, [], ◌∷◌};
 ghost use Rattle.packet.specs.Lowest.{lowest, option_of};
 ghost use Rattle.packet.specs.Refusals.{refused_at, first_refused};
@@ -6,7 +8,7 @@ ghost use Rattle.packet.specs.Sizes.{zero_size, fields_stage, CountOf, LegalSize
 ghost use Rattle.packet.specs.Packets.{stride};
 
 // A numbered cause of document 01: its number, the side (0 none, 1 left, 2 right) and the place.
-#[derive(Drop)]
+#[derive(Clone, Copy)]
 pub struct Refusal {
     pub number: u8,
     pub side: u8,
@@ -14,7 +16,7 @@ pub struct Refusal {
 }
 
 // What one stage of tests says.
-#[derive(Drop)]
+#[derive(Clone, Copy)]
 pub enum Tested {
     Passed,
     Refused(Refusal),

@@ -1,5 +1,5 @@
 -- Sets of packets as 32 words of 32 bits. A set function works on the first k words and keeps the other words of its first set;
--- k = wordsFor N words hold every packet below N.
+-- k = words_for N words hold every packet below N.
 use Rattle.std.specs.Prelude.{ℕ, zero, suc, ◌+◌, ◌*◌, ◌/◌, ◌%◌, Bool, ◌&&◌, List, [], ◌∷◌, get_or, set, replicate, T, leb}
 use Rattle.std.proofs.Math.Option.{Option, none, some}
 use Rattle.std.specs.Int.Bits.{bit_or, bit_and, bit_xor}

@@ -1,4 +1,6 @@
 // Sets of packets as 32 words of 32 bits, and masks. All functions here are inner.
+#![tactic(auto)]
+
 ghost use Rattle.std.specs.Prelude.{◌≡◌, ◌+◌, ◌*◌, ◌<◌, ◌≤◌, length};
 ghost use Rattle.packet_set.specs.Bits.{mask_bits, bit, marked, only_bits};
 ghost use Rattle.packet_set.specs.InnerMembers.{member, words_for, empty_set, with_packet, union_of, exclusive_or_of, lowest_in, lowest_answer};

@@ -16,7 +16,7 @@ use Rattle.automaton.specs.State.{output_mask}
 use Rattle.packet_set.proofs.Digits.{bits_same}
 use Rattle.automaton.proofs.Laws.{output_mask_fits}
 use Rattle.system.specs.System.{System, Row}
-use Rattle.system.specs.RowOrder.{start_entry, NeedsMore, run, answer_with, equal as allHandled, held}
+use Rattle.system.specs.RowOrder.{start_entry, NeedsMore, run, answer_with, equal as all_handled, held}
 use Rattle.system.specs.InnerTables.{Listed}
 use Rattle.system.proofs.Verdicts.{equal_is, silent_is}
 use Rattle.pair.specs.Sides.{Side, left, right, Pair, at, NumberedPolicy}
@@ -141,7 +141,7 @@ module _ (sizes : List ℕ) (ps : Pair NumberedPolicy) (ok : EvaluablePair sizes
         (λ x. rules_iff.0 (e.0 x), λ k. e.1 (rules_iff.1 k))
 
   -- equal: the rows held are accepted
-  equal_accepted : (n c : ℕ) → answer_with S n ≡ allHandled c
+  equal_accepted : (n c : ℕ) → answer_with S n ≡ all_handled c
       → evidence_answer sizes ps (held_columns sizes ps n).packets (held_columns sizes ps n).lefts (held_columns sizes ps n).rights ≡ accepted
   unfolding evidence_answer held_columns columns_of
   equal_accepted n c e =

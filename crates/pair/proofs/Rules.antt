@@ -1,6 +1,6 @@
 -- The row rules are checked exactly, and a table that keeps them shows that nothing tells.
 use Prim.Native.Nat.{ℕ, zero, suc, ◌<◌}
-use mathlib.Core.Bool.{Bool, true, false, not, ◌||◌, or-true as or-any}
+use mathlib.Core.Bool.{Bool, true, false, not, ◌||◌, or-true as or_any}
 use mathlib.Core.List.{List}
 use mathlib.Core.Logic.{◌⊎◌, inl, inr, ⊎_elim, ◌↔◌}
 use mathlib.Core.Option.{Option, none}
@@ -18,7 +18,7 @@ use Rattle.system.specs.System.{System, Lawful, Row, start_row, next_row, tells}
 use Rattle.system.specs.RowOrder.{Entry, entry_at, run, same_row, answer_with, equal, held}
 use Rattle.system.specs.InnerTables.{Closed, InRange, Listed}
 use Rattle.system.specs.InnerWords.{Silent}
-use Rattle.packet.proofs.Tests.{or-true, and_true, last_or_before}
+use Rattle.packet.proofs.Tests.{or_true, and_true, last_or_before}
 use Rattle.system.proofs.Listing.{same_row_true, same_row_refl}
 use Rattle.system.proofs.Runs.{invariant}
 use Rattle.system.proofs.Tables.{closed_silent, closed_contains}
@@ -56,7 +56,7 @@ module _ (S : System) (L : Lawful S) (T : Table S) where
 
   rule_d_iff : (i γ : ℕ) → (breaks_d S T i γ ≡ false) ↔ RuleD S T i γ
   unfolding breaks_d RuleD
-  rule_d_iff i γ = (λ e. there (or-true _ _ (not-false _ e)), λ r. not_true_false (back r))
+  rule_d_iff i γ = (λ e. there (or_true _ _ (not-false _ e)), λ r. not_true_false (back r))
     where
       there : (S.dead (next_row S (T.row i) γ).state ≡ true) ⊎ (present S T (next_row S (T.row i) γ) ≡ true) → (S.dead (next_row S (T.row i) γ).state ≡ true) ⊎ Present S T (next_row S (T.row i) γ)
       there (inl d) = inl d
@@ -64,7 +64,7 @@ module _ (S : System) (L : Lawful S) (T : Table S) where
 
       back : (S.dead (next_row S (T.row i) γ).state ≡ true) ⊎ Present S T (next_row S (T.row i) γ) → (S.dead (next_row S (T.row i) γ).state || present S T (next_row S (T.row i) γ)) ≡ true
       back (inl d) = ap (λ b. b || present S T (next_row S (T.row i) γ)) d
-      back (inr p) = ap (λ b. S.dead (next_row S (T.row i) γ).state || b) ((present_iff (next_row S (T.row i) γ)).1 p) ∙ or-any (S.dead (next_row S (T.row i) γ).state)
+      back (inr p) = ap (λ b. S.dead (next_row S (T.row i) γ).state || b) ((present_iff (next_row S (T.row i) γ)).1 p) ∙ or_any (S.dead (next_row S (T.row i) γ).state)
 
   tells_iff : (i γ : ℕ) → (tells S (T.row i) γ ≡ false) ↔ (tells S (T.row i) γ ≡ false)
   tells_iff i γ = (λ e. e, λ e. e)

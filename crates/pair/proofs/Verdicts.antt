@@ -11,7 +11,7 @@ use borrow.Author.Tests.{lt-ltb, le-ltb}
 use Rattle.policy.specs.Meaning.{SameShortTraces, SameTracesBelow, SameShortTracesBelow}
 use Rattle.system.specs.System.{System, start_row}
 use Rattle.system.specs.InnerWords.{leads_to}
-use Rattle.system.specs.RowOrder.{RunAnswer, full as moreRows, equal as allHandled, different as tellingRow, entry_at, NeedsMore, finished, telling, turn, current, run, entering, path, depth_at_full, answer_with, held}
+use Rattle.system.specs.RowOrder.{RunAnswer, full as more_rows, equal as all_handled, different as telling_row, entry_at, NeedsMore, finished, telling, turn, current, run, entering, path, depth_at_full, answer_with, held}
 use Rattle.packet.proofs.Tests.{lt_or_le}
 use Rattle.system.proofs.Basics.{length_snoc}
 use Rattle.system.proofs.Runs.{telling≢handling, invariant}
@@ -38,24 +38,24 @@ module _ (sizes : List ℕ) (ps : Pair NumberedPolicy) where
   side_at : ℕ → ℕ → List ℕ → Side
   side_at n i t = side_of sizes ps (entry_at S (held S n) i).row (last_of t)
 
-  search_full : (n m d : ℕ) → answer_with S n ≡ moreRows d → search_answer sizes ps n m ≡ rows_full n d
+  search_full : (n m d : ℕ) → answer_with S n ≡ more_rows d → search_answer sizes ps n m ≡ rows_full n d
   unfolding search_answer
   search_full n m d e = rw (e, search_answer)
 
-  pub search_equal : (n m c : ℕ) → answer_with S n ≡ allHandled c → search_answer sizes ps n m ≡ equal c
+  pub search_equal : (n m c : ℕ) → answer_with S n ≡ all_handled c → search_answer sizes ps n m ≡ equal c
   unfolding search_answer
   search_equal n m c e = rw (e, search_answer)
 
-  search_reported : (n m i α : ℕ) (t : List ℕ) → answer_with S n ≡ tellingRow i α t → search_answer sizes ps n m ≡ reported m (side_at n i t) α t
+  search_reported : (n m i α : ℕ) (t : List ℕ) → answer_with S n ≡ telling_row i α t → search_answer sizes ps n m ≡ reported m (side_at n i t) α t
   unfolding search_answer side_at
   search_reported n m i α t e = rw (e, search_answer)
 
-  pub search_different : (n m i α : ℕ) (t : List ℕ) → answer_with S n ≡ tellingRow i α t → length t ≤ m
+  pub search_different : (n m i α : ℕ) (t : List ℕ) → answer_with S n ≡ telling_row i α t → length t ≤ m
       → search_answer sizes ps n m ≡ different (side_of sizes ps (entry_at S (held S n) i).row (last_of t)) α t
   unfolding reported side_at
   search_different n m i α t e h = search_reported n m i α t e ∙ ap (λ b. cond b (trace_short (length t)) (different (side_at n i t) α t)) (le-ltb m (length t) h)
 
-  pub search_short : (n m i α : ℕ) (t : List ℕ) → answer_with S n ≡ tellingRow i α t → m < length t → search_answer sizes ps n m ≡ trace_short (length t)
+  pub search_short : (n m i α : ℕ) (t : List ℕ) → answer_with S n ≡ telling_row i α t → m < length t → search_answer sizes ps n m ≡ trace_short (length t)
   unfolding reported
   search_short n m i α t e h = search_reported n m i α t e ∙ ap (λ b. cond b (trace_short (length t)) (different (side_at n i t) α t)) (lt-ltb m (length t) h)
 
@@ -77,19 +77,19 @@ module _ (sizes : List ℕ) (ps : Pair NumberedPolicy) where
 
   -- What each answer says of the row order.
   pub data Searched (n m : ℕ) : SearchAnswer → Type 0 where
-    is_full : {k d : ℕ} → answer_with S n ≡ moreRows d → n ≡ k → Searched n m (rows_full k d)
-    is_equal : {c : ℕ} → answer_with S n ≡ allHandled c → Searched n m (equal c)
-    is_short : {k : ℕ} (i α : ℕ) (t : List ℕ) → answer_with S n ≡ tellingRow i α t → m < length t → length t ≡ k → Searched n m (trace_short k)
-    is_telling : {s : Side} {α : ℕ} {t : List ℕ} (i : ℕ) → answer_with S n ≡ tellingRow i α t → length t ≤ m
+    is_full : {k d : ℕ} → answer_with S n ≡ more_rows d → n ≡ k → Searched n m (rows_full k d)
+    is_equal : {c : ℕ} → answer_with S n ≡ all_handled c → Searched n m (equal c)
+    is_short : {k : ℕ} (i α : ℕ) (t : List ℕ) → answer_with S n ≡ telling_row i α t → m < length t → length t ≡ k → Searched n m (trace_short k)
+    is_telling : {s : Side} {α : ℕ} {t : List ℕ} (i : ℕ) → answer_with S n ≡ telling_row i α t → length t ≤ m
         → side_of sizes ps (entry_at S (held S n) i).row (last_of t) ≡ s → Searched n m (different s α t)
 
   pub searched : (n m : ℕ) → Searched n m (search_answer sizes ps n m)
   searched n m = go (answer_with S n) refl
     where
       go : (a : RunAnswer) → answer_with S n ≡ a → Searched n m (search_answer sizes ps n m)
-      go (moreRows d) e = subst (Searched n m) (sym (search_full n m d e)) (is_full e refl)
-      go (allHandled c) e = subst (Searched n m) (sym (search_equal n m c e)) (is_equal e)
-      go (tellingRow i α t) e = long (lt_or_le m (length t))
+      go (more_rows d) e = subst (Searched n m) (sym (search_full n m d e)) (is_full e refl)
+      go (all_handled c) e = subst (Searched n m) (sym (search_equal n m c e)) (is_equal e)
+      go (telling_row i α t) e = long (lt_or_le m (length t))
         where
           long : (m < length t) ⊎ (length t ≤ m) → Searched n m (search_answer sizes ps n m)
           long (inl h) = subst (Searched n m) (sym (search_short n m i α t e h)) (is_short i α t e h refl)
@@ -146,20 +146,20 @@ module _ (sizes : List ℕ) (ps : Pair NumberedPolicy) where
         go (is_full a q) = (short_iff sizes ps ok d).0 (full_is S (lawful sizes ps ok) n d a)
 
     -- the telling row is where its path leads
-    telling_leads : (n i α : ℕ) (t : List ℕ) → answer_with S n ≡ tellingRow i α t
+    telling_leads : (n i α : ℕ) (t : List ℕ) → answer_with S n ≡ telling_row i α t
         → leads_to S (start_row S α) (path S (held S n) i) ≡ (entry_at S (held S n) i).row
     telling_leads n i α t e = go (subst (Answered S n) e (answered S n))
       where
         x : IsDifferent S n i α t
         x = different_is S (lawful sizes ps ok) n i α t e
 
-        go : Answered S n (tellingRow i α t)
+        go : Answered S n (telling_row i α t)
             → leads_to S (start_row S α) (path S (held S n) i) ≡ (entry_at S (held S n) i).row
         go (is_different γ h q a b c) =
             subst (λ β. leads_to S (start_row S β) (path S (held S n) i) ≡ (entry_at S (held S n) i).row) x.enters
             (subst (λ es. i < length es → Line S es i) (sym (held_stopped S n (suc n) (short_stops S n h) h)) (line_of S (invariant S (lawful sizes ps ok) (suc n)).listing i) x.inside).leads
 
-    telling_distinguishes : (n i α : ℕ) (t : List ℕ) → answer_with S n ≡ tellingRow i α t
+    telling_distinguishes : (n i α : ℕ) (t : List ℕ) → answer_with S n ≡ telling_row i α t
         → Distinguishes sizes ps (side_of sizes ps (entry_at S (held S n) i).row (last_of t)) α t
     unfolding side_of Alone ends SameShortTraces SameShortTracesBelow SideTraces at
     telling_distinguishes n i α t e =

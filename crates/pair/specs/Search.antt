@@ -3,7 +3,7 @@ use Rattle.std.specs.Prelude.{ℕ, pred, ◌<◌, cond, List, map, ◌↔◌, lt
 use Rattle.packet.specs.Sizes.{product}
 use Rattle.packet_set.specs.Bits.{bit}
 use Rattle.system.specs.System.{Row}
-use Rattle.system.specs.RowOrder.{Entry, entry_at, full as moreRows, equal as allHandled, different as tellingRow, answer_with, held}
+use Rattle.system.specs.RowOrder.{Entry, entry_at, full as more_rows, equal as all_handled, different as telling_row, answer_with, held}
 use Rattle.pair.specs.Sides.{Side, left, right, other, Pair, NumberedPolicy}
 use Rattle.pair.specs.Pair.{SideTraces, output_at, pair_system}
 
@@ -39,9 +39,9 @@ module _ (sizes : List ℕ) (ps : Pair NumberedPolicy) where
   unfoldable pub search_answer : ℕ → ℕ → SearchAnswer
   search_answer rows lent =
       elim (answer_with (pair_system sizes ps) rows) [
-        | moreRows d ↦ rows_full rows d
-        | allHandled count ↦ equal count
-        | tellingRow i α trace ↦ reported lent (side_of (entry_at (pair_system sizes ps) (held (pair_system sizes ps) rows) i).row (last_of trace)) α trace
+        | more_rows d ↦ rows_full rows d
+        | all_handled count ↦ equal count
+        | telling_row i α trace ↦ reported lent (side_of (entry_at (pair_system sizes ps) (held (pair_system sizes ps) rows) i).row (last_of trace)) α trace
       ]
 
   unfoldable pub columns_of : List (Entry (pair_system sizes ps)) → Columns

@@ -1,5 +1,7 @@
 // A row's line of parents: how deep the row lies, the trace that ends at it, and where that enters (document 01, "States and rows"; document
 // 02, A.3). All functions here are inner.
+#![tactic(auto)]
+
 ghost use Rattle.std.specs.Prelude.{◌≡◌, [], ◌∷◌, ◌++◌, ◌<◌, ◌≤◌, length};
 ghost use Rattle.packet.specs.Written.{written};
 ghost use Rattle.parent_traces.specs.ParentLines.{line_depth, line_path, line_start, Rooted};

@@ -32,6 +32,6 @@ core_from Ls f [] = []
 core_from Ls f (s ∷ ss) = cond (mentioned Ls f) s 1 ∷ core_from Ls (suc f) ss
 
 -- The core sizes: their product is N, and rows and traces number packets over them. A field of size 1 counts for nothing, so that these are the
--- numbers over the mentioned fields in their order (`classes` `mentioned-count`, `mentioned-number`).
+-- numbers over the mentioned fields in their order (`classes` `mentioned_count`, `mentioned_number`).
 unfoldable pub core_sizes : List NodeLists → List ℕ → List ℕ
 core_sizes Ls sizes = core_from Ls 0 sizes

@@ -1,5 +1,5 @@
--- The values that policies name, and how many classes they make of each field's values (document 02, A.6 and A.7): the sizes over which packets are
--- numbered.
+-- The values that policies name, and how many classes they make of each field's values (document 02, A.7). Nothing uses it yet: packets are numbered over
+-- the core sizes of `Mentions`.
 use Rattle.std.specs.Prelude.{ℕ, zero, suc, cond, List, [], ◌∷◌, eqb, ltb, length}
 use Rattle.policy.specs.declared.Node.{Node}
 use Rattle.policy.specs.declared.Node.TheVariants.{Drop, Id, Field, Dup, Sum, Seq, Star, Neg}
@@ -41,7 +41,7 @@ unfoldable pub core_from : List NodeLists → ℕ → List ℕ → List ℕ
 core_from Ls f [] = []
 core_from Ls f (s ∷ ss) = class_count s (named_values Ls f) ∷ core_from Ls (suc f) ss
 
--- The core sizes, which are the class counts: their product is N, and rows and traces number packets over them. A field that nobody mentions has one class
--- and counts for nothing, so that these are the numbers over the mentioned fields in their order (`classes` `mentioned-count`, `mentioned-number`).
+-- The core sizes by classes, which are the class counts: A.7 takes their product for N, and numbers packets over them. A field that nobody mentions has one class
+-- and counts for nothing.
 unfoldable pub core_sizes : List NodeLists → List ℕ → List ℕ
 core_sizes Ls sizes = core_from Ls 0 sizes

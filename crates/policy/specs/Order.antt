@@ -1,5 +1,5 @@
 -- The order of causes (document 01, "Causes, in the order tested"), in two lists: the stages of a call, and the causes of a policy. Those
--- of the tables are a list in `fields` (`tablesStage`), those of one text, 14 to 17, the reader's (`grammar` `tested`).
+-- of the tables are a list in `fields` (`tables_stage`), those of one text, 14 to 17, the reader's (`grammar` `tested`).
 use Rattle.std.specs.Prelude.{ℕ, suc, pred, Bool, true, false, List, [], ◌∷◌, map, eqb}
 use Rattle.std.proofs.Math.Option.{Option}
 use Rattle.packet.specs.Lowest.{lowest}

@@ -9,7 +9,7 @@ unfoldable pub joined : (ℕ → List ℕ) → List ℕ → List ℕ
 joined f [] = []
 joined f (c ∷ cs) = f c ++ joined f cs
 
--- the nodes met on a walk through the tree of node n: the node, then the walks through its children. Fuel as for `treeAt`
+-- the nodes met on a walk through the tree of node n: the node, then the walks through its children. Fuel as for `tree_at`
 unfoldable pub visit : NodeLists → ℕ → ℕ → List ℕ
 visit L zero n = []
 visit L (suc fuel) n = n ∷ joined (visit L fuel) (children (node_at L n))

@@ -1,4 +1,5 @@
 // Policies as node lists (document 01, "Policies").
+#![tactic(auto)]
 
 pub mod lent;
 pub mod order;

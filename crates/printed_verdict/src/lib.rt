@@ -1,4 +1,6 @@
 // A verdict as the program prints it (document 01, "The program"): its line, then the rows or the trace.
+#![tactic(auto)]
+
 ghost use Rattle.std.specs.Prelude.{◌++◌, ◌≤◌, length, take};
 ghost use Rattle.packet.specs.Refusals.{refusal};
 ghost use Rattle.printing.specs.ThreeFields.{verdict_line, row_lines, trace_lines};

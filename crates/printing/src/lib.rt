@@ -1,4 +1,6 @@
 // The lines of the output: three fields, split by commas, ended by CRLF.
+#![tactic(auto)]
+
 ghost use Rattle.std.specs.Prelude.{◌≡◌, cond, [], ◌∷◌, eqb, ◌+◌, ◌*◌, ◌<◌, ◌≤◌, length};
 ghost use Rattle.printing.specs.ThreeFields.{numeral, line_rest, number_line, verdict_line, row_lines, trace_lines};
 ghost use Rattle.printing.specs.InnerWrote.{Wrote};

@@ -1,5 +1,7 @@
 // Row records, as a console's own code holds rows (document 02, A.2): the thin reader. It takes each record apart and hands its numbers
 // to the covered row check; the row rules then go over columns.
+#![tactic(auto)]
+
 ghost use Rattle.std.specs.Prelude.{[], ◌∷◌, ◌≡◌, ◌<◌, ◌≤◌, length};
 ghost use Rattle.packet_set.specs.Bits.{mask_bits};
 ghost use Rattle.records.specs.Records.{packets_of, lefts_of, rights_of, over, stray_in};
@@ -8,7 +10,7 @@ use packet_set::Mask;
 
 // A row with its parent; 32 bytes in C.
 #[repr(C)]
-#[derive(Drop)]
+#[derive(Clone, Copy)]
 pub struct RowRecord {
     pub packet: u16,
     pub left: Mask,

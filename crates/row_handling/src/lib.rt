@@ -1,4 +1,6 @@
 // One row of the search is handled (document 01, "States and rows"). All functions here are inner.
+#![tactic(auto)]
+
 ghost use Rattle.std.specs.Prelude.{◌≡◌};
 ghost use Rattle.index.specs.Appending.{lists, lists_at_entry, lists_at_exit};
 ghost use Rattle.row_handling.specs.Step.{open_or_done, HandleReady, StepDone};

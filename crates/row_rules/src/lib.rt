@@ -1,6 +1,8 @@
 // Row rules (a), (b) and (d) of the evidence checker, one by one, over lent columns (document 01, "Row rules for evidence"), and whether
 // a row repeats an earlier one. All functions here are inner.
 // They need no policy: rule (c), the next states and the order of the rules are in `evidence`.
+#![tactic(auto)]
+
 ghost use Rattle.std.specs.Prelude.{◌≡◌, true, [], ◌∷◌, ◌<◌, ◌≤◌, length, get_or};
 ghost use Rattle.packet.specs.Lowest.{lowest};
 ghost use Rattle.packet_set.specs.Bits.{mask_bits};
@@ -70,7 +72,7 @@ pub fn first_stray(
 }
 
 // Inner: rule (a) at row i by its numbers: the first of `end` rows that breaks it, or `end`, where `found` is that of the rows before. All are
-// plain numbers, since the function that calls it is walked by hand.
+// plain numbers, so that the list of records is no business of theirs.
 pub fn stray_after(
     end: usize,
     found: usize,

@@ -1,7 +1,7 @@
 -- The search on node lists: its answer and what it leaves in every lent list (document 01, "States and rows" and "Causes, in the order tested";
 -- document 02, A.6).
 use Rattle.std.specs.Prelude.{ℕ, ◌≤◌, List, [], ◌∷◌, ◌↔◌, ◌≡◌, length, replicate, take}
-use Rattle.std.specs.Borrow.{Bor}
+use Rattle.std.specs.Borrow.{MutBor}
 use denote.Triple.Both.{Both}
 use Rattle.packet.specs.declared.Refusal.{Refusal}
 use Rattle.packet.specs.declared.Tested.{Tested}
@@ -38,10 +38,10 @@ abbrev pub lent : List ℕ → List ℕ → List ℕ → List ℕ → List ℕ �
 lent P L R Q trace work = record { packets = P; lefts = L; rights = R; parents = Q; trace = trace; work = work }
 
 -- the same of the references that an `ensures` names
-abbrev pub lent_at_entry : (P L R Q trace work : Both (Bor (List ℕ)) (Bor (List ℕ))) → SearchLists
+abbrev pub lent_at_entry : (P L R Q trace work : Both (MutBor (List ℕ)) (MutBor (List ℕ))) → SearchLists
 lent_at_entry P L R Q trace work = lent P.entry.now L.entry.now R.entry.now Q.entry.now trace.entry.now work.entry.now
 
-abbrev pub lent_at_exit : (P L R Q trace work : Both (Bor (List ℕ)) (Bor (List ℕ))) → SearchLists
+abbrev pub lent_at_exit : (P L R Q trace work : Both (MutBor (List ℕ)) (MutBor (List ℕ))) → SearchLists
 lent_at_exit P L R Q trace work = lent P.exit.now L.exit.now R.exit.now Q.exit.now trace.exit.now work.exit.now
 
 -- the lists that a search leaves where no cause up to 10 holds: the rows listed first, entries beyond as they were; the work list all 0

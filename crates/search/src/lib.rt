@@ -1,4 +1,6 @@
 // The search for a telling trace through the row order (document 01, "States and rows").
+#![tactic(auto)]
+
 ghost use Rattle.std.specs.Prelude.{ℕ, ◌+◌, ◌/◌, ◌<◌, ◌≤◌, true, false, [], ◌≡◌};
 ghost use Rattle.fields.specs.Tables.{tables_at_entry};
 ghost use Rattle.policy.specs.AsLists.{as_lists, policy_at_entry};

@@ -63,26 +63,26 @@ module _ {ts : List Table} {L R : NodeLists} {x : SearchLists} where
 
 -- ---- the traces of the nodes are those of the text
 
-module _ (leftTable right_table : Table) (left-text right-text : List ℕ) (el : text_stage (left_names leftTable rightTable) left-text ≡ Passed) (er : text_stage (right_names leftTable rightTable) right-text ≡ Passed) where
+module _ (left_table right_table : Table) (left-text right-text : List ℕ) (el : text_stage (left_names left_table right_table) left-text ≡ Passed) (er : text_stage (right_names left_table right_table) right-text ≡ Passed) where
   abbrev ln : List (List ℕ)
-  ln = left_names leftTable rightTable
+  ln = left_names left_table right_table
 
   abbrev rn : List (List ℕ)
-  rn = right_names leftTable rightTable
+  rn = right_names left_table right_table
 
   tree_traces : (names : List (List ℕ)) (text : List ℕ) → text_stage names text ≡ Passed → Traces declared (policy_of (text_nodes names text)) ≡ Traces declared (text_tree names text)
   unfolding text_nodes
   tree_traces names text e = text_traces names text 512 (tree_size (text_tree names text)) (stage_answer names text e) declared
 
-  side_is : (s : Side) → Traces declared (at s (policies (text_nodes ln left-text) (text_nodes rn right-text))).tree ≡ Traces declared (at s (text_policies leftTable rightTable left-text right-text)).tree
+  side_is : (s : Side) → Traces declared (at s (policies (text_nodes ln left-text) (text_nodes rn right-text))).tree ≡ Traces declared (at s (text_policies left_table right_table left-text right-text)).tree
   unfolding at
   side_is left = tree_traces ln left-text el
   side_is right = tree_traces rn right-text er
 
   -- what holds of the traces of both policies holds of the texts'
   both_are : (H : TraceSet declared → TraceSet declared → Type 0) (s t : Side) → H (Traces declared (at s (policies (text_nodes ln left-text) (text_nodes rn right-text))).tree) (Traces declared (at t (policies (text_nodes ln left-text) (text_nodes rn right-text))).tree)
-      → H (Traces declared (at s (text_policies leftTable rightTable left-text right-text)).tree) (Traces declared (at t (text_policies leftTable rightTable left-text right-text)).tree)
-  both_are H s t h = subst (λ X. H X (Traces declared (at t (text_policies leftTable rightTable left-text right-text)).tree)) (side_is s) (subst (λ Y. H (Traces declared (at s (policies (text_nodes ln left-text) (text_nodes rn right-text))).tree) Y) (side_is t) h)
+      → H (Traces declared (at s (text_policies left_table right_table left-text right-text)).tree) (Traces declared (at t (text_policies left_table right_table left-text right-text)).tree)
+  both_are H s t h = subst (λ X. H X (Traces declared (at t (text_policies left_table right_table left-text right-text)).tree)) (side_is s) (subst (λ Y. H (Traces declared (at s (policies (text_nodes ln left-text) (text_nodes rn right-text))).tree) Y) (side_is t) h)
 
   texts_same : (sizes : List ℕ) → SameTracesDeclared sizes (policy_of (text_nodes ln left-text)) (policy_of (text_nodes rn right-text)) ↔ SameTracesDeclared sizes (text_tree ln left-text) (text_tree rn right-text)
   unfolding SameTraces at
@@ -94,7 +94,7 @@ module _ (leftTable right_table : Table) (left-text right-text : List ℕ) (el :
   texts_short sizes d f = both_are (λ X Y. (α : List ℕ) → Declared sizes α → (t : List (List ℕ)) → length t ≤ d → X α t ↔ Y α t) left right f
 
   texts_tell : (sizes : List ℕ) (s : Side) (α : List ℕ) (t : List (List ℕ)) → TellsDeclared sizes (at s (policies (text_nodes ln left-text) (text_nodes rn right-text))).tree (at (other s) (policies (text_nodes ln left-text) (text_nodes rn right-text))).tree α t
-      → TellsDeclared sizes (at s (text_policies leftTable rightTable left-text right-text)).tree (at (other s) (text_policies leftTable rightTable left-text right-text)).tree α t
+      → TellsDeclared sizes (at s (text_policies left_table right_table left-text right-text)).tree (at (other s) (text_policies left_table right_table left-text right-text)).tree α t
   texts_tell sizes s α t d =
       record {
         enters = d.enters;
@@ -103,19 +103,19 @@ module _ (leftTable right_table : Table) (left-text right-text : List ℕ) (el :
         shortest = both_are (λ X Y. (β : List ℕ) → Declared sizes β → (u : List (List ℕ)) → length u < length t → X β u ↔ Y β u) s (other s) d.shortest;
       }
 
-  texts_tell_over : (s : Side) (α : ℕ) (t : List ℕ) → TellsOver (texts_classes leftTable rightTable left-text right-text) (joint_sizes (text_tables leftTable rightTable)) (at s (policies (text_nodes ln left-text) (text_nodes rn right-text))).tree (at (other s) (policies (text_nodes ln left-text) (text_nodes rn right-text))).tree α t
-      → TextsTell leftTable rightTable left-text right-text s α t
+  texts_tell_over : (s : Side) (α : ℕ) (t : List ℕ) → TellsOver (texts_classes left_table right_table left-text right-text) (joint_sizes (text_tables left_table right_table)) (at s (policies (text_nodes ln left-text) (text_nodes rn right-text))).tree (at (other s) (policies (text_nodes ln left-text) (text_nodes rn right-text))).tree α t
+      → TextsTell left_table right_table left-text right-text s α t
   texts_tell_over s α t d = record { inside = d.inside; shown = texts_tell _ s _ _ d.shown; along = λ β e f. texts_tell _ s _ _ (d.along β e f) }
 
 -- ---- the public call
 
-module _ (leftTable right_table : Table) (left-text right-text : List ℕ) (x : SearchLists) where
-  refused_by : {r : Refusal} → texts_tests leftTable rightTable left-text right-text x ≡ Stopped r → TextsSearched leftTable rightTable left-text right-text x (Refused r) x
+module _ (left_table right_table : Table) (left-text right-text : List ℕ) (x : SearchLists) where
+  refused_by : {r : Refusal} → texts_tests left_table right_table left-text right-text x ≡ Stopped r → TextsSearched left_table right_table left-text right-text x (Refused r) x
   unfolding texts_verdict texts_leaves verdict_after lent_after
   refused_by {r} e =
       record {
-        answers = sym (ap (λ (t : Tested). verdict_after t (texts_answer leftTable rightTable left-text right-text x)) e);
-        leaves = sym (ap (λ (t : Tested). lent_after t (texts_rows leftTable rightTable left-text right-text x) (texts_answer leftTable rightTable left-text right-text x) x) e);
+        answers = sym (ap (λ (t : Tested). verdict_after t (texts_answer left_table right_table left-text right-text x)) e);
+        leaves = sym (ap (λ (t : Tested). lent_after t (texts_rows left_table right_table left-text right-text x) (texts_answer left_table right_table left-text right-text x) x) e);
         equal_same = λ rows q. absurd (refused_equal q);
         same_equal = λ p. absurd (passed≢stopped (sym p ∙ e));
         different_tells = λ s n α q. absurd (refused_telling s n α q);
@@ -128,55 +128,55 @@ module _ (leftTable right_table : Table) (left-text right-text : List ℕ) (x : 
   lists = lists_stage (length x.packets ∷ length x.lefts ∷ length x.rights ∷ length x.parents ∷ []) (length x.work)
 
   abbrev ts : List Table
-  ts = text_tables leftTable rightTable
+  ts = text_tables left_table right_table
 
   abbrev lnames : List (List ℕ)
-  lnames = left_names leftTable rightTable
+  lnames = left_names left_table right_table
 
   abbrev rnames : List (List ℕ)
-  rnames = right_names leftTable rightTable
+  rnames = right_names left_table right_table
 
   abbrev text_tests : Tested
   text_tests = first_refused (text_stage lnames left-text ∷ text_stage rnames right-text ∷ [])
 
-  pub tables_refused : {r : Refusal} → tables_stage ts ≡ Stopped r → TextsSearched leftTable rightTable left-text right-text x (Refused r) x
+  pub tables_refused : {r : Refusal} → tables_stage ts ≡ Stopped r → TextsSearched left_table right_table left-text right-text x (Refused r) x
   unfolding texts_tests
   tables_refused e = refused_by (order.tables_refused ts _ _ _ _ e)
 
-  tables_passed : {v : Verdict} {y : SearchLists} → tables_stage ts ≡ Passed → Ran text_tests ts (text_nodes lnames left-text) (text_nodes rnames right-text) x v y → TextsSearched leftTable rightTable left-text right-text x v y
+  tables_passed : {v : Verdict} {y : SearchLists} → tables_stage ts ≡ Passed → Ran text_tests ts (text_nodes lnames left-text) (text_nodes rnames right-text) x v y → TextsSearched left_table right_table left-text right-text x v y
   unfolding texts_tests search_tests lent_tests search_verdict search_leaves texts_verdict texts_leaves
   tables_passed {v} {y} e ran = go text_tests refl
     where
-      searched : text_tests ≡ Passed → Searched ts (text_nodes lnames left-text) (text_nodes rnames right-text) x v y → TextsSearched leftTable rightTable left-text right-text x v y
+      searched : text_tests ≡ Passed → Searched ts (text_nodes lnames left-text) (text_nodes rnames right-text) x v y → TextsSearched left_table right_table left-text right-text x v y
       searched q s =
           let p = first_refused_passed (text_stage lnames left-text) (text_stage rnames right-text ∷ []) q in
           let l : text_stage lnames left-text ≡ Passed = p.0 in
           let r : text_stage rnames right-text ≡ Passed = (first_refused_passed (text_stage rnames right-text) [] p.1).0 in
-          let same : texts_tests leftTable rightTable left-text right-text x ≡ search_tests ts (text_nodes lnames left-text) (text_nodes rnames right-text) x =
+          let same : texts_tests left_table right_table left-text right-text x ≡ search_tests ts (text_nodes lnames left-text) (text_nodes rnames right-text) x =
           ap (λ (u : Tested). in_order (stages_of ts u (pair_of (text_nodes lnames left-text) (text_nodes rnames right-text)) lists Passed)) q in
           record {
-            answers = s.answers ∙ sym (ap (λ (t : Tested). verdict_after t (texts_answer leftTable rightTable left-text right-text x)) same);
-            leaves = s.leaves ∙ sym (ap (λ (t : Tested). lent_after t (texts_rows leftTable rightTable left-text right-text x) (texts_answer leftTable rightTable left-text right-text x) x) same);
-            equal_same = λ rows f. (texts_same leftTable rightTable left-text right-text l r (joint_sizes ts)).0 (s.equal_same rows f);
-            same_equal = λ f g. s.same_equal (sym same ∙ f) ((texts_same leftTable rightTable left-text right-text l r (joint_sizes ts)).1 g);
-            different_tells = λ sd n α f. (let t = s.different_tells sd n α f in record { long = t.long; tells = texts_tell_over leftTable rightTable left-text right-text l r sd α (take n y.trace) t.tells });
+            answers = s.answers ∙ sym (ap (λ (t : Tested). verdict_after t (texts_answer left_table right_table left-text right-text x)) same);
+            leaves = s.leaves ∙ sym (ap (λ (t : Tested). lent_after t (texts_rows left_table right_table left-text right-text x) (texts_answer left_table right_table left-text right-text x) x) same);
+            equal_same = λ rows f. (texts_same left_table right_table left-text right-text l r (joint_sizes ts)).0 (s.equal_same rows f);
+            same_equal = λ f g. s.same_equal (sym same ∙ f) ((texts_same left_table right_table left-text right-text l r (joint_sizes ts)).1 g);
+            different_tells = λ sd n α f. (let t = s.different_tells sd n α f in record { long = t.long; tells = texts_tell_over left_table right_table left-text right-text l r sd α (take n y.trace) t.tells });
             full_exactly = λ f. s.full_exactly (sym same ∙ f);
             full_place = s.full_place;
-            full_same = λ r' d f. texts_short leftTable rightTable left-text right-text l r (joint_sizes ts) d (s.full_same r' d f);
+            full_same = λ r' d f. texts_short left_table right_table left-text right-text l r (joint_sizes ts) d (s.full_same r' d f);
           }
 
-      go : (t : Tested) → text_tests ≡ t → TextsSearched leftTable rightTable left-text right-text x v y
+      go : (t : Tested) → text_tests ≡ t → TextsSearched left_table right_table left-text right-text x v y
       go Passed q = searched q (ran.searched q)
       go (Stopped r) q =
           let p = ran.stopped r q in
-          subst (λ (z : SearchLists). TextsSearched leftTable rightTable left-text right-text x v z) (sym p.1)
-          (subst (λ (w : Verdict). TextsSearched leftTable rightTable left-text right-text x w x) (sym p.0)
+          subst (λ (z : SearchLists). TextsSearched left_table right_table left-text right-text x v z) (sym p.1)
+          (subst (λ (w : Verdict). TextsSearched left_table right_table left-text right-text x w x) (sym p.0)
           (refused_by (order.texts_refused ts _ _ _ _ e q)))
 
   -- the names as each side may use them
   pub words_passed : {ln' rn' : List (List ℕ)} → ln' ≡ lnames → rn' ≡ rnames → {v : Verdict} {y : SearchLists} → tables_stage ts ≡ Passed
       → Ran (first_refused (text_stage ln' left-text ∷ text_stage rn' right-text ∷ [])) ts (text_nodes ln' left-text) (text_nodes rn' right-text) x v y
-      → TextsSearched leftTable rightTable left-text right-text x v y
+      → TextsSearched left_table right_table left-text right-text x v y
   words_passed {ln'} {rn'} p q {v} {y} e ran =
       tables_passed e
       (subst (λ (ns : List (List ℕ)). Ran (first_refused (text_stage lnames left-text ∷ text_stage ns right-text ∷ [])) ts (text_nodes lnames left-text) (text_nodes ns right-text) x v y) q

@@ -34,57 +34,57 @@ text_stage names text = tested names text 512
 abbrev pub text_policy : List (List ℕ) → List ℕ → NumberedPolicy
 text_policy names text = record { tree = text_tree names text; dups = dups_below (text_nodes names text) (node_count (text_nodes names text)) }
 
-module _ (leftTable right_table : Table) where
+module _ (left_table right_table : Table) where
   abbrev pub text_tables : List Table
-  text_tables = leftTable ∷ rightTable ∷ []
+  text_tables = left_table ∷ right_table ∷ []
 
   -- each text with the names of its side
   abbrev pub left_names : List (List ℕ)
-  left_names = text_names leftTable rightTable 1
+  left_names = text_names left_table right_table 1
 
   abbrev pub right_names : List (List ℕ)
-  right_names = text_names leftTable rightTable 2
+  right_names = text_names left_table right_table 2
 
   abbrev pub text_policies : List ℕ → List ℕ → Pair NumberedPolicy
   text_policies left right = record { left = text_policy left_names left; right = text_policy right_names right }
 
-module _ (leftTable right_table : Table) (left right : List ℕ) where
+module _ (left_table right_table : Table) (left right : List ℕ) where
   abbrev pub left_nodes : NodeLists
-  left_nodes = text_nodes (left_names leftTable rightTable) left
+  left_nodes = text_nodes (left_names left_table right_table) left
 
   abbrev pub right_nodes : NodeLists
-  right_nodes = text_nodes (right_names leftTable rightTable) right
+  right_nodes = text_nodes (right_names left_table right_table) right
 
   -- the core sizes and the classes, by what the two texts mention
   abbrev pub texts_core : List ℕ
-  texts_core = pair_core (text_tables leftTable rightTable) left_nodes right_nodes
+  texts_core = pair_core (text_tables left_table right_table) left_nodes right_nodes
 
   abbrev pub texts_classes : Classing
-  texts_classes = pair_classes (text_tables leftTable rightTable) left_nodes right_nodes
+  texts_classes = pair_classes (text_tables left_table right_table) left_nodes right_nodes
 
   -- the trace tells the texts apart over declared packets: that side's text alone has it (Figure 1)
   abbrev pub TextsTell : Side → ℕ → List ℕ → Type 0
   TextsTell s α trace =
-      TellsOver texts_classes (joint_sizes (text_tables leftTable rightTable)) (at s (text_policies leftTable rightTable left right)).tree (at (other s) (text_policies leftTable rightTable left right)).tree α trace
+      TellsOver texts_classes (joint_sizes (text_tables left_table right_table)) (at s (text_policies left_table right_table left right)).tree (at (other s) (text_policies left_table right_table left right)).tree α trace
 
-module _ (leftTable right_table : Table) (left right : List ℕ) (x : SearchLists) where
+module _ (left_table right_table : Table) (left right : List ℕ) (x : SearchLists) where
   abbrev L : NodeLists
-  L = left_nodes leftTable rightTable left right
+  L = left_nodes left_table right_table left right
 
   abbrev R : NodeLists
-  R = right_nodes leftTable rightTable left right
+  R = right_nodes left_table right_table left right
 
   abbrev sizes : List ℕ
-  sizes = joint_sizes (text_tables leftTable rightTable)
+  sizes = joint_sizes (text_tables left_table right_table)
 
   abbrev core : List ℕ
-  core = texts_core leftTable rightTable left right
+  core = texts_core left_table right_table left right
 
   -- the causes of the tables; 14 to 17 on the left text, then on the right; 4 to 9 and 19; 3; 10
   unfoldable pub texts_tests : Tested
   texts_tests =
       in_order
-      (stages_of (text_tables leftTable rightTable) (first_refused (text_stage (left_names leftTable rightTable) left ∷ text_stage (right_names leftTable rightTable) right ∷ [])) (pair_of L R)
+      (stages_of (text_tables left_table right_table) (first_refused (text_stage (left_names left_table right_table) left ∷ text_stage (right_names left_table right_table) right ∷ [])) (pair_of L R)
       (lists_stage (length x.packets ∷ length x.lefts ∷ length x.rights ∷ length x.parents ∷ []) (length x.work)) Passed)
 
   -- the theory's answer and rows, as for the search on the texts' nodes
@@ -107,16 +107,16 @@ module _ (leftTable right_table : Table) (left right : List ℕ) (x : SearchList
   -- the first n packets of the trace list tell the texts apart
   pub record TextsTelling (s : Side) (n α : ℕ) (trace : List ℕ) : Type 0 where
     pub long : length (take n trace) ≡ n
-    pub tells : TextsTell leftTable rightTable left right s α (take n trace)
+    pub tells : TextsTell left_table right_table left right s α (take n trace)
 
   -- The promise of the search on two texts; what is said of traces is said of declared packets, which have a value for each joint field.
   pub record TextsSearched (verdict : Verdict) (y : SearchLists) : Type 0 where
     pub answers : verdict ≡ texts_verdict
     pub leaves : y ≡ texts_leaves
     -- demand 2: equal only if both texts have the same traces from every packet
-    pub equal_same : (rows : ℕ) → verdict ≡ Equal rows → SameTracesDeclared sizes (text_tree (left_names leftTable rightTable) left) (text_tree (right_names leftTable rightTable) right)
+    pub equal_same : (rows : ℕ) → verdict ≡ Equal rows → SameTracesDeclared sizes (text_tree (left_names left_table right_table) left) (text_tree (right_names left_table right_table) right)
     -- and equal wherever they have, if the row order needs no more rows than were lent
-    pub same_equal : texts_tests ≡ Passed → SameTracesDeclared sizes (text_tree (left_names leftTable rightTable) left) (text_tree (right_names leftTable rightTable) right) → (NeedsMore (pair_system core (policies L R)) (length x.packets) → ⊥) → (rows : ℕ) × (verdict ≡ Equal rows)
+    pub same_equal : texts_tests ≡ Passed → SameTracesDeclared sizes (text_tree (left_names left_table right_table) left) (text_tree (right_names left_table right_table) right) → (NeedsMore (pair_system core (policies L R)) (length x.packets) → ⊥) → (rows : ℕ) × (verdict ≡ Equal rows)
     -- different only with a packet and trace that exactly one of them has, and no shorter trace tells the two apart from any packet
     pub different_tells : (s : Side) (n α : ℕ) → verdict ≡ telling_verdict s n α → TextsTelling s n α y.trace
     -- where no cause tested earlier holds, full comes exactly when the row order needs more rows than were lent
@@ -124,7 +124,7 @@ module _ (leftTable right_table : Table) (left right : List ℕ) (x : SearchList
     -- and it names the rows lent, and the depth of the row being handled
     pub full_place : (r : Refusal) (d : ℕ) → verdict ≡ Full r d → Full r d ≡ texts_full
     -- document 02, A.3: both texts have the same traces of d packets or fewer from every packet
-    pub full_same : (r : Refusal) (d : ℕ) → verdict ≡ Full r d → SameShortTracesDeclared sizes d (text_tree (left_names leftTable rightTable) left) (text_tree (right_names leftTable rightTable) right)
+    pub full_same : (r : Refusal) (d : ℕ) → verdict ≡ Full r d → SameShortTracesDeclared sizes d (text_tree (left_names left_table right_table) left) (text_tree (right_names left_table right_table) right)
 
 -- Inner: after these tests the search on node lists has run; where they refuse, nothing was done.
 pub record Ran (before : Tested) (ts : List Table) (L R : NodeLists) (x : SearchLists) (verdict : Verdict) (y : SearchLists) : Type 0 where

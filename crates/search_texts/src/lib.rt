@@ -1,4 +1,6 @@
 // The search on two texts (document 01, "Causes, in the order tested": a call on two texts; document 02, A.4).
+#![tactic(auto)]
+
 ghost use Rattle.std.specs.Prelude.{[], ◌∷◌, ◌≤◌, length};
 ghost use Rattle.packet.specs.Refusals.{first_refused};
 ghost use Rattle.fields.specs.Names.{names_in};

@@ -13,7 +13,7 @@ use lib.ListN as L
 use lib.ListN.{length, get_or, length-set}
 use lib.Seq.{get_or-set_same, get_or-set_other}
 use Rattle.packet.proofs.Lowest.{IsLowest}
-use Rattle.packet.proofs.Tests.{and-true as both_true}
+use Rattle.packet.proofs.Tests.{and_true as both_true}
 use Rattle.packet_set.specs.Bits.{mask_bits, bit, marked}
 use Rattle.packet_set.specs.InnerMembers.{member}
 use Rattle.packet_set.proofs.Digits.{bit_of_zero, bit_or_lem, bit_marked, shift_marks}

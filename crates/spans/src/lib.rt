@@ -1,5 +1,7 @@
 // Packet sets with the span of words that they may occupy: a set of few packets costs few words, however many packets there are.
 // Sets side by side in a list: slot n is the 32 words from word 32 n on. All functions here are inner.
+#![tactic(auto)]
+
 ghost use Rattle.std.specs.Prelude.{ℕ, ◌<◌, ◌≤◌, ◌≡◌, false, ◌&&◌, ◌||◌, T, ltb, length};
 ghost use Rattle.packet_set.specs.Bits.{mask_bits, bit};
 ghost use Rattle.packet_set.specs.InnerMembers.{member, empty_set, with_packet};
@@ -8,7 +10,7 @@ ghost use Rattle.spans.specs.Spans.{slot, Spanned, Rewritten, cleared_word, mark
 use packet_set::{Lowest, Mask, PacketWords};
 
 // The words `from` to `to` - 1 of a set; its other words are 0.
-#[derive(Drop)]
+#[derive(Clone, Copy)]
 pub struct Span {
     pub from: usize,
     pub to: usize,

@@ -1,1 +1,2 @@
 // The row order over an abstract deterministic system: definitions and laws only.
+#![tactic(auto)]

@@ -21,7 +21,7 @@ use Rattle.text.specs.declared.Step as Stepped
 use Rattle.text.specs.declared.Leaf as Leaves
 use Rattle.tokens.proofs.TokensLeft.{no_more, fewer_next}
 use Rattle.text.proofs.PutLaws.{negations_more}
-use Rattle.text.proofs.StepLaws.{leaf_item, scanned_none, scanned_more, star_turn, star_ends, sequence_starts, sequence_ends, sum_starts, sum_ends, done_got, done_stopped, done-as}
+use Rattle.text.proofs.StepLaws.{leaf_item, scanned_none, scanned_more, star_turn, star_ends, sequence_starts, sequence_ends, sum_starts, sum_ends, done_got, done_stopped, done_as}
 
 -- so many ! stand between the bytes at and i
 pub record Marked (names : List (List ℕ)) (text : List ℕ) (at count i : ℕ) : Type 0 where
@@ -143,7 +143,7 @@ module _ (names : List (List ℕ)) (text : List ℕ) (room : ℕ) where
 
   pub sequence_entry : {at nodes : ℕ} {L L₁ : NodeLists} {s : Stepped.Step} → Done starred names text at nodes room L s L₁ → Done joined names text at nodes room L s L₁
   unfolding Entered
-  sequence_entry d = done-as names text room d (λ g. sequence_starts names text room g) (λ b h. h.1)
+  sequence_entry d = done_as names text room d (λ g. sequence_starts names text room g) (λ b h. h.1)
 
   pub sequence_exit : {at nodes : ℕ} {L L₁ : NodeLists} {s : Stepped.Step} → s.ok ≡ true → (front_kind (tokens_from names text s.at) ≡ 7 → ⊥) → Done joined names text at nodes room L s L₁ → Done sequence names text at nodes room L s L₁
   sequence_exit o h d = done_got names text room o (sequence_ends names text room (d.got o) h)
@@ -154,7 +154,7 @@ module _ (names : List (List ℕ)) (text : List ℕ) (room : ℕ) where
 
   pub sum_entry : {at nodes : ℕ} {L L₁ : NodeLists} {s : Stepped.Step} → Done sequence names text at nodes room L s L₁ → Done added names text at nodes room L s L₁
   unfolding Entered nothing
-  sum_entry d = done-as names text room d (λ g. sum_starts names text room g) (λ b h. (ap (λ (x : Before). x.sequenced) h, ap (λ (x : Before). x.negations) h))
+  sum_entry d = done_as names text room d (λ g. sum_starts names text room g) (λ b h. (ap (λ (x : Before). x.sequenced) h, ap (λ (x : Before). x.negations) h))
 
   pub sum_exit : {at nodes : ℕ} {L L₁ : NodeLists} {s : Stepped.Step} → s.ok ≡ true → (front_kind (tokens_from names text s.at) ≡ 6 → ⊥) → Done added names text at nodes room L s L₁ → Done sum names text at nodes room L s L₁
   sum_exit o h d = done_got names text room o (sum_ends names text room (d.got o) h)

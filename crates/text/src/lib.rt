@@ -1,4 +1,6 @@
 // The text reader (document 01, "Text", and document 02, A.1 and A.4). Its tokens and their kinds are those of `tokens`.
+#![tactic(auto)]
+
 ghost use Rattle.std.specs.Prelude.{◌≡◌, true, false, cond, ◌+◌, ◌*◌, ◌^◌, ◌≤◌, ◌<◌, min, eqb, length, take, [], ◌∷◌};
 ghost use Rattle.packet.specs.Refusals.{refusal, refused_at, first_refused};
 ghost use Rattle.policy.specs.AsLists.{as_lists};

@@ -1,5 +1,7 @@
 // Tokens of a text, one at a time, as the reader asks for them. All functions here are inner.
 // Their kinds: 0 bad, 1 the end, 2 constant, 3 field, 4 number, 5 comparison, 6 +, 7 ;, 8 *, 9 (, 10 ), 11 !.
+#![tactic(auto)]
+
 mod bytes;
 pub mod words;
 

@@ -1,4 +1,6 @@
 // The trace checker (document 01, "Row rules for evidence"): which of two policies has a trace. `check` is the public call.
+#![tactic(auto)]
+
 ghost use Rattle.std.specs.Prelude.{◌≡◌, suc, length};
 ghost use Rattle.packet.specs.Lowest.{lowest, option_of};
 ghost use Rattle.fields.specs.Tables.{tables_at_entry};

@@ -1,4 +1,6 @@
 // Causes 8 and 9 of document 01 and 19 of document 02 on one policy: children and dups are counted, tests told from the rest.
+#![tactic(auto)]
+
 pub mod alone;
 
 ghost use Rattle.std.specs.Prelude.{◌≡◌, false, ◌&&◌, ◌<◌, pred, eqb, length, get_or};

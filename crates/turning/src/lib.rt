@@ -1,4 +1,6 @@
 // Turning packet numbers into field values and back (document 01, "Packets"): the public calls.
+#![tactic(auto)]
+
 ghost use Rattle.std.specs.Prelude.{◌≡◌, ◌<◌, length};
 ghost use Rattle.packet.specs.Lowest.{lowest, option_of};
 ghost use Rattle.packet.specs.Sizes.{LegalSizes, product};

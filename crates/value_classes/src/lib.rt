@@ -1,5 +1,7 @@
-// The classes of each field's values, worked out (document 02, A.7): what the policies of a call name, sorted, and by it class counts, the class of a
+// The classes of each field's values, worked out (document 02, A.7; nothing uses it yet): what the policies of a call name, sorted, and by it class counts, the class of a
 // value, the value shown for a class, and a policy's values by their classes. All functions here are inner.
+#![tactic(auto)]
+
 ghost use Rattle.std.specs.Prelude.{◌<◌, ◌≤◌, [], ◌∷◌, ◌≡◌, length};
 ghost use Rattle.policy.specs.AsLists.{as_lists, policy_at_entry};
 ghost use Rattle.policy.specs.NodeLists.{node_of};

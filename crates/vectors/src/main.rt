@@ -6,9 +6,12 @@
 // what it takes, in the order of include/netkat.h, its tables first. A list that the call may write is its length; each entry is 7 before the call. A
 // list that it only reads is the number of its parts, and for each part how often it stands there, at least once, how many
 // entries it has, at least one, and these. An entry of 64 bits is its four quarters, the highest first.
+#![tactic(auto)]
+
 ghost use Rattle.std.specs.Prelude.{◌≡◌, ◌≤◌, length};
 
 use harness::{Built, ScannedMask};
+use std::io::{Stdin, Stdout};
 
 // Where a list is being read: the parts and the turns of the part that are left, where the part's entries start and how many
 // they are, those left of this turn; whether there was a further entry, and which.
@@ -164,13 +167,13 @@ fn wide8(x: u8) -> u64
     x as u64
 }
 
-fn show_sum(sum: u64) {
-    harness::space();
-    harness::number(sum);
+fn show_sum(stdout: Stdout, sum: u64) {
+    harness::space(stdout);
+    harness::number(stdout, sum);
 }
 
 // The sum over the first entries.
-fn sum8(list: &[u8; 600], count: usize) {
+fn sum8(stdout: Stdout, list: &[u8; 600], count: usize) {
     let n = harness::least(count, 600);
     let mut sum: u64 = 1;
     let mut i: usize = 0;
@@ -178,10 +181,10 @@ fn sum8(list: &[u8; 600], count: usize) {
         sum = added(sum, wide8(list[i]));
         i += 1;
     }
-    show_sum(sum);
+    show_sum(stdout, sum);
 }
 
-fn sum16(list: &[u16; 66000], count: usize) {
+fn sum16(stdout: Stdout, list: &[u16; 66000], count: usize) {
     let n = harness::least(count, 66000);
     let mut sum: u64 = 1;
     let mut i: usize = 0;
@@ -189,10 +192,10 @@ fn sum16(list: &[u16; 66000], count: usize) {
         sum = added(sum, harness::wide(list[i]));
         i += 1;
     }
-    show_sum(sum);
+    show_sum(stdout, sum);
 }
 
-fn sum32(list: &[u32; 66000], count: usize) {
+fn sum32(stdout: Stdout, list: &[u32; 66000], count: usize) {
     let n = harness::least(count, 66000);
     let mut sum: u64 = 1;
     let mut i: usize = 0;
@@ -200,11 +203,11 @@ fn sum32(list: &[u32; 66000], count: usize) {
         sum = added(sum, harness::wide32(list[i]));
         i += 1;
     }
-    show_sum(sum);
+    show_sum(stdout, sum);
 }
 
 // The sum over the halves of the first entries, the upper half first.
-fn sum64(list: &[u64; 66000], count: usize) {
+fn sum64(stdout: Stdout, list: &[u64; 66000], count: usize) {
     let n = harness::least(count, 66000);
     let mut sum: u64 = 1;
     let mut i: usize = 0;
@@ -213,18 +216,19 @@ fn sum64(list: &[u64; 66000], count: usize) {
         sum = added(added(sum, x / 4294967296), x);
         i += 1;
     }
-    show_sum(sum);
+    show_sum(stdout, sum);
 }
 
-fn show(answer: &[u64; 8]) {
+fn show(stdout: Stdout, answer: &[u64; 8]) {
     let mut i: usize = 0;
     while i < 8 {
-        show_sum(answer[i]);
+        show_sum(stdout, answer[i]);
         i += 1;
     }
 }
 
 fn values(
+    stdout: Stdout,
     input: &[u8],
     from: usize,
     left_names: &[u8],
@@ -258,12 +262,13 @@ fn values(
         &mut values[..vn],
         &mut answer,
     );
-    show(&answer);
-    sum16(&values, vn);
+    show(stdout, &answer);
+    sum16(stdout, &values, vn);
     v.at
 }
 
 fn number(
+    stdout: Stdout,
     input: &[u8],
     from: usize,
     left_names: &[u8],
@@ -295,11 +300,12 @@ fn number(
         &values[..vn],
         &mut answer,
     );
-    show(&answer);
+    show(stdout, &answer);
     v.at
 }
 
 fn policy(
+    stdout: Stdout,
     input: &[u8],
     from: usize,
     left_names: &[u8],
@@ -327,11 +333,12 @@ fn policy(
         &second[..sen],
         &mut answer,
     );
-    show(&answer);
+    show(stdout, &answer);
     se.at
 }
 
 fn read(
+    stdout: Stdout,
     input: &[u8],
     from: usize,
     left_names: &[u8],
@@ -365,14 +372,15 @@ fn read(
         &mut second[..sen],
         &mut answer,
     );
-    show(&answer);
-    sum8(&kind, kn);
-    sum16(&first, fin);
-    sum16(&second, sen);
+    show(stdout, &answer);
+    sum8(stdout, &kind, kn);
+    sum16(stdout, &first, fin);
+    sum16(stdout, &second, sen);
     se.at
 }
 
 fn search(
+    stdout: Stdout,
     input: &[u8],
     from: usize,
     left_names: &[u8],
@@ -424,17 +432,18 @@ fn search(
         &mut work[..wn],
         &mut answer,
     );
-    show(&answer);
-    sum16(&packet, pn);
-    sum64(&left, ln);
-    sum64(&right, rn);
-    sum16(&parent, qn);
-    sum16(&trace, tn);
-    sum32(&work, wn);
+    show(stdout, &answer);
+    sum16(stdout, &packet, pn);
+    sum64(stdout, &left, ln);
+    sum64(stdout, &right, rn);
+    sum16(stdout, &parent, qn);
+    sum16(stdout, &trace, tn);
+    sum32(stdout, &work, wn);
     w.at
 }
 
 fn evidence(
+    stdout: Stdout,
     input: &[u8],
     from: usize,
     left_names: &[u8],
@@ -478,12 +487,13 @@ fn evidence(
         &mut work[..wn],
         &mut answer,
     );
-    show(&answer);
-    sum32(&work, wn);
+    show(stdout, &answer);
+    sum32(stdout, &work, wn);
     w.at
 }
 
 fn trace(
+    stdout: Stdout,
     input: &[u8],
     from: usize,
     left_names: &[u8],
@@ -521,12 +531,13 @@ fn trace(
         &mut work[..wn],
         &mut answer,
     );
-    show(&answer);
-    sum32(&work, wn);
+    show(stdout, &answer);
+    sum32(stdout, &work, wn);
     w.at
 }
 
 fn texts_read(
+    stdout: Stdout,
     input: &[u8],
     from: usize,
     left_names: &[u8],
@@ -570,17 +581,18 @@ fn texts_read(
         &mut work[..wn],
         &mut answer,
     );
-    show(&answer);
-    sum16(&packet, pn);
-    sum64(&left, ln);
-    sum64(&right, rn);
-    sum16(&parent, qn);
-    sum16(&trace, tn);
-    sum32(&work, wn);
+    show(stdout, &answer);
+    sum16(stdout, &packet, pn);
+    sum64(stdout, &left, ln);
+    sum64(stdout, &right, rn);
+    sum16(stdout, &parent, qn);
+    sum16(stdout, &trace, tn);
+    sum32(stdout, &work, wn);
     w.at
 }
 
 fn texts(
+    stdout: Stdout,
     input: &[u8],
     from: usize,
     left_names: &[u8],
@@ -595,6 +607,7 @@ fn texts(
     let ltn = lt.len;
     let rtn = rt.len;
     texts_read(
+        stdout,
         input,
         rt.at,
         left_names,
@@ -607,6 +620,7 @@ fn texts(
 }
 
 fn policies(
+    stdout: Stdout,
     from: usize,
     left_names: &[u8],
     left_sizes: &[u16],
@@ -633,12 +647,13 @@ fn policies(
         right_second,
         &mut answer,
     );
-    show(&answer);
+    show(stdout, &answer);
     from
 }
 
 // A call on two policies.
 fn of_pair(
+    stdout: Stdout,
     call: u32,
     input: &[u8],
     from: usize,
@@ -655,6 +670,7 @@ fn of_pair(
 ) -> usize {
     if call == 0 {
         return values(
+            stdout,
             input,
             from,
             left_names,
@@ -671,6 +687,7 @@ fn of_pair(
     }
     if call == 1 {
         return number(
+            stdout,
             input,
             from,
             left_names,
@@ -687,6 +704,7 @@ fn of_pair(
     }
     if call == 4 {
         return search(
+            stdout,
             input,
             from,
             left_names,
@@ -703,6 +721,7 @@ fn of_pair(
     }
     if call == 5 {
         return evidence(
+            stdout,
             input,
             from,
             left_names,
@@ -719,6 +738,7 @@ fn of_pair(
     }
     if call == 8 {
         return policies(
+            stdout,
             from,
             left_names,
             left_sizes,
@@ -733,6 +753,7 @@ fn of_pair(
         );
     }
     trace(
+        stdout,
         input,
         from,
         left_names,
@@ -749,6 +770,7 @@ fn of_pair(
 }
 
 fn pair(
+    stdout: Stdout,
     call: u32,
     input: &[u8],
     from: usize,
@@ -776,6 +798,7 @@ fn pair(
     let rfn = rf.len;
     let rsn = rs.len;
     of_pair(
+        stdout,
         call,
         input,
         rs.at,
@@ -793,6 +816,7 @@ fn pair(
 }
 
 fn with_tables(
+    stdout: Stdout,
     call: u32,
     input: &[u8],
     from: usize,
@@ -803,6 +827,7 @@ fn with_tables(
 ) -> usize {
     if call == 2 {
         return policy(
+            stdout,
             input,
             from,
             left_names,
@@ -813,6 +838,7 @@ fn with_tables(
     }
     if call == 3 {
         return read(
+            stdout,
             input,
             from,
             left_names,
@@ -823,6 +849,7 @@ fn with_tables(
     }
     if call == 7 {
         return texts(
+            stdout,
             input,
             from,
             left_names,
@@ -832,6 +859,7 @@ fn with_tables(
         );
     }
     pair(
+        stdout,
         call,
         input,
         from,
@@ -843,7 +871,7 @@ fn with_tables(
 }
 
 // A call has its tables first.
-fn one_call(input: &[u8], from: usize) -> usize {
+fn one_call(stdout: Stdout, input: &[u8], from: usize) -> usize {
     let call = harness::scan(input, from);
     let mut left_names = [0u8; 66000];
     let ln = harness::build(input, call.at, &mut left_names);
@@ -858,6 +886,7 @@ fn one_call(input: &[u8], from: usize) -> usize {
     let rnn = rn.len;
     let rsn = rs.len;
     with_tables(
+        stdout,
         call.value,
         input,
         rs.at,
@@ -868,30 +897,30 @@ fn one_call(input: &[u8], from: usize) -> usize {
     )
 }
 
-fn run(input: &[u8]) {
+fn run(stdout: Stdout, input: &[u8]) {
     let mut at = harness::next_digit(input, 0);
     let mut i: usize = 0;
     while i < input.len() {
         if input.len() <= at {
             return;
         }
-        at = harness::next_digit(input, one_call(input, at));
-        harness::line_end();
+        at = harness::next_digit(input, one_call(stdout, input, at));
+        harness::line_end(stdout);
         i += 1;
     }
 }
 
 // A block of the input is 65,536 bytes, the last one may be shorter; no call goes over a block's end.
-fn block() {
-    let mut input = io::large_buffer();
-    let n = io::read_full(0, &mut input);
-    run(&input[..n]);
+fn block(stdin: Stdin, stdout: Stdout) {
+    let mut input = [0u8; 65536];
+    let n = harness::read_full(stdin, &mut input);
+    run(stdout, &input[..n]);
 }
 
-fn main() {
+fn main(rt: HostRuntime) {
     let mut i: usize = 0;
     while i < 64 {
-        block();
+        block(rt.stdin(), rt.stdout());
         i += 1;
     }
 }

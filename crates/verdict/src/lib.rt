@@ -1,5 +1,7 @@
 // What the search answers where the row order has ended, and the telling trace (document 01, "States and rows"; document 02, A.3). All
 // functions here are inner; `Verdict` is the public answer.
+#![tactic(auto)]
+
 ghost use Rattle.std.specs.Prelude.{cond, ◌≡◌, length};
 ghost use Rattle.pair.specs.Sides.{left, right};
 ghost use Rattle.pair.specs.Search.{rows_full};

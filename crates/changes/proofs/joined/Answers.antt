@@ -1,0 +1,7 @@
+-- `joined` meets its contract. Assumes nothing.
+use borrow.Author.Rules.{rules}
+use Rattle.changes.proofs.Folds.{joined_bits}
+use Rattle.changes.proofs.joined.Goals as goal
+
+pub returns : goal.returns
+returns c = joined_bits _ _ _ (search rules)

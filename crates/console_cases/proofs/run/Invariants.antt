@@ -1,0 +1,12 @@
+-- `console_cases::run` ends: it counts its turns.
+-- Assumes nothing.
+use Prim.Native.Nat.{◌-◌, ◌≤◌}
+use mathlib.Core.Path.{◌≡◌}
+use lib.ListN.{length}
+use Rattle.console_cases.proofs.run.Given as goal
+
+abbrev pub invariant-loop : goal.invariant-loop
+invariant-loop l = (l.counter ≤ l.end) × (length l.given ≡ length l.initial.given)
+
+abbrev pub decreases-loop : goal.decreases-loop
+decreases-loop l = l.end - l.counter

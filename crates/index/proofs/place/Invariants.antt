@@ -1,0 +1,10 @@
+-- `index::place` meets its contract: a look goes from a row to a child whose number is above its own. Assumes nothing.
+use Prim.Native.Nat.{◌-◌}
+use Rattle.index.proofs.Looking.{Looking}
+use Rattle.index.proofs.place.Given as goal
+
+abbrev pub invariant-loop-row : goal.invariant-loop-row
+invariant-loop-row l = Looking l.packets l.left l.right l.count l.n l.trees l.row l.slot l.depth
+
+abbrev pub decreases-loop-row : goal.decreases-loop-row
+decreases-loop-row l = l.n - l.depth

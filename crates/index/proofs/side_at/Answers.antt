@@ -1,0 +1,6 @@
+-- `index::side_at` meets its contract. Assumes nothing.
+use Rattle.index.proofs.Trees.{side_is}
+use Rattle.index.proofs.side_at.Goals as goal
+
+pub returns : goal.returns
+returns c = side_is _ _ _ c.wide_mask.ensures.0

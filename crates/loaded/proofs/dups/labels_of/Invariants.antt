@@ -1,0 +1,12 @@
+-- `labels_of` meets its contract. Assumes nothing.
+use Prim.Native.Nat.{◌-◌}
+use lib.ListN.{length}
+use Rattle.policy.specs.AsLists.{as_lists}
+use Rattle.loaded.proofs.Labelling.{Counting}
+use Rattle.loaded.proofs.dups.labels_of.Given as goal
+
+abbrev pub invariant-loop-n : goal.invariant-loop-n
+invariant-loop-n l = Counting (as_lists l.kind l.first l.second) l.labels l.d l.n
+
+abbrev pub decreases-loop-n : goal.decreases-loop-n
+decreases-loop-n l = length l.kind - l.n

@@ -1,0 +1,24 @@
+-- `second_parts` meets its contract. Assumes nothing.
+use Prim.Native.Nat.{◌-◌}
+use mathlib.Core.Path.{refl}
+use Rattle.policy.specs.NodeLists.{node_count}
+use Rattle.loaded.proofs.Trees.{in_lists, placed_read}
+use Rattle.loaded.proofs.Guarding.{no_seconds, more_seconds}
+use Rattle.loaded.proofs.slots.second_parts.Goals as goal
+
+pub loop-n-init : goal.loop-n-init
+loop-n-init c = no_seconds _ refl
+
+pub node_at-requires : goal.node_at-requires
+unfolding node_count
+node_at-requires c = in_lists _ c.requires _ c.loop-n-test.true
+
+pub flag_second-requires : goal.flag_second-requires
+unfolding node_count
+flag_second-requires c = placed_read _ c.requires _ c.loop-n-test.true _ c.node_at.ensures
+
+pub loop-n-preserved : goal.loop-n-preserved
+loop-n-preserved c = more_seconds _ _ c.loop-n.invariant _ c.flag_second.ensures
+
+pub returns : goal.returns
+returns c = c.loop-n.invariant

@@ -1,0 +1,8 @@
+-- `contains` meets its contract. Assumes nothing.
+use Rattle.packet_set.specs.InnerMembers.{member}
+use Rattle.packet_set.proofs.Digits.{shift_tests}
+use Rattle.packet_set.proofs.contains.Goals as goal
+
+pub returns : goal.returns
+unfolding member
+returns c = shift_tests _ _

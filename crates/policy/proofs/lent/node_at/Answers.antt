@@ -1,0 +1,49 @@
+-- `node_at` meets its contract: the kind's arm gives the node. Assumes nothing.
+use mathlib.Core.Path.{sym}
+use Rattle.policy.specs.NodeLists.{node_of, node_at}
+use Rattle.policy.proofs.ReadLaws.{no_kind, of_kind}
+use Rattle.policy.proofs.lent.node_at.Goals as goal
+
+pub returns-in-0 : goal.returns-in-0
+unfolding node_of
+returns-in-0 c = of_kind _ _ 0 c.in-0.is
+
+pub returns-in-1 : goal.returns-in-1
+unfolding node_of
+returns-in-1 c = of_kind _ _ 1 c.in-1.is
+
+pub returns-in-2 : goal.returns-in-2
+unfolding node_of
+returns-in-2 c = of_kind _ _ 2 c.in-2.is
+
+pub returns-in-3 : goal.returns-in-3
+unfolding node_of
+returns-in-3 c = of_kind _ _ 3 c.in-3.is
+
+pub returns-in-4 : goal.returns-in-4
+unfolding node_of
+returns-in-4 c = of_kind _ _ 4 c.in-4.is
+
+pub returns-in-5 : goal.returns-in-5
+unfolding node_of
+returns-in-5 c = of_kind _ _ 5 c.in-5.is
+
+pub returns-in-6 : goal.returns-in-6
+unfolding node_of
+returns-in-6 c = of_kind _ _ 6 c.in-6.is
+
+pub returns-in-7 : goal.returns-in-7
+unfolding node_of
+returns-in-7 c = of_kind _ _ 7 c.in-7.is
+
+pub returns-in-8 : goal.returns-in-8
+unfolding node_of
+returns-in-8 c = of_kind _ _ 8 c.in-8.is
+
+pub returns-in-9 : goal.returns-in-9
+unfolding node_of
+returns-in-9 c = of_kind _ _ 9 c.in-9.is
+
+pub returns-in_default : goal.returns-in_default
+unfolding node_at
+returns-in_default c = sym (no_kind _ _ _ c.in_default.in_default-own.rest)

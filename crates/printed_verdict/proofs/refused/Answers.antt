@@ -1,0 +1,7 @@
+-- `refused` meets its contract.
+use Rattle.printed_verdict.specs.Output.{refusal_line, word_refused}
+use Rattle.printed_verdict.proofs.refused.Goals as goal
+
+pub returns : goal.returns
+unfolding refusal_line word_refused
+returns c = c.verdict.ensures.wrote
