@@ -4,7 +4,7 @@
  * to return. Not proved: that this header declares the functions as they are compiled (a script compares the two), the compiler, and
  * how much time and stack a call takes; docs/TRUST.md lists what is assumed.
  *
- * Linking. libexports.a (`rt staticlib exports`) is code for x86-64 Linux. It calls `memcpy` and `memset` of the C library
+ * Linking. libexports.a (`tools/build library`) is code for x86-64 Linux. It calls `memcpy` and `memset` of the C library
  * and nothing else: no memory is allocated, nothing is read or written but the lists of a call.
  *
  * Lists. A list is a pointer and the number of its entries. The pointer points to so many entries and is aligned for
@@ -62,9 +62,9 @@
  * the row lists and that the work list is all 0 whenever 10 has passed.
  *
  * Stack. A call needs up to NETKAT_STACK bytes of stack, 4 MiB. Measured on policies as deep as they may be, in KiB:
- *   netkat_values 3, netkat_number 3, netkat_policy 3, netkat_policies 3, netkat_read 77,
- *   netkat_search 884, netkat_search_texts 890, netkat_evidence 877, netkat_evidence_rows 2029,
- *   netkat_trace 447
+ *   netkat_values 4, netkat_number 4, netkat_policy 4, netkat_policies 4, netkat_read 46,
+ *   netkat_search 868, netkat_search_texts 873, netkat_evidence 861, netkat_evidence_rows 2013,
+ *   netkat_trace 431
  * A thread with too little meets its guard page, and the process ends.
  *
  * Time. Small calls take microseconds, searches and checks of evidence mostly milliseconds. On the costliest policies a row may take

@@ -13,7 +13,7 @@ def crates():
         head = re.match(r"# == ([^:]+): (.*)", line)
         if head:
             section, about = head.groups()
-        entry = re.match(r"([a-z0-9_]+):([^#]*)", line)
+        entry = re.match(r"([a-z0-9_]+)(?: staticlib)?:([^#]*)", line)
         if entry:
             found.append((section, about, entry.group(1), entry.group(2).split()))
     return found
@@ -27,11 +27,25 @@ def sections():
     return [(section, about, names) for section, (about, names) in found.items()]
 
 
+def below(crate):
+    """The crates that a crate stands on, each after those that it stands on itself."""
+    on, found = {name: under for _, _, name, under in crates()}, []
+
+    def visit(name):
+        for under in on[name]:
+            if under in on and under not in found:
+                visit(under)
+                found.append(under)
+
+    visit(crate)
+    return found
+
+
 def first_sentence(path):
     """The first sentence of the comment at a file's head, without its stop."""
     said = []
     for line in path.read_text().splitlines():
-        comment = re.match(r"(?://|--|#) ?(.*)", line)
+        comment = re.match(r"(?://|--|#(?!!?\[)) ?(.*)", line)
         if not comment:
             break
         said.append(comment.group(1))
@@ -128,7 +142,7 @@ class Specs:
                     current = Declaration(rest[0], "record" in words)
                     current.words |= modules[-1][1] if modules else set()
                     self.declarations.append(current)
-                elif current is None or (words[0] not in current.names and not current.name.startswith("_")):
+                elif current is None or (words[0] not in current.names and not current.name.startswith("◌")):
                     again = [d for d in self.declarations if words[0] in d.names]
                     current = again[0] if again else current
             elif current is not None and len(words) > 1:
@@ -143,7 +157,7 @@ class Specs:
                 current.lines += 1
 
     def use(self, use):
-        match = re.match(r"Rattle·([a-z0-9_]+)(?:·specs)?\.specs\.([\w.-]+?)(?:\.\{([^}]*)\}| as (\S+))?\s*$", use)
+        match = re.match(r"Rattle\.([a-z0-9_]+)\.specs\.([\w.-]+?)(?:\.\{([^}]*)\}| as (\S+))?\s*$", use)
         if not match:
             return
         crate, module, names, alias = match.groups()
@@ -174,7 +188,7 @@ def functions(crate):
 def ghost_uses(path):
     """The names that a source file brings in from specs/."""
     found = {}
-    for crate, module, names in re.findall(r"^ghost use Rattle·([a-z0-9_]+)(?:·specs)?\.specs\.([\w.-]+)\.\{([^}]*)\};", path.read_text(), re.M):
+    for crate, module, names in re.findall(r"^ghost use Rattle\.([a-z0-9_]+)\.specs\.([\w.-]+)\.\{([^}]*)\};", path.read_text(), re.M):
         for name in names.split(","):
             real, _, local = name.strip().partition(" as ")
             found[(local or real).strip()] = (crate, module, real.strip())
@@ -209,7 +223,7 @@ def reached():
     def follow(words, imports, local=None):
         for word in words:
             word = word.lstrip(".").rstrip(".")
-            for name in {word, "_" + word + "_"}:
+            for name in {word, "◌" + word + "◌"}:
                 if name in imports:
                     crate, module, real = imports[name]
                     if real is not None:
