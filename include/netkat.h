@@ -4,7 +4,7 @@
  * to return. Not proved: that this header declares the functions as they are compiled (a script compares the two), the compiler, and
  * how much time and stack a call takes; docs/TRUST.md lists what is assumed.
  *
- * Linking. libexports.a (`tools/build library`) is code for x86-64 Linux. It calls `memcpy` and `memset` of the C library
+ * Linking. libexports.a (`tools/build library`) is code for x86-64-v2 Linux (SSE4.2 and POPCNT; it does not look whether the processor has them). It calls `memcpy` and `memset` of the C library
  * and nothing else: no memory is allocated, nothing is read or written but the lists of a call.
  *
  * Lists. A list is a pointer and the number of its entries. The pointer points to so many entries and is aligned for
