@@ -10,8 +10,8 @@ use lib.Dec.{T}
 use lib.ListN.{length, take, drop, length-map}
 use lib.Seq.{take-append_seam}
 use Rattle.packet.specs.declared.Refusal.{Refusal}
-use Rattle.packet.specs.declared.Tested.{Tested}
-use Rattle.packet.specs.declared.Tested.TheVariants.{Passed, Refused as Stopped}
+use Rattle.packet.specs.Refusals.{Tested}
+use Rattle.std.specs.Prelude.{Ok, Err}
 use Rattle.packet.specs.Sizes.{product}
 use Rattle.policy.specs.Order.{pair_core, pair_tests}
 use Rattle.policy.specs.Meaning.{declared, Traces, SameShortTraces}
@@ -48,23 +48,23 @@ unfolding written
 take_written xs old n e = ap (λ k. take k (xs ++ drop (length xs) old)) (sym e) ∙ take-append_seam xs (drop (length xs) old)
 
 -- a verdict that is not a refusal: the tests passed
-passed_equal : (t : Tested) (a : SearchAnswer) (n : ℕ) → Equal n ≡ verdict_after t a → (t ≡ Passed) × (verdict_of a ≡ Equal n)
+passed_equal : (t : Tested) (a : SearchAnswer) (n : ℕ) → Equal n ≡ verdict_after t a → (t ≡ Ok tt) × (verdict_of a ≡ Equal n)
 unfolding verdict_after
-passed_equal Passed a n e = (refl, sym e)
-passed_equal (Stopped r) a n e = let z : ◌≡◌ {A = ℕ} 0 1 = cc in absurd (zero≢one z)
+passed_equal (Ok _) a n e = (refl, sym e)
+passed_equal (Err r) a n e = let z : ◌≡◌ {A = ℕ} 0 1 = cc in absurd (zero≢one z)
 
-passed_telling : (t : Tested) (a : SearchAnswer) (s : Side) (n α : ℕ) → telling_verdict s n α ≡ verdict_after t a → (t ≡ Passed) × (verdict_of a ≡ telling_verdict s n α)
+passed_telling : (t : Tested) (a : SearchAnswer) (s : Side) (n α : ℕ) → telling_verdict s n α ≡ verdict_after t a → (t ≡ Ok tt) × (verdict_of a ≡ telling_verdict s n α)
 unfolding verdict_after
-passed_telling Passed a s n α e = (refl, sym e)
-passed_telling (Stopped r) a left n α e = let z : ◌≡◌ {A = ℕ} 0 1 = cc in absurd (zero≢one z)
-passed_telling (Stopped r) a right n α e = let z : ◌≡◌ {A = ℕ} 0 1 = cc in absurd (zero≢one z)
+passed_telling (Ok _) a s n α e = (refl, sym e)
+passed_telling (Err r) a left n α e = let z : ◌≡◌ {A = ℕ} 0 1 = cc in absurd (zero≢one z)
+passed_telling (Err r) a right n α e = let z : ◌≡◌ {A = ℕ} 0 1 = cc in absurd (zero≢one z)
 
 module _ (ts : List Table) (L R : NodeLists) (x y : SearchLists) where
-  pair_passed : search_tests ts L R x ≡ Passed → pair_tests ts L R ≡ Passed
+  pair_passed : search_tests ts L R x ≡ Ok tt → pair_tests ts L R ≡ Ok tt
   unfolding search_tests
   pair_passed e = lent_pair ts L R _ e
 
-  left_as : search_tests ts L R x ≡ Passed → {verdict : Verdict} → Searched ts L R x verdict y → y ≡ filled (rows_here (pair_core ts L R) L R x) (answer_here (pair_core ts L R) L R x) x
+  left_as : search_tests ts L R x ≡ Ok tt → {verdict : Verdict} → Searched ts L R x verdict y → y ≡ filled (rows_here (pair_core ts L R) L R x) (answer_here (pair_core ts L R) L R x) x
   unfolding search_leaves lent_after
   left_as p D = D.leaves ∙ ap (λ (t : Tested). lent_after t (rows_here (pair_core ts L R) L R x) (answer_here (pair_core ts L R) L R x) x) p
 

@@ -1,17 +1,8 @@
 -- The eight numbers that each answer has in the C interface. The first: 0 done, equal or accepted; 1 left; 2 right; 3 both; 4 neither;
 -- 5 rejected; 9 refused. Numbers not used are 0.
-use Rattle.std.specs.Prelude.{ℕ, List, [], ◌∷◌}
+use Rattle.std.specs.Prelude.{ℕ, List, [], ◌∷◌, Result, Ok, Err}
+use Rattle.packet.specs.Refusals.{Tested}
 use Rattle.packet.specs.declared.Refusal.{Refusal}
-use Rattle.turning.specs.declared.Values.{Values}
-use Rattle.turning.specs.declared.Values.TheVariants.{Written, Refused as ValuesRefused}
-use Rattle.turning.specs.declared.Number.{Number}
-use Rattle.turning.specs.declared.Number.TheVariants.{Packet, Refused as NumberRefused}
-use Rattle.legality.specs.declared.PolicyAnswer.{PolicyAnswer}
-use Rattle.legality.specs.declared.PolicyAnswer.TheVariants.{Legal, Refused as PolicyRefused}
-use Rattle.legality.specs.declared.PairAnswer.{PairAnswer}
-use Rattle.legality.specs.declared.PairAnswer.TheVariants.{Legal as BothLegal, Refused as PairRefused}
-use Rattle.grammar.specs.declared.Answer.{Answer}
-use Rattle.grammar.specs.declared.Answer.TheVariants.{Nodes, Refused as TextRefused}
 use Rattle.verdict.specs.declared.Verdict.{Verdict}
 use Rattle.verdict.specs.declared.Verdict.TheVariants.{Equal, Left, Right, Full, Refused as SearchRefused}
 use Rattle.evidence.specs.declared.Evidence.{Evidence}
@@ -27,29 +18,20 @@ eight a b c d = a ∷ b ∷ c ∷ d ∷ 0 ∷ 0 ∷ 0 ∷ 0 ∷ []
 unfoldable pub refused_numbers : Refusal → List ℕ
 refused_numbers r = eight 9 r.number r.side r.place
 
-unfoldable pub values_numbers : Values → List ℕ
-values_numbers Written = eight 0 0 0 0
-values_numbers (ValuesRefused r) = refused_numbers r
+-- a number turned into values, which stand in the lent list
+unfoldable pub values_numbers : Tested → List ℕ
+values_numbers (Ok _) = eight 0 0 0 0
+values_numbers (Err r) = refused_numbers r
 
--- the packet
-unfoldable pub number_numbers : Number → List ℕ
-number_numbers (Packet n) = eight 0 n 0 0
-number_numbers (NumberRefused r) = refused_numbers r
-
--- the dups
-unfoldable pub policy_numbers : PolicyAnswer → List ℕ
-policy_numbers (Legal dups) = eight 0 dups 0 0
-policy_numbers (PolicyRefused r) = refused_numbers r
+-- one number: values turned into the packet, a policy's dups, a text's nodes
+unfoldable pub count_numbers : Result ℕ Refusal → List ℕ
+count_numbers (Ok n) = eight 0 n 0 0
+count_numbers (Err r) = refused_numbers r
 
 -- the dups of the left policy, of the right policy
-unfoldable pub pair_numbers : PairAnswer → List ℕ
-pair_numbers (BothLegal left right) = eight 0 left right 0
-pair_numbers (PairRefused r) = refused_numbers r
-
--- the nodes
-unfoldable pub text_numbers : Answer → List ℕ
-text_numbers (Nodes n) = eight 0 n 0 0
-text_numbers (TextRefused r) = refused_numbers r
+unfoldable pub pair_numbers : Result (ℕ × ℕ) Refusal → List ℕ
+pair_numbers (Ok dups) = eight 0 dups.0 dups.1 0
+pair_numbers (Err r) = refused_numbers r
 
 -- refusal 11: number, side, place, and how far the two agree
 unfoldable pub full_numbers : Refusal → ℕ → List ℕ

@@ -1,4 +1,2 @@
-pub mod MergeLaws
 pub mod SortLaws
 pub mod RankLaws
-pub mod PlaceLaws

@@ -1,2 +1,1 @@
 pub mod Sorting
-pub mod Merges

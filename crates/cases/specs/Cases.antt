@@ -1,27 +1,18 @@
 -- Document 01, "Pairs to hold against it": P1 to P11 from document 01's own texts, its edges, and further pairs, document 02's too, as one
 -- table of calls.
 -- A line is a call with every list lent to it, and the answer and the lists that are stated; `result_of` is what the calls promise.
-use Rattle.std.specs.Prelude.{ℕ, zero, suc, ◌+◌, ◌-◌, List, [], ◌∷◌, ◌++◌, length, replicate}
+use Rattle.std.specs.Prelude.{ℕ, zero, suc, ◌+◌, ◌-◌, List, [], ◌∷◌, ◌++◌, Result, Ok, Err, length, replicate}
 use Prim.Native.Char.{code}
 use Prim.Native.String.{String, [] as no_text, ◌∷◌ as ◌thenText◌}
-use Rattle.packet.specs.Refusals.{refusal}
+use Rattle.packet.specs.declared.Refusal.{Refusal}
+use Rattle.packet.specs.Refusals.{Tested, refusal}
 use Rattle.fields.specs.Tables.{Table, table}
 use Rattle.policy.specs.NodeLists.{NodeLists}
 use Rattle.policy.specs.AsLists.{as_lists}
 use Rattle.policy.specs.NodesOfTree.{nodes_of}
-use Rattle.turning.specs.Turning.{values_tests, values_answer, values_left, number_call}
-use Rattle.turning.specs.declared.Values.{Values}
-use Rattle.turning.specs.declared.Values.TheVariants.{Written, Refused as ValuesRefused}
-use Rattle.turning.specs.declared.Number.{Number}
-use Rattle.turning.specs.declared.Number.TheVariants.{Packet, Refused as NumberRefused}
+use Rattle.turning.specs.Turning.{values_tests, values_left, number_call}
 use Rattle.legality.specs.Answers.{policy_legality, pair_legality}
-use Rattle.legality.specs.declared.PairAnswer.{PairAnswer}
-use Rattle.legality.specs.declared.PairAnswer.TheVariants.{Legal, Refused as PairRefused}
-use Rattle.legality.specs.declared.PolicyAnswer.{PolicyAnswer}
-use Rattle.legality.specs.declared.PolicyAnswer.TheVariants.{Legal as LegalAlone, Refused as AloneRefused}
-use Rattle.grammar.specs.Answer.{text_tree, text_names, read_answer, left_by, shortest}
-use Rattle.grammar.specs.declared.Answer.{Answer}
-use Rattle.grammar.specs.declared.Answer.TheVariants.{Nodes, Refused as Unread}
+use Rattle.grammar.specs.Answer.{Answer, text_tree, text_names, read_answer, left_by, shortest}
 use Rattle.pair.specs.Search.{Columns}
 use Rattle.lent_lists.specs.LentLists.{work_after}
 use Rattle.verdict.specs.declared.Verdict.{Verdict}
@@ -51,15 +42,15 @@ pub data Call : Type 0 where
   call_number : (t u : Table) (left right : NodeLists) (values : List ℕ) → Call
 
 -- an answer, and every lent list that the call may write
-pub data Result : Type 0 where
-  searched : Verdict → SearchLists → Result
-  judged : Evidence → List ℕ → Result
-  followed : TraceChecked → List ℕ → Result
-  legality : PairAnswer → Result
-  legality_of_one : PolicyAnswer → Result
-  read_as : Answer → NodeLists → Result
-  turned : Values → List ℕ → Result
-  numbered : Number → Result
+pub data CallResult : Type 0 where
+  searched : Verdict → SearchLists → CallResult
+  judged : Evidence → List ℕ → CallResult
+  followed : TraceChecked → List ℕ → CallResult
+  legality : Result (ℕ × ℕ) Refusal → CallResult
+  legality_of_one : Result ℕ Refusal → CallResult
+  read_as : Answer → NodeLists → CallResult
+  turned : Tested → List ℕ → CallResult
+  numbered : Result ℕ Refusal → CallResult
 
 -- what the reader leaves in its three lists
 abbrev nodes_left : List (List ℕ) → List ℕ → Answer → NodeLists → NodeLists
@@ -70,7 +61,7 @@ nodes_left names text r old =
     (left_by r (nodes_of (text_tree names text)).second old.second)
 
 -- the right sides of the calls' promises
-unfoldable pub result_of : Call → Result
+unfoldable pub result_of : Call → CallResult
 result_of (call_texts t u l r x) = searched (texts_verdict t u l r x) (texts_leaves t u l r x)
 result_of (call_search t u l r x) = searched (search_verdict (t ∷ u ∷ []) l r x) (search_leaves (t ∷ u ∷ []) l r x)
 result_of (call_rows t u l r packets lefts rights work) =
@@ -82,14 +73,14 @@ result_of (call_one t u policy) = legality_of_one (policy_legality (t ∷ u ∷ 
 result_of (call_read t u side text kind first second) =
     let r = read_answer t u side text (shortest kind first second) in
     read_as r (nodes_left (text_names t u side) text r (as_lists kind first second))
-result_of (call_values t u l r number values) = turned (values_answer (values_tests (t ∷ u ∷ []) l r number (length values))) (values_left (t ∷ u ∷ []) l r number values)
+result_of (call_values t u l r number values) = turned (values_tests (t ∷ u ∷ []) l r number (length values)) (values_left (t ∷ u ∷ []) l r number values)
 result_of (call_number t u l r values) = numbered (number_call (t ∷ u ∷ []) l r values)
 
 pub record Case : Type 0 where
   pub call : Call
-  pub stated : Result
+  pub stated : CallResult
 
-abbrev gives : Call → Result → Case
+abbrev gives : Call → CallResult → Case
 gives call stated = record { call = call; stated = stated }
 
 -- ---- policies
@@ -239,19 +230,19 @@ follows sizes l r entering packets answer = gives (check_trace sizes l r enterin
 
 -- a refusal of causes 4 to 9 and 19: number, side and place
 abbrev refuses : NodeLists → NodeLists → ℕ → ℕ → ℕ → Case
-refuses l r number side place = gives (both_legal (2 ∷ 3 ∷ []) l r) (legality (PairRefused (refusal number side place)))
+refuses l r number side place = gives (both_legal (2 ∷ 3 ∷ []) l r) (legality (Err (refusal number side place)))
 
 -- a refusal of causes 14 to 17 with lists of so many entries lent, which it leaves as found: number and place
 abbrev unread : List ℕ → ℕ → ℕ → ℕ → Case
 unread text room number place =
-    gives (read text (nines room) (nines room) (nines room)) (read_as (Unread (refusal number 0 place)) (as_lists (nines room) (nines room) (nines room)))
+    gives (read text (nines room) (nines room) (nines room)) (read_as (Err (refusal number 0 place)) (as_lists (nines room) (nines room) (nines room)))
 
 -- the text f0=1 with a byte after it: where that is a blank or a digit, one node with this value, else refused with this number and place
 abbrev after_one : ℕ → List ℕ
 after_one b = bytes "f0=1" ++ b ∷ []
 
 abbrev read_with : ℕ → ℕ → Case
-read_with b value = gives (read (after_one b) (nines 2) (nines 2) (nines 2)) (read_as (Nodes 1) (as_lists (2 ∷ 9 ∷ []) (0 ∷ 9 ∷ []) (value ∷ 9 ∷ [])))
+read_with b value = gives (read (after_one b) (nines 2) (nines 2) (nines 2)) (read_as (Ok 1) (as_lists (2 ∷ 9 ∷ []) (0 ∷ 9 ∷ []) (value ∷ 9 ∷ [])))
 
 abbrev refused_with : ℕ → ℕ → ℕ → Case
 refused_with b number place = unread (after_one b) 2 number place
@@ -292,7 +283,7 @@ starts3 = columns (0 ∷ 1 ∷ 2 ∷ []) (1 ∷ 1 ∷ 1 ∷ []) (1 ∷ 1 ∷ 1 �
 
 -- a refusal of a left and a right table
 abbrev refuses_tables : Table → Table → ℕ → ℕ → ℕ → Case
-refuses_tables t u number side place = gives (call_one t u pass) (legality_of_one (AloneRefused (refusal number side place)))
+refuses_tables t u number side place = gives (call_one t u pass) (legality_of_one (Err (refusal number side place)))
 
 abbrev eight_and : Table → Table
 eight_and t = "a" of 1 then "b" of 1 then "c" of 1 then "d" of 1 then "e" of 1 then "g" of 1 then "h" of 1 then "i" of 1 then t
@@ -336,14 +327,14 @@ of_document01 =
     -- P11
     ++ judges (2 ∷ []) P2_left P2_right (0 ∷ 1 ∷ 0 ∷ []) (1 ∷ 1 ∷ 2 ∷ []) (1 ∷ 1 ∷ 2 ∷ []) (RuleD 1 1)
     -- sizes 32, 32 pass and 5, 205 give 3 at field 1, where both fields are mentioned (A.6)
-    ∷ gives (both_legal (32 ∷ 32 ∷ []) both_fields pass) (legality (Legal 0 0))
-    ∷ gives (both_legal (5 ∷ 205 ∷ []) both_fields pass) (legality (PairRefused (refusal 3 0 1)))
+    ∷ gives (both_legal (32 ∷ 32 ∷ []) both_fields pass) (legality (Ok (0, 0)))
+    ∷ gives (both_legal (5 ∷ 205 ∷ []) both_fields pass) (legality (Err (refusal 3 0 1)))
     ∷ gives (search (5 ∷ 205 ∷ []) both_fields pass (lending 5 3)) (searched (Refused (refusal 3 0 1)) (lending 5 3))
     -- 63 dups pass, 64 don't: the 64th dup is node 125
-    ∷ gives (both_legal (1 ∷ []) (text_policy (dups 62)) (text_policy (dups 62))) (legality (Legal 63 63))
-    ∷ gives (both_legal (1 ∷ []) (text_policy (dups 62)) (text_policy (dups 63))) (legality (PairRefused (refusal 9 2 125)))
+    ∷ gives (both_legal (1 ∷ []) (text_policy (dups 62)) (text_policy (dups 62))) (legality (Ok (63, 63)))
+    ∷ gives (both_legal (1 ∷ []) (text_policy (dups 62)) (text_policy (dups 63))) (legality (Err (refusal 9 2 125)))
     -- 64 parentheses pass, 65 don't
-    ∷ gives (read (nested 64) (nines 2) (nines 2) (nines 2)) (read_as (Nodes 1) (as_lists (1 ∷ 9 ∷ []) (0 ∷ 9 ∷ []) (0 ∷ 9 ∷ [])))
+    ∷ gives (read (nested 64) (nines 2) (nines 2) (nines 2)) (read_as (Ok 1) (as_lists (1 ∷ 9 ∷ []) (0 ∷ 9 ∷ []) (0 ∷ 9 ∷ [])))
     ∷ unread (nested 65) 2 15 64
     -- the trace checker: left and right on P7, both and neither on P2; a trace of length 0 is neither, also where both policies are id
     ∷ follows (1 ∷ []) (nodes "dup") (nodes "dup;dup") 0 (0 ∷ 0 ∷ []) OnlyLeft
@@ -355,11 +346,11 @@ of_document01 =
     ∷ follows (2 ∷ []) P2_left P2_right 2 [] (NotFollowed (refusal 13 0 0))
     ∷ follows (2 ∷ []) P2_left P2_right 0 (0 ∷ 2 ∷ []) (NotFollowed (refusal 13 0 2))
     -- packet 4 of sizes 2 and 3 is (1, 1), field 0 counting slowest; 13 turning: the number, a value's field, a list of another length
-    ∷ gives (values_of (2 ∷ 3 ∷ []) both_fields pass 4 (nines 2)) (turned Written (1 ∷ 1 ∷ []))
-    ∷ gives (number_for (2 ∷ 3 ∷ []) both_fields pass (1 ∷ 1 ∷ [])) (numbered (Packet 4))
-    ∷ gives (values_of (2 ∷ 3 ∷ []) both_fields pass 6 (nines 2)) (turned (ValuesRefused (refusal 13 0 0)) (nines 2))
-    ∷ gives (values_of (2 ∷ 3 ∷ []) both_fields pass 6 (nines 1)) (turned (ValuesRefused (refusal 13 0 2)) (nines 1))
-    ∷ gives (number_for (2 ∷ 3 ∷ []) both_fields pass (1 ∷ 3 ∷ [])) (numbered (NumberRefused (refusal 13 0 1)))
+    ∷ gives (values_of (2 ∷ 3 ∷ []) both_fields pass 4 (nines 2)) (turned (Ok tt) (1 ∷ 1 ∷ []))
+    ∷ gives (number_for (2 ∷ 3 ∷ []) both_fields pass (1 ∷ 1 ∷ [])) (numbered (Ok 4))
+    ∷ gives (values_of (2 ∷ 3 ∷ []) both_fields pass 6 (nines 2)) (turned (Err (refusal 13 0 0)) (nines 2))
+    ∷ gives (values_of (2 ∷ 3 ∷ []) both_fields pass 6 (nines 1)) (turned (Err (refusal 13 0 2)) (nines 1))
+    ∷ gives (number_for (2 ∷ 3 ∷ []) both_fields pass (1 ∷ 3 ∷ [])) (numbered (Err (refusal 13 0 1)))
     -- 10: a work list one word short, row lists unequal; nothing is written
     ∷ gives (check_rows (2 ∷ []) P2_left P2_right (0 ∷ 1 ∷ []) (1 ∷ 1 ∷ []) (1 ∷ 1 ∷ []) (nines 16383)) (judged (NotChecked (refusal 10 0 0)) (nines 16383))
     ∷ gives (check_trace (1 ∷ []) pass pass 0 (0 ∷ []) (nines 16383)) (followed (NotFollowed (refusal 10 0 0)) (nines 16383))
@@ -372,7 +363,7 @@ of_document01 =
     ∷ compares (2 ∷ []) "f0!=0" "f0=1" 5 3 (Equal 2) starts2 []
     ++ compares (2 ∷ 3 ∷ []) "f1=2" "f0=1" 6 3 (Left 1 2) (columns (0 ∷ 1 ∷ 2 ∷ 3 ∷ 4 ∷ 5 ∷ []) (1 ∷ 1 ∷ 1 ∷ 1 ∷ 1 ∷ 1 ∷ []) (1 ∷ 1 ∷ 1 ∷ 1 ∷ 1 ∷ 1 ∷ []) (0 ∷ 1 ∷ 2 ∷ 3 ∷ 4 ∷ 5 ∷ [])) (2 ∷ [])
     ++ finds (2 ∷ []) every_kind (nodes "f0=0;dup;(id+f0<-1)") 5 3 (Equal 3) (columns (0 ∷ 1 ∷ 0 ∷ []) (1 ∷ 1 ∷ 2 ∷ []) (1 ∷ 1 ∷ 2 ∷ []) (0 ∷ 1 ∷ 0 ∷ [])) []
-    ∷ gives (both_legal (2 ∷ []) every_kind (nodes "f0=0;dup;(id+f0<-1)")) (legality (Legal 1 1))
+    ∷ gives (both_legal (2 ∷ []) every_kind (nodes "f0=0;dup;(id+f0<-1)")) (legality (Ok (1, 1)))
     ∷ compares (2 ∷ []) "f0<-0;dup+f0<-1;dup" "f0<-0;dup+f0<-1;dup" 5 3 (Equal 4) (columns (0 ∷ 1 ∷ 0 ∷ 1 ∷ []) (1 ∷ 1 ∷ 2 ∷ 4 ∷ []) (1 ∷ 1 ∷ 2 ∷ 4 ∷ []) (0 ∷ 1 ∷ 0 ∷ 0 ∷ [])) []
     ++ finds (1 ∷ []) turned_round turned_round 5 3 (Equal 3) (columns (0 ∷ 0 ∷ 0 ∷ []) (1 ∷ 4 ∷ 2 ∷ []) (1 ∷ 4 ∷ 2 ∷ []) (0 ∷ 0 ∷ 1 ∷ [])) []
     ∷ compares (2 ∷ []) "drop" "f0<-0+f0<-1" 5 3 (Right 1 0) starts2 (0 ∷ [])
@@ -396,8 +387,8 @@ of_document01 =
     ∷ refuses (as_lists (1 ∷ 1 ∷ []) (0 ∷ 0 ∷ []) (0 ∷ 0 ∷ [])) pass 8 1 0
     ∷ refuses (as_lists (1 ∷ 8 ∷ 6 ∷ []) (0 ∷ 0 ∷ 1 ∷ []) (0 ∷ 0 ∷ 1 ∷ [])) pass 8 1 1
     -- one policy alone: its dups, or a refusal with side 0
-    ∷ gives (one_legal (2 ∷ []) every_kind) (legality_of_one (LegalAlone 1))
-    ∷ gives (one_legal (2 ∷ []) (as_lists (5 ∷ []) (0 ∷ []) (7 ∷ []))) (legality_of_one (AloneRefused (refusal 6 0 0)))
+    ∷ gives (one_legal (2 ∷ []) every_kind) (legality_of_one (Ok 1))
+    ∷ gives (one_legal (2 ∷ []) (as_lists (5 ∷ []) (0 ∷ []) (7 ∷ []))) (legality_of_one (Err (refusal 6 0 0)))
     -- causes 14 to 17: each over the whole text before the next
     ∷ unread (bytes "id+;00") 9 14 4
     ∷ unread (bytes "id+ ") 9 16 4
@@ -423,15 +414,15 @@ of_document02 =
     ∷ refuses pass (nodes "!!dup") 19 2 1
     ∷ refuses (nodes "!(f0=0+dup)") (nodes "!dup") 19 1 3
     ∷ refuses (nodes "!!(f0=0;f1<-2)") pass 19 1 3
-    ∷ gives (both_legal (1 ∷ []) (text_policy (dups 63)) (nodes "!dup")) (legality (PairRefused (refusal 19 2 1)))
-    ∷ gives (one_legal (2 ∷ []) (nodes "!dup")) (legality_of_one (AloneRefused (refusal 19 0 1)))
-    ∷ gives (one_legal (2 ∷ []) (nodes "!(!f0=0+drop;f0!=1;id)")) (legality_of_one (LegalAlone 0))
+    ∷ gives (both_legal (1 ∷ []) (text_policy (dups 63)) (nodes "!dup")) (legality (Err (refusal 19 2 1)))
+    ∷ gives (one_legal (2 ∷ []) (nodes "!dup")) (legality_of_one (Err (refusal 19 0 1)))
+    ∷ gives (one_legal (2 ∷ []) (nodes "!(!f0=0+drop;f0!=1;id)")) (legality_of_one (Ok 0))
     ∷ gives (search_texts (2 ∷ []) (bytes "id") (bytes "!dup") (lending 5 3)) (searched (Refused (refusal 19 2 1)) (lending 5 3))
     ∷ gives (search (2 ∷ []) (nodes "!dup") pass (lending 5 3)) (searched (Refused (refusal 19 1 1)) (lending 5 3))
     ∷ gives (check_rows (2 ∷ []) (nodes "!dup") pass [] [] [] (nines words)) (judged (NotChecked (refusal 19 1 1)) (nines words))
     ∷ gives (check_trace (2 ∷ []) pass (nodes "!dup") 0 [] (nines words)) (followed (NotFollowed (refusal 19 2 1)) (nines words))
     -- `!` in a text: `!` directly before `=` is a part of `!=`
-    ∷ gives (read (bytes "!f0=0*") (nines 4) (nines 4) (nines 4)) (read_as (Nodes 3) (as_lists (2 ∷ 9 ∷ 8 ∷ 9 ∷ []) (0 ∷ 0 ∷ 1 ∷ 9 ∷ []) (0 ∷ 0 ∷ 0 ∷ 9 ∷ [])))
+    ∷ gives (read (bytes "!f0=0*") (nines 4) (nines 4) (nines 4)) (read_as (Ok 3) (as_lists (2 ∷ 9 ∷ 8 ∷ 9 ∷ []) (0 ∷ 0 ∷ 1 ∷ 9 ∷ []) (0 ∷ 0 ∷ 0 ∷ 9 ∷ [])))
     ∷ unread (bytes "f0 ! = 0") 9 16 3
     ∷ unread (bytes "!!=0") 9 16 1
     ∷ unread (bytes "!") 9 16 1
@@ -478,14 +469,14 @@ of_tables =
     gives (call_texts ("sw" of 2 then no_name) ("port" of 2 then no_name) (bytes "sw=0") (bytes "port=0") (lending 4 1))
     (searched (Left 1 1) (holding 4 1 (columns (0 ∷ 1 ∷ 2 ∷ 3 ∷ []) (1 ∷ 1 ∷ 1 ∷ 1 ∷ []) (1 ∷ 1 ∷ 1 ∷ 1 ∷ []) (0 ∷ 1 ∷ 2 ∷ 3 ∷ [])) (1 ∷ [])))
     -- joint numbers: the left table's names, then those that only the right one has; a word of the other side's table alone is bad
-    ∷ gives (call_read switches lans 2 (bytes "vlan=0") (nines 1) (nines 1) (nines 1)) (read_as (Nodes 1) (as_lists (2 ∷ []) (2 ∷ []) (0 ∷ [])))
-    ∷ gives (call_read switches lans 2 (bytes "sw=1") (nines 1) (nines 1) (nines 1)) (read_as (Nodes 1) (as_lists (2 ∷ []) (0 ∷ []) (1 ∷ [])))
-    ∷ gives (call_read switches lans 1 (bytes "id;vlan=0") (nines 3) (nines 3) (nines 3)) (read_as (Unread (refusal 14 0 3)) (as_lists (nines 3) (nines 3) (nines 3)))
-    ∷ gives (call_read switches lans 7 (bytes "vlan=0") (nines 1) (nines 1) (nines 1)) (read_as (Unread (refusal 14 0 0)) (as_lists (nines 1) (nines 1) (nines 1)))
+    ∷ gives (call_read switches lans 2 (bytes "vlan=0") (nines 1) (nines 1) (nines 1)) (read_as (Ok 1) (as_lists (2 ∷ []) (2 ∷ []) (0 ∷ [])))
+    ∷ gives (call_read switches lans 2 (bytes "sw=1") (nines 1) (nines 1) (nines 1)) (read_as (Ok 1) (as_lists (2 ∷ []) (0 ∷ []) (1 ∷ [])))
+    ∷ gives (call_read switches lans 1 (bytes "id;vlan=0") (nines 3) (nines 3) (nines 3)) (read_as (Err (refusal 14 0 3)) (as_lists (nines 3) (nines 3) (nines 3)))
+    ∷ gives (call_read switches lans 7 (bytes "vlan=0") (nines 1) (nines 1) (nines 1)) (read_as (Err (refusal 14 0 0)) (as_lists (nines 1) (nines 1) (nines 1)))
     ∷ unread (bytes "f2=0") 9 14 0
     -- a node list may use any joint field, on either side
-    ∷ gives (call_both switches lans (as_lists (2 ∷ []) (2 ∷ []) (1 ∷ [])) pass) (legality (Legal 0 0))
-    ∷ gives (call_both switches lans (as_lists (2 ∷ []) (3 ∷ []) (0 ∷ [])) pass) (legality (PairRefused (refusal 6 1 0)))
+    ∷ gives (call_both switches lans (as_lists (2 ∷ []) (2 ∷ []) (1 ∷ [])) pass) (legality (Ok (0, 0)))
+    ∷ gives (call_both switches lans (as_lists (2 ∷ []) (3 ∷ []) (0 ∷ [])) pass) (legality (Err (refusal 6 1 0)))
     -- 4 with side 0 first; 20 by table, also past eight; 21 after 20 and before 1 and 2
     ∷ refuses_tables (table (nines 17) (0 ∷ [])) ("dup" of 0 then no_name) 4 0 0
     ∷ refuses_tables ("sw" of 2 then "sw" of 3 then no_name) ("dup" of 1 then no_name) 20 1 1
@@ -499,19 +490,19 @@ of_tables =
     ∷ refuses_tables no_name ("sw" of 2 then no_name) 1 0 0
     ∷ refuses_tables ("sw" of 2 then no_name) no_name 1 0 0
     ∷ refuses_tables eight ("j" of 1 then no_name) 1 0 0
-    ∷ gives (call_one eight eight pass) (legality_of_one (LegalAlone 0))
+    ∷ gives (call_one eight eight pass) (legality_of_one (Ok 0))
     ∷ refuses_tables ("a" of 1 then no_name) ("b" of 0 then no_name) 2 0 1
     -- nothing is written; the tables come before the text
-    ∷ gives (call_read ("id" of 1 then no_name) ("a" of 1 then no_name) 2 (bytes "?") (nines 1) (nines 1) (nines 1)) (read_as (Unread (refusal 20 1 0)) (as_lists (nines 1) (nines 1) (nines 1)))
+    ∷ gives (call_read ("id" of 1 then no_name) ("a" of 1 then no_name) 2 (bytes "?") (nines 1) (nines 1) (nines 1)) (read_as (Err (refusal 20 1 0)) (as_lists (nines 1) (nines 1) (nines 1)))
     ∷ gives (call_search ("A" of 1 then no_name) ("a" of 1 then no_name) pass pass (lending 1 1)) (searched (Refused (refusal 20 1 0)) (lending 1 1))
     -- 3 at the joint field, after the texts (A.6)
     ∷ gives (call_texts ("sw" of 5 then no_name) ("port" of 205 then no_name) (bytes "sw=0") (bytes "port=0") (lending 1 1)) (searched (Refused (refusal 3 0 1)) (lending 1 1))
     ∷ gives (call_texts ("sw" of 5 then no_name) ("port" of 205 then no_name) (bytes "sw=0") (bytes "port=0;?") (lending 1 1)) (searched (Refused (refusal 14 0 7)) (lending 1 1))
     -- values over the joint fields; a cell's bytes past the length are not read
-    ∷ gives (call_number switches lans three_fields pass (1 ∷ 0 ∷ 1 ∷ [])) (numbered (Packet 5))
-    ∷ gives (call_values switches lans pass three_fields 5 (nines 3)) (turned Written (1 ∷ 0 ∷ 1 ∷ []))
-    ∷ gives (call_values switches lans pass three_fields 5 (nines 2)) (turned (ValuesRefused (refusal 13 0 3)) (nines 2))
-    ∷ gives (call_number (table (2 ∷ 115 ∷ 119 ∷ nines 13) (2 ∷ [])) ("sw" of 2 then no_name) (nodes "f0=0") pass (1 ∷ [])) (numbered (Packet 1))
+    ∷ gives (call_number switches lans three_fields pass (1 ∷ 0 ∷ 1 ∷ [])) (numbered (Ok 5))
+    ∷ gives (call_values switches lans pass three_fields 5 (nines 3)) (turned (Ok tt) (1 ∷ 0 ∷ 1 ∷ []))
+    ∷ gives (call_values switches lans pass three_fields 5 (nines 2)) (turned (Err (refusal 13 0 3)) (nines 2))
+    ∷ gives (call_number (table (2 ∷ 115 ∷ 119 ∷ nines 13) (2 ∷ [])) ("sw" of 2 then no_name) (nodes "f0=0") pass (1 ∷ [])) (numbered (Ok 1))
     ∷ []
 
 -- A.6
@@ -523,18 +514,18 @@ of_mentions =
     ∷ follows (1000 ∷ 2 ∷ []) (nodes "f1=0") pass 1 (1 ∷ []) OnlyRight
     ∷ follows (1000 ∷ 2 ∷ []) (nodes "f1=0") pass 0 (2 ∷ []) (NotFollowed (refusal 13 0 1))
     -- turned into values it shows 0; turned back its value is tested, and not counted
-    ∷ gives (values_of (1000 ∷ 2 ∷ []) (nodes "f1=0") pass 1 (nines 2)) (turned Written (0 ∷ 1 ∷ []))
-    ∷ gives (values_of (1000 ∷ 2 ∷ []) (nodes "f1=0") pass 2 (nines 2)) (turned (ValuesRefused (refusal 13 0 0)) (nines 2))
-    ∷ gives (number_for (1000 ∷ 2 ∷ []) (nodes "f1=0") pass (999 ∷ 1 ∷ [])) (numbered (Packet 1))
-    ∷ gives (number_for (1000 ∷ 2 ∷ []) (nodes "f1=0") pass (1000 ∷ 1 ∷ [])) (numbered (NumberRefused (refusal 13 0 0)))
-    ∷ gives (number_for (1000 ∷ 2 ∷ []) (nodes "f1=0") pass (1 ∷ [])) (numbered (NumberRefused (refusal 13 0 2)))
+    ∷ gives (values_of (1000 ∷ 2 ∷ []) (nodes "f1=0") pass 1 (nines 2)) (turned (Ok tt) (0 ∷ 1 ∷ []))
+    ∷ gives (values_of (1000 ∷ 2 ∷ []) (nodes "f1=0") pass 2 (nines 2)) (turned (Err (refusal 13 0 0)) (nines 2))
+    ∷ gives (number_for (1000 ∷ 2 ∷ []) (nodes "f1=0") pass (999 ∷ 1 ∷ [])) (numbered (Ok 1))
+    ∷ gives (number_for (1000 ∷ 2 ∷ []) (nodes "f1=0") pass (1000 ∷ 1 ∷ [])) (numbered (Err (refusal 13 0 0)))
+    ∷ gives (number_for (1000 ∷ 2 ∷ []) (nodes "f1=0") pass (1 ∷ [])) (numbered (Err (refusal 13 0 2)))
     -- no field mentioned: N = 1
     ∷ compares (65535 ∷ 65535 ∷ []) "id" "dup" 5 3 (Left 1 0) starts1 (0 ∷ [])
     ++ compares (5 ∷ 205 ∷ []) "id" "id" 5 3 (Equal 1) starts1 []
     -- before mentioned fields of sizes 2 and 3 one of 5,000; between them
     ++ gives (search_texts (5000 ∷ 2 ∷ 3 ∷ []) (bytes "f1=1;f2<-2;dup") (bytes "f1=1;dup;f2<-2") (lending 10 2))
     (searched (Right 2 3) (holding 10 2 (columns (0 ∷ 1 ∷ 2 ∷ 3 ∷ 4 ∷ 5 ∷ 3 ∷ 5 ∷ 4 ∷ 5 ∷ []) (1 ∷ 1 ∷ 1 ∷ 1 ∷ 1 ∷ 1 ∷ 0 ∷ 2 ∷ 0 ∷ 2 ∷ []) (1 ∷ 1 ∷ 1 ∷ 1 ∷ 1 ∷ 1 ∷ 2 ∷ 0 ∷ 2 ∷ 2 ∷ []) (0 ∷ 1 ∷ 2 ∷ 3 ∷ 4 ∷ 5 ∷ 3 ∷ 3 ∷ 4 ∷ 5 ∷ [])) (3 ∷ 5 ∷ [])))
-    ∷ gives (values_of (5000 ∷ 2 ∷ 3 ∷ []) (as_lists (2 ∷ []) (1 ∷ []) (1 ∷ [])) (as_lists (4 ∷ []) (2 ∷ []) (2 ∷ [])) 3 (nines 3)) (turned Written (0 ∷ 1 ∷ 0 ∷ []))
+    ∷ gives (values_of (5000 ∷ 2 ∷ 3 ∷ []) (as_lists (2 ∷ []) (1 ∷ []) (1 ∷ [])) (as_lists (4 ∷ []) (2 ∷ []) (2 ∷ [])) 3 (nines 3)) (turned (Ok tt) (0 ∷ 1 ∷ 0 ∷ []))
     ∷ gives (search_texts (2 ∷ 5000 ∷ 3 ∷ []) (bytes "f0=1;f2=2") (bytes "f0=1") (lending 6 1))
     (searched (Right 1 3) (holding 6 1 (columns (0 ∷ 1 ∷ 2 ∷ 3 ∷ 4 ∷ 5 ∷ []) (1 ∷ 1 ∷ 1 ∷ 1 ∷ 1 ∷ 1 ∷ []) (1 ∷ 1 ∷ 1 ∷ 1 ∷ 1 ∷ 1 ∷ []) (0 ∷ 1 ∷ 2 ∷ 3 ∷ 4 ∷ 5 ∷ [])) (3 ∷ [])))
     -- mentioned by the right policy alone, under a negation that nothing reaches
@@ -542,17 +533,17 @@ of_mentions =
     -- 3 over mentioned fields alone, its place the joint field
     ++ gives (search_texts (1024 ∷ 5000 ∷ 2 ∷ []) (bytes "f0=0;f2=0") (bytes "id") (lending 1 1)) (searched (Refused (refusal 3 0 2)) (lending 1 1))
     ∷ gives (search_texts (1024 ∷ 5000 ∷ 2 ∷ []) (bytes "f0=0") (bytes "f1=0") (lending 1 1)) (searched (Refused (refusal 3 0 1)) (lending 1 1))
-    ∷ gives (one_legal (5 ∷ 205 ∷ []) (nodes "f0=0")) (legality_of_one (LegalAlone 0))
-    ∷ gives (one_legal (5 ∷ 205 ∷ []) both_fields) (legality_of_one (AloneRefused (refusal 3 0 1)))
+    ∷ gives (one_legal (5 ∷ 205 ∷ []) (nodes "f0=0")) (legality_of_one (Ok 0))
+    ∷ gives (one_legal (5 ∷ 205 ∷ []) both_fields) (legality_of_one (Err (refusal 3 0 1)))
     -- 3 after 4 to 9 and 19, on either policy
-    ∷ gives (both_legal (5 ∷ 205 ∷ []) both_fields (text_policy (dups 63))) (legality (PairRefused (refusal 9 2 125)))
-    ∷ gives (both_legal (5 ∷ 205 ∷ []) both_fields (nodes "!dup")) (legality (PairRefused (refusal 19 2 1)))
-    ∷ gives (values_of (5 ∷ 205 ∷ []) both_fields (as_lists (10 ∷ []) (0 ∷ []) (0 ∷ [])) 0 []) (turned (ValuesRefused (refusal 5 2 0)) [])
+    ∷ gives (both_legal (5 ∷ 205 ∷ []) both_fields (text_policy (dups 63))) (legality (Err (refusal 9 2 125)))
+    ∷ gives (both_legal (5 ∷ 205 ∷ []) both_fields (nodes "!dup")) (legality (Err (refusal 19 2 1)))
+    ∷ gives (values_of (5 ∷ 205 ∷ []) both_fields (as_lists (10 ∷ []) (0 ∷ []) (0 ∷ [])) 0 []) (turned (Err (refusal 5 2 0)) [])
     -- and before 10 and 13; nothing is written
     ∷ gives (check_rows (5 ∷ 205 ∷ []) both_fields pass [] [] (1 ∷ []) (nines 1)) (judged (NotChecked (refusal 3 0 1)) (nines 1))
     ∷ gives (check_trace (5 ∷ 205 ∷ []) both_fields pass 9 (9 ∷ []) (nines words)) (followed (NotFollowed (refusal 3 0 1)) (nines words))
-    ∷ gives (values_of (5 ∷ 205 ∷ []) both_fields pass 0 []) (turned (ValuesRefused (refusal 3 0 1)) [])
-    ∷ gives (number_for (5 ∷ 205 ∷ []) pass both_fields (5 ∷ [])) (numbered (NumberRefused (refusal 3 0 1)))
+    ∷ gives (values_of (5 ∷ 205 ∷ []) both_fields pass 0 []) (turned (Err (refusal 3 0 1)) [])
+    ∷ gives (number_for (5 ∷ 205 ∷ []) pass both_fields (5 ∷ [])) (numbered (Err (refusal 3 0 1)))
     ∷ []
 
 unfoldable pub cases : List Case

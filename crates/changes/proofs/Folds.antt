@@ -1,7 +1,7 @@
 -- A field changed in a whole set at once, by words. Assumes nothing.
 use Prim.Native.Nat.{ℕ, zero, suc, ◌+◌, ◌-◌, ◌*◌, ◌/◌, ◌%◌, ◌^◌, ◌≤◌, ◌<◌}
 use mathlib.Core.Bool.{Bool, true, false, ◌&&◌, ◌||◌}
-use mathlib.Core.List.{List, [], ◌∷◌}
+use mathlib.Core.List.{List, [], ◌∷◌, ◌++◌}
 use mathlib.Core.Logic.{◌⊎◌, inl, inr}
 use mathlib.Core.Path.{◌≡◌, refl, sym, ap, ap₂, ◌∙◌, subst}
 use native.Mathlib.Nat.{mul-le-mul_right, mul_comm, div-add-mod', mod-lt}
@@ -11,9 +11,10 @@ use borrow.Author.Tests.{eqb-true, eq-eqb, ltb-true, lt-ltb}
 use lib.Arith.{digits_div, digits_mod}
 use lib.Bits.{bit_or, bit_and}
 use lib.Dec.{T, eqb, ltb}
-use lib.ListN.{length, get_or, set, replicate, length-set}
+use lib.ListN.{length, get_or, set, replicate, length-set, length-append, length-replicate, get_or-append}
 use lib.Pow.{low, high}
-use lib.Seq.{get_or-set_same, get_or-set_other}
+use lib.Seq.{get_or-set_same, get_or-set_other, get_or-append_right}
+use Rattle.std.proofs.lemmas.List.{get_or-append-add}
 use Rattle.packet.specs.Packets.{value_at, changed, stride}
 use Rattle.packet.specs.Sizes.{product, LegalSizes}
 use Rattle.packet.proofs.Packets.{value_by_stride, changed_by_stride, changed_below, changed_reads}
@@ -62,38 +63,21 @@ window pad at word g = record { bits = λ j l. go j l (dec_lt (at % 32 + j) 32) 
 
 -- ---- the set between words of 0
 
-pub record Padding (s pad : List ℕ) (i : ℕ) : Type 0 where
-  pub at : i ≤ 32
-  pub wide : length pad ≡ 96
-  pub done : (j : ℕ) → j < i → get_or pad (32 + j) 0 ≡ get_or s j 0
-  pub before : (j : ℕ) → j < 32 → get_or pad j 0 ≡ 0
-  pub after : (j : ℕ) → 32 + i ≤ j → get_or pad j 0 ≡ 0
-
 zeros : (n j : ℕ) → ◌≡◌ {A = ℕ} (get_or (replicate n 0) j 0) 0
 zeros zero j = refl
 zeros (suc n) zero = refl
 zeros (suc n) (suc j) = zeros n j
 
-pub padding_start : (s : List ℕ) → Padding s (replicate 96 0) 0
-padding_start s = record { at = omega arith; wide = refl; done = λ j l. absurd (omega arith); before = λ j l. zeros 96 j; after = λ j l. zeros 96 j }
-
-module _ (s pad : List ℕ) where
-  module _ (i : ℕ) (p : Padding s pad i) where
-    pub padding_turn : i < 32 → Padding s (set pad (32 + i) (get_or s i 0)) (i + 1)
-    padding_turn l = record {
-      at = omega arith;
-      wide = length-set pad (32 + i) (get_or s i 0) ∙ p.wide;
-      done = λ j k. go j k (ℕ_discrete j i);
-      before = λ j k. get_or-set_other pad (32 + i) j (get_or s i 0) 0 (omega arith) ∙ p.before j k;
-      after = λ j k. get_or-set_other pad (32 + i) j (get_or s i 0) 0 (omega arith) ∙ p.after j (omega arith);
-    }
-      where
-        go : (j : ℕ) → j < i + 1 → Dec (j ≡ i) → get_or (set pad (32 + i) (get_or s i 0)) (32 + j) 0 ≡ get_or s j 0
-        go j k (yes e) = subst (λ (x : ℕ). get_or (set pad (32 + i) (get_or s i 0)) (32 + x) 0 ≡ get_or s x 0) (sym e) (get_or-set_same pad (32 + i) (get_or s i 0) 0 (omega (arith, p.wide)))
-        go j k (no e) = get_or-set_other pad (32 + i) (32 + j) (get_or s i 0) 0 (omega arith) ∙ p.done j (omega arith)
-
-    pub padding_end : 32 ≤ i → Padded s pad
-    padding_end l = record { wide = p.wide; before = p.before; here = λ j b. p.done j (omega arith); after = λ j b. p.after j (omega (arith, p.at)) }
+pub set_between : (s : List ℕ) → length s ≡ 32 → Padded s (replicate 32 0 ++ (s ++ replicate 32 0))
+set_between s wide = record {
+  wide = omega (arith, length-append (replicate 32 0) (s ++ replicate 32 0), length-append s (replicate 32 0), length-replicate {A = ℕ} 32 0);
+  before = λ i l. get_or-append (replicate 32 0) _ 0 i (omega arith) ∙ zeros 32 i;
+  here = λ i l. get_or-append-add (replicate 32 0) (s ++ replicate 32 0) i 0 ∙ get_or-append s (replicate 32 0) 0 i (omega arith);
+  after = λ i l.
+      get_or-append_right (replicate 32 0) _ i 0 (omega arith)
+      ∙ get_or-append_right s _ (i - 32) 0 (omega arith)
+      ∙ zeros 32 (i - 32 - length s);
+}
 
 -- ---- one word
 
@@ -123,8 +107,8 @@ module _ (pad : List ℕ) (at stride : ℕ) where
       there b l (inl t) = let h = g.only b l (true_T t) in (h.0, omega (arith, h.1), h.2)
       there b l (inr t) = (n, omega arith, true_T (sym (e.bits b l) ∙ t))
 
-  pub gather_end : (size n word : ℕ) → (n ≤ size) × Gathered pad at stride n word → size ≤ n → Gathered pad at stride size word
-  gather_end size n word g l = subst (λ (x : ℕ). Gathered pad at stride x word) (let h = g.0 in omega arith) g.1
+  pub gather_end : (size n word : ℕ) → Gathered pad at stride n word → n ≡ size → Gathered pad at stride size word
+  gather_end size n word g e = subst (λ (x : ℕ). Gathered pad at stride x word) e g
 
 pub gather_room : (at stride size n : ℕ) → n < size → 0 < stride → at + size * stride ≤ 3040 → at + n * stride < 3040
 gather_room at stride size n l p h =
@@ -164,8 +148,8 @@ module _ (pad mask : List ℕ) (at stride size : ℕ) (s : List ℕ) where
       go j k (yes e) = subst (λ (x : ℕ). Masked pad (at + 32 * x) stride size (get_or mask x 0) (get_or (set now i word) x 0)) (sym e) (subst (Masked pad (at + 32 * i) stride size (get_or mask i 0)) (sym (get_or-set_same now i word 0 (omega (arith, f.long)))) g)
       go j k (no e) = subst (Masked pad (at + 32 * j) stride size (get_or mask j 0)) (sym (get_or-set_other now i j word 0 e)) (f.done j (omega arith))
 
-  pub fill_end : (now : List ℕ) (i words : ℕ) → (i ≤ words) × Folded pad mask i at stride size s now → words ≤ i → Folded pad mask words at stride size s now
-  fill_end now i words f l = subst (λ (x : ℕ). Folded pad mask x at stride size s now) (let h = f.0 in omega arith) f.1
+  pub fill_end : (now : List ℕ) (i words : ℕ) → Folded pad mask i at stride size s now → i ≡ words → Folded pad mask words at stride size s now
+  fill_end now i words f e = subst (λ (x : ℕ). Folded pad mask x at stride size s now) e f
 
 -- ---- the packet count
 

@@ -17,9 +17,8 @@ use Rattle.packet.proofs.Legal.{product_positive}
 use Rattle.packet.proofs.Packets.{value_by_stride, changed_by_stride, changed_below, stride_positive}
 use Rattle.packet.proofs.Tests.{T_true, true_T, or_true, or_false}
 use Rattle.policy.specs.Legality.{bad_field}
-use Rattle.packet_set.specs.InnerMembers.{member, empty_set, with_packet, lowest_in, lowest_answer}
-use Rattle.packet_set.specs.declared.Lowest.{Lowest}
-use Rattle.packet_set.specs.declared.Lowest.TheVariants.{At, Nothing}
+use Rattle.packet_set.specs.InnerMembers.{member, empty_set, with_packet, lowest_in}
+use Rattle.std.specs.Prelude.{Option, Some, None}
 use Rattle.packet_set.proofs.Words.{member_empty, member_with, length_with}
 use Rattle.packet_set.proofs.Walk.{LowestIn, found_at, found_none}
 use Rattle.spans.specs.Spans.{Spanned, Hull}
@@ -140,8 +139,8 @@ module _ (sizes : List ℕ) (field value start k : ℕ) (set : List ℕ) (g : Ch
     only = λ γ m. absurd (subst T (ap (λ (x : List ℕ). member x γ) e ∙ member_empty γ) m);
   }
 
-  module _ (t z goal : ℕ) (out : List ℕ) (p q from : ℕ) (w : Walked sizes field value k set t z goal out p q from) (r : Lowest) (e : r ≡ lowest_answer (lowest_in k from set)) where
-    module _ (α : ℕ) (h : r ≡ At α) where
+  module _ (t z goal : ℕ) (out : List ℕ) (p q from : ℕ) (w : Walked sizes field value k set t z goal out p q from) (r : Option ℕ) (e : r ≡ lowest_in k from set) where
+    module _ (α : ℕ) (h : r ≡ Some α) where
       pub walk_at : LowestIn k from set α
       walk_at = found_at k from set r e α h
 
@@ -189,7 +188,7 @@ module _ (sizes : List ℕ) (field value start k : ℕ) (set : List ℕ) (g : Ch
             from_one γ (inl m) = w.only γ m
             from_one γ (inr x) = (α, true_T walk_at.inside, x ∙ walk_lands)
 
-    pub walk_end : r ≡ Nothing → Changed sizes field value set p q out
+    pub walk_end : r ≡ None → Changed sizes field value set p q out
     walk_end h = record { spanned = w.spanned; all = λ α m. go α m (dec_lt α from) (dec_lt α (32 * k)); only = w.only }
       where
         go : (α : ℕ) → T (member set α) → Dec (α < from) → Dec (α < 32 * k) → T (member out (changed sizes field value α))

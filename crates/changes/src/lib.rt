@@ -6,7 +6,7 @@ ghost use Rattle.spans.specs.Spans.{Spanned};
 ghost use Rattle.changes.specs.Changes.{Changing, Changed, Added};
 ghost use Rattle.changes.specs.Folding.{JoinedWord, Window, Padded, Gathered, Masked, Folded};
 
-use packet_set::{Lowest, PacketWords};
+use packet_set::PacketWords;
 use spans::Span;
 
 // Inner. The packet with one field changed, by the field's stride and size; `goal` is what the new value comes to.
@@ -24,7 +24,7 @@ fn add(set: &mut PacketWords, span: Span, packet: u16) -> Span
     ensures { Added packet set.old result.from result.to set.new }
 {
     packet_set::insert(set, packet);
-    let w = packet as usize / 32;
+    let w = usize::from(packet) / 32;
     spans::hull(span, Span { from: w, to: w + 1 })
 }
 
@@ -38,7 +38,7 @@ fn walk(sizes: &[u16], field: u16, value: u16, span: Span, set: &mut PacketWords
     if words <= start {
         return span;
     }
-    let at = field as usize;
+    let at = usize::from(field);
     let stride = packet::stride_of(sizes, at);
     let size = sizes[at];
     let goal = value * stride;
@@ -46,14 +46,11 @@ fn walk(sizes: &[u16], field: u16, value: u16, span: Span, set: &mut PacketWords
     spans::clear(set, span);
     let mut out = Span { from: 0, to: 0 };
     let mut from = 32 * (start as u16);
-    loop {
-        let Lowest::At(alpha) = packet_set::next_member(&before, from, words) else {
-            return out;
-        };
-        let wider = add(set, out, landing(alpha, stride, size, goal));
-        out = wider;
+    while let Some(alpha) = packet_set::next_member(&before, from, words) {
+        out = add(set, out, landing(alpha, stride, size, goal));
         from = alpha + 1;
     }
+    out
 }
 
 // Inner. The 32 bits of two words from bit b of the first on.
@@ -61,7 +58,7 @@ fn joined(low: u32, high: u32, b: u32) -> u32
     requires { b < 32 }
     ensures { JoinedWord low high b result }
 {
-    let both = (high as u64) * 4294967296 + low as u64;
+    let both = u64::from(high) * 4294967296 + u64::from(low);
     ((both >> b) % 4294967296) as u32
 }
 
@@ -79,11 +76,7 @@ fn padded(set: &PacketWords) -> [u32; 96]
     ensures { Padded set.now result }
 {
     let mut pad = [0u32; 96];
-    let mut i = 0;
-    while i < 32 {
-        pad[32 + i] = set[i];
-        i += 1;
-    }
+    pad[32..64].copy_from_slice(set);
     pad
 }
 
@@ -92,11 +85,9 @@ fn gather(pad: &[u32; 96], at: usize, stride: usize, size: usize) -> u32
     requires { (0 < stride) × (at + size * stride ≤ 3040) }
     ensures { Gathered pad.now at stride size result }
 {
-    let mut word: u32 = 0;
-    let mut u = 0;
-    while u < size {
-        word = word | bits_from(pad, at + u * stride);
-        u += 1;
+    let mut word = 0;
+    for u in 0..size {
+        word |= bits_from(pad, at + u * stride);
     }
     word
 }
@@ -107,9 +98,10 @@ fn masked(pad: &[u32; 96], at: usize, stride: usize, size: usize, mask: u32) -> 
     ensures { Masked pad.now at stride size mask result }
 {
     if mask == 0 {
-        return 0;
+        0
+    } else {
+        gather(pad, at, stride, size) & mask
     }
-    gather(pad, at, stride, size) & mask
 }
 
 // Inner. The first words of the set become what is gathered there and in the mask.
@@ -125,11 +117,8 @@ fn fill(
     requires { (words ≤ 32) × (at ≤ 1024) × (0 < stride) × (size * stride ≤ 1024) × (length set.old ≡ 32) }
     ensures { Folded pad.now mask.now words at stride size set.old set.new }
 {
-    let mut i = 0;
-    while i < words {
-        let word = masked(pad, at + 32 * i, stride, size, mask[i]);
-        set[i] = word;
-        i += 1;
+    for i in 0..words {
+        set[i] = masked(pad, at + 32 * i, stride, size, mask[i]);
     }
 }
 
@@ -138,7 +127,7 @@ fn fold(sizes: &[u16], field: u16, value: u16, span: Span, set: &mut PacketWords
     requires { Changing sizes.now field value span.from span.to set.old }
     ensures { Changed sizes.now field value set.old result.from result.to set.new }
 {
-    let at = field as usize;
+    let at = usize::from(field);
     let stride = packet::stride_of(sizes, at);
     let size = sizes[at];
     let goal = value * stride;
@@ -146,14 +135,14 @@ fn fold(sizes: &[u16], field: u16, value: u16, span: Span, set: &mut PacketWords
     let mask = loaded::sets::with_value(sizes, count, field, value);
     let pad = padded(set);
     spans::clear(set, span);
-    let words = packet_set::words_for(count as usize);
+    let words = packet_set::words_for(usize::from(count));
     fill(
         &pad,
         &mask,
         words,
-        1024 - goal as usize,
-        stride as usize,
-        size as usize,
+        1024 - usize::from(goal),
+        usize::from(stride),
+        usize::from(size),
         set,
     );
     Span { from: 0, to: words }
@@ -163,25 +152,19 @@ fn fold(sizes: &[u16], field: u16, value: u16, span: Span, set: &mut PacketWords
 fn members_in(word: u32) -> u32
     ensures { result ≤ 32 }
 {
-    if word == 0 {
-        return 0;
-    }
-    u32::count_ones(word)
+    if word == 0 { 0 } else { word.count_ones() }
 }
 
 // Inner. Has the set more than `few` members?
 fn more_than(set: &PacketWords, span: Span, few: u32) -> bool
     requires { (span.to ≤ 32) × (few ≤ 1024) }
 {
-    let to = span.to;
-    let mut count: u32 = 0;
-    let mut i = span.from;
-    while i < to {
+    let mut count = 0;
+    for i in span.from..span.to {
         count += members_in(set[i]);
         if few < count {
             return true;
         }
-        i += 1;
     }
     false
 }
@@ -191,11 +174,7 @@ fn shifts_of(stride: u32, size: u32) -> u32
     requires { 0 < stride }
     ensures { result ≤ 32 }
 {
-    let most = 31 / stride + 1;
-    if size < most {
-        return size;
-    }
-    most
+    size.min(31 / stride + 1)
 }
 
 // Inner. So many members cost as much one by one as all words do.
@@ -213,11 +192,11 @@ fn by_words(sizes: &[u16], field: u16, value: u16, span: Span, set: &PacketWords
     if !more_than(set, span, 8) {
         return false;
     }
-    let at = field as usize;
+    let at = usize::from(field);
     let stride = packet::stride_of(sizes, at);
     let count = packet::stride_of(sizes, 0) * sizes[0];
-    let words = packet_set::words_for(count as usize);
-    let shifts = shifts_of(stride as u32, sizes[at] as u32);
+    let words = packet_set::words_for(usize::from(count));
+    let shifts = shifts_of(u32::from(stride), u32::from(sizes[at]));
     more_than(set, span, fair_share(words as u32, shifts))
 }
 
@@ -227,7 +206,8 @@ pub fn change(sizes: &[u16], field: u16, value: u16, span: Span, set: &mut Packe
     ensures { Changed sizes.now field value set.old result.from result.to set.new }
 {
     if by_words(sizes, field, value, span, set) {
-        return fold(sizes, field, value, span, set);
+        fold(sizes, field, value, span, set)
+    } else {
+        walk(sizes, field, value, span, set)
     }
-    walk(sizes, field, value, span, set)
 }

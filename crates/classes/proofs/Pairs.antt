@@ -3,7 +3,7 @@ use Prim.Native.Nat.{ℕ, ◌<◌}
 use mathlib.Core.List.{List, [], ◌∷◌, map}
 use mathlib.Core.Logic.{◌↔◌}
 use mathlib.Core.Path.{◌≡◌, subst}
-use Rattle.packet.specs.declared.Tested.{Tested}
+use Rattle.packet.specs.Refusals.{Tested}
 use Rattle.packet.specs.Sizes.{product}
 use Rattle.packet.specs.Packets.{Declared}
 use Rattle.packet.proofs.Legal.{LegalFields, fields_legal}

@@ -4,7 +4,7 @@ use Prim.Native.Nat.{ℕ, ◌*◌, ◌/◌, ◌≤◌, ◌<◌}
 use mathlib.Core.Bool.{Bool, false, cond, xor}
 use mathlib.Core.List.{List, []}
 use mathlib.Core.Logic.{◌⊎◌, inl, inr}
-use mathlib.Core.Option.{Option, none, some}
+use Rattle.std.specs.Prelude.{Option, None, Some}
 use mathlib.Core.Path.{◌≡◌, refl, sym, ap, ap₂, ◌∙◌, subst}
 use native.Mathlib.Decide.{dec_lt}
 use native.Mathlib.Omega.{arith}
@@ -15,10 +15,8 @@ use Rattle.packet.proofs.Tests.{xor_same}
 use Rattle.policy.specs.Legality.{Legal}
 use Rattle.policy.specs.NodeLists.{NodeLists}
 use Rattle.loaded.specs.Loaded.{Loaded}
-use Rattle.packet_set.specs.InnerMembers.{member, lowest_in, lowest_answer, exclusive_or_of, empty_set, words_for}
-use Rattle.packet_set.specs.declared.Lowest.{Lowest}
-use Rattle.packet_set.specs.declared.Lowest.TheVariants.{At, Nothing}
-use Rattle.packet_set.proofs.Walk.{lowest_in_only, lowest_as, found_at, found_none}
+use Rattle.packet_set.specs.InnerMembers.{member, lowest_in, exclusive_or_of, empty_set, words_for}
+use Rattle.packet_set.proofs.Walk.{lowest_as, found_at}
 use Rattle.packet_set.proofs.Words.{member_exclusive_or}
 use Rattle.system.specs.System as system
 use Rattle.system.specs.System.{System, tells}
@@ -40,21 +38,21 @@ use Rattle.compare.specs.Comparison.{differs_at, compared_of, compared_sets, Loa
 
 -- ---- two sets compared
 
-module _ (k : ℕ) (a b x : List ℕ) (ex : x ≡ exclusive_or_of k a b) (r : Lowest) (er : r ≡ lowest_answer (lowest_in k 0 x)) where
-  none_apart : r ≡ Nothing → lowest_in k 0 (exclusive_or_of k a b) ≡ none
-  none_apart e = ap (lowest_in k 0) (sym ex) ∙ lowest_in_only k 0 x none (found_none k 0 x r er e)
+module _ (k : ℕ) (a b x : List ℕ) (ex : x ≡ exclusive_or_of k a b) (r : Option ℕ) (er : r ≡ lowest_in k 0 x) where
+  none_apart : r ≡ None → lowest_in k 0 (exclusive_or_of k a b) ≡ None
+  none_apart e = ap (lowest_in k 0) (sym ex) ∙ sym er ∙ e
 
-  some_apart : (γ : ℕ) → r ≡ At γ → lowest_in k 0 (exclusive_or_of k a b) ≡ some γ
-  some_apart γ e = ap (lowest_in k 0) (sym ex) ∙ lowest_in_only k 0 x (some γ) (found_at k 0 x r er γ e)
+  some_apart : (γ : ℕ) → r ≡ Some γ → lowest_in k 0 (exclusive_or_of k a b) ≡ Some γ
+  some_apart γ e = ap (lowest_in k 0) (sym ex) ∙ sym er ∙ e
 
-  pub apart_small : k ≤ 32 → (γ : ℕ) → r ≡ At γ → γ < 1024
+  pub apart_small : k ≤ 32 → (γ : ℕ) → r ≡ Some γ → γ < 1024
   apart_small few γ e = let h = (found_at k 0 x r er γ e).below in omega arith
 
-  pub told_same : r ≡ Nothing → Same ≡ compared_sets k a b
+  pub told_same : r ≡ None → Same ≡ compared_sets k a b
   unfolding compared_sets compared_of
   told_same e = rw (none_apart e) refl
 
-  pub told_side : (γ : ℕ) → r ≡ At γ → (s : Bool) → member a γ ≡ s → differs_at (cond s left right) γ ≡ compared_sets k a b
+  pub told_side : (γ : ℕ) → r ≡ Some γ → (s : Bool) → member a γ ≡ s → differs_at (cond s left right) γ ≡ compared_sets k a b
   unfolding compared_sets compared_of
   told_side γ e s m = rw (some_apart γ e, m) refl
 
@@ -63,8 +61,8 @@ unfolding compared_of
 compared_same f g h o p e = ap (compared_of f) e ∙ go p
   where
     go : (q : Option ℕ) → compared_of f q ≡ compared_of g q
-    go none = refl
-    go (some γ) = ap (λ s. differs_at s γ) (h γ)
+    go None = refl
+    go (Some γ) = ap (λ s. differs_at s γ) (h γ)
 
 -- ---- two lists, one for each policy
 
@@ -84,6 +82,14 @@ right_stays : (xs : List (List ℕ)) (a : List ℕ) → right_of (set xs 0 a) �
 right_stays xs a = get_or-set_other xs 0 1 a [] (λ e. omega arith)
 
 -- ---- the row
+
+-- a policy's lists, and the same among those of both
+module _ {s n t s' n' t' : List ℕ} (same : (s ≡ s') × (n ≡ n') × (t ≡ t')) {β : ℕ} {work next : List ℕ} where
+  pub ready_as : {f u : ℕ} {out : List ℕ} → StepReady s' n' t' β f u out work next → StepReady s n t β f u out work next
+  ready_as h = rw (same.0, same.1, same.2) h
+
+  pub stepped_as : {l f u : ℕ} {out out' next' work' : List ℕ} → Stepped s n t l β out next work f u out' next' work' → Stepped s' n' t' l β out next work f u out' next' work'
+  stepped_as h = rw (sym same.0, sym same.1, sym same.2) h
 
 module _ {sizes : List ℕ} {nodes tests : List (List ℕ)} {β : ℕ} {next : List (List ℕ)} {work : List ℕ} (rd : CompareReady sizes nodes tests β next work) where
   left_stands : {L R : NodeLists} → BothLoaded sizes L R nodes tests → Stands sizes L (left_of nodes) (left_of tests) β
@@ -112,7 +118,7 @@ module _ {sizes : List ℕ} {nodes tests : List (List ℕ)} {β : ℕ} {next : L
           zero = λ i h. ap (λ w. get_or w i 0) sl.kept ∙ rd.zero i h;
         }
 
-    pub outputs_short : {r f₁ t₁ : ℕ} {outR nextR' work₂ : List ℕ} → Stepped sizes (right_of nodes) (right_of tests) r β empty_set (right_of (set next 0 nextL')) work₁ f₁ t₁ outR nextR' work₂ → {p q : ℕ} → Hull f t f₁ t₁ p q → q ≤ 32
+    outputs_short : {r f₁ t₁ : ℕ} {outR nextR' work₂ : List ℕ} → Stepped sizes (right_of nodes) (right_of tests) r β empty_set (right_of (set next 0 nextL')) work₁ f₁ t₁ outR nextR' work₂ → {p q : ℕ} → Hull f t f₁ t₁ p q → q ≤ 32
     outputs_short sr h = h.within (sl.output rd.lists (left_stands rd.loaded)).spanned.within (sr.output rd.others (right_stands rd.loaded)).spanned.within
 
     module _ {r f₁ t₁ : ℕ} {outR nextR' work₂ : List ℕ} (sr : Stepped sizes (right_of nodes) (right_of tests) r β empty_set (right_of (set next 0 nextL')) work₁ f₁ t₁ outR nextR' work₂) {p k : ℕ} (h : Hull f t f₁ t₁ p k) where
@@ -213,23 +219,16 @@ load_asks s l r e =
       right_tests = length-replicate {A = ℕ} 8224 0;
     }
 
-module _ {sizes : List ℕ} {L R : NodeLists} {count : ℕ} {nodes tests : List (List ℕ)} (P : LoadReady sizes L R count nodes tests) where
-  pub load_left : LegalSizes sizes × Legal sizes L × (count ≡ product sizes) × (length (left_of nodes) ≡ 576) × (length (left_of tests) ≡ 8224)
-  load_left = (P.legal_sizes, P.left_legal, P.packets, P.left_nodes, P.left_tests)
-
-  module _ (nodesL testsL : List ℕ) where
-    pub load_right : LegalSizes sizes × Legal sizes R × (count ≡ product sizes) × (length (right_of (set nodes 0 nodesL)) ≡ 576) × (length (right_of (set tests 0 testsL)) ≡ 8224)
-    load_right = (P.legal_sizes, P.right_legal, P.packets, ap length (right_stays nodes nodesL) ∙ P.right_nodes, ap length (right_stays tests testsL) ∙ P.right_tests)
-
-    pub load_both : (nodesR testsR : List ℕ) → Loaded sizes L nodesL testsL → Loaded sizes R nodesR testsR → BothLoaded sizes L R (set (set nodes 0 nodesL) 1 nodesR) (set (set tests 0 testsL) 1 testsR)
-    load_both nodesR testsR l r =
-        record {
-          legal_sizes = P.legal_sizes;
-          left_legal = P.left_legal;
-          right_legal = P.right_legal;
-          left_loaded = rw (put_left nodes P.nodes_two nodesL nodesR, put_left tests P.tests_two testsL testsR) l;
-          right_loaded = rw (put_right nodes P.nodes_two nodesL nodesR, put_right tests P.tests_two testsL testsR) r;
-        }
+module _ {sizes : List ℕ} {L R : NodeLists} {count : ℕ} {nodes tests : List (List ℕ)} (P : LoadReady sizes L R count nodes tests) (nodesL testsL nodesR testsR : List ℕ) where
+  pub load_both : Loaded sizes L nodesL testsL → Loaded sizes R nodesR testsR → BothLoaded sizes L R (set (set nodes 0 nodesL) 1 nodesR) (set (set tests 0 testsL) 1 testsR)
+  load_both l r =
+      record {
+        legal_sizes = P.legal_sizes;
+        left_legal = P.left_legal;
+        right_legal = P.right_legal;
+        left_loaded = rw (put_left nodes P.nodes_two nodesL nodesR, put_left tests P.tests_two testsL testsR) l;
+        right_loaded = rw (put_right nodes P.nodes_two nodesL nodesR, put_right tests P.tests_two testsL testsR) r;
+      }
 
 -- ---- both next lists emptied
 

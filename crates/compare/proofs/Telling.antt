@@ -4,7 +4,7 @@ use Prim.Native.Nat.{ℕ, ◌<◌}
 use mathlib.Core.Bool.{false}
 use mathlib.Core.List.{List}
 use mathlib.Core.Logic.{◌↔◌}
-use mathlib.Core.Option.{Option, none, some}
+use Rattle.std.specs.Prelude.{Option, None, Some}
 use mathlib.Core.Path.{◌≡◌, refl, sym, ap, ◌∙◌, subst}
 use native.Mathlib.Omega.{arith}
 use lib.ListN.{length}
@@ -31,15 +31,15 @@ differs_not_same left γ e = let y : ◌≡◌ {A = ℕ} 0 1 = cc in omega arith
 differs_not_same right γ e = let y : ◌≡◌ {A = ℕ} 0 1 = cc in omega arith
 
 module _ (side : ℕ → Side) where
-  none_same : (o : Option ℕ) → compared_of side o ≡ Same → o ≡ none
+  none_same : (o : Option ℕ) → compared_of side o ≡ Same → o ≡ None
   unfolding compared_of
-  none_same none e = refl
-  none_same (some γ) e = absurd (differs_not_same (side γ) γ e)
+  none_same None e = refl
+  none_same (Some γ) e = absurd (differs_not_same (side γ) γ e)
 
-  some_differs : (s : Side) (γ : ℕ) (o : Option ℕ) → compared_of side o ≡ differs_at s γ → (o ≡ some γ) × (side γ ≡ s)
+  some_differs : (s : Side) (γ : ℕ) (o : Option ℕ) → compared_of side o ≡ differs_at s γ → (o ≡ Some γ) × (side γ ≡ s)
   unfolding compared_of
-  some_differs s γ none e = absurd (differs_not_same s γ (sym e))
-  some_differs s γ (some δ) e = let h = differs_same s (side δ) γ δ e in (ap some h.0, ap side (sym h.0) ∙ h.1)
+  some_differs s γ None e = absurd (differs_not_same s γ (sym e))
+  some_differs s γ (Some δ) e = let h = differs_same s (side δ) γ δ e in (ap Some h.0, ap side (sym h.0) ∙ h.1)
 
 module _ (sizes : List ℕ) (L R : NodeLists) where
   abbrev S : System
@@ -47,12 +47,12 @@ module _ (sizes : List ℕ) (L R : NodeLists) where
 
   module _ (row : Row (pair_system sizes (policies L R))) where
     -- the same outputs: no packet tells
-    pub same_lowest : answer_at sizes L R row ≡ Same → lowest_telling S row ≡ none
+    pub same_lowest : answer_at sizes L R row ≡ Same → lowest_telling S row ≡ None
     unfolding answer_at
     same_lowest = none_same (side_of sizes (policies L R) row) (lowest_telling S row)
 
     -- the answer's packet is the lowest that tells, and its side has it
-    pub differs_lowest : (s : Side) (γ : ℕ) → answer_at sizes L R row ≡ differs_at s γ → (lowest_telling S row ≡ some γ) × (side_of sizes (policies L R) row γ ≡ s)
+    pub differs_lowest : (s : Side) (γ : ℕ) → answer_at sizes L R row ≡ differs_at s γ → (lowest_telling S row ≡ Some γ) × (side_of sizes (policies L R) row γ ≡ s)
     unfolding answer_at
     differs_lowest s γ = some_differs (side_of sizes (policies L R) row) s γ (lowest_telling S row)
 

@@ -1,6 +1,5 @@
 -- One row of two loaded policies: the two outputs compared, and the states next at each packet (document 01, "States and rows").
-use Rattle.std.specs.Prelude.{ℕ, ◌<◌, ◌≤◌, cond, List, ◌≡◌, length, get_or}
-use Rattle.std.proofs.Math.Option.{Option, none, some}
+use Rattle.std.specs.Prelude.{ℕ, ◌<◌, ◌≤◌, cond, List, ◌≡◌, length, get_or, Option, None, Some}
 use Rattle.packet.specs.Sizes.{product, LegalSizes}
 use Rattle.policy.specs.Legality.{Legal}
 use Rattle.policy.specs.NodeLists.{NodeLists}
@@ -24,8 +23,8 @@ differs_at right γ = Right γ
 
 -- the answer for the lowest packet in exactly one of the two outputs, if there is one, and the side that has each packet
 unfoldable pub compared_of : (ℕ → Side) → Option ℕ → Compared
-compared_of side none = Same
-compared_of side (some γ) = differs_at (side γ) γ
+compared_of side None = Same
+compared_of side (Some γ) = differs_at (side γ) γ
 
 -- the same of two sets of k words
 unfoldable pub compared_sets : ℕ → List ℕ → List ℕ → Compared

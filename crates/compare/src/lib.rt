@@ -1,14 +1,16 @@
 // One row of two policies evaluated and compared. All functions here are inner.
 #![tactic(auto)]
 
-ghost use Rattle.std.specs.Prelude.{◌≡◌, ◌≤◌};
-ghost use Rattle.policy.specs.AsLists.{as_lists, policy_at_entry};
+ghost use Rattle.std.specs.Prelude.{[], ◌≡◌, ◌<◌, ◌≤◌, get_or};
+ghost use Rattle.policy.specs.AsLists.{lists_of};
 ghost use Rattle.compare.specs.Comparison.{compared_sets, LoadReady, BothLoaded, BothMarking, BothBlank, CompareReady, ComparedStates};
 
+use engine::LoadedPolicy;
 use index::{POLICIES, Row};
 use loaded::{Nodes, Tests};
 use marks::Next;
-use packet_set::{Lowest, PacketWords};
+use packet_set::PacketWords;
+use policy::lent::PolicyLists;
 use spans::Span;
 
 // The outputs are the same, or the lowest packet in exactly one of them and the policy that has it.
@@ -26,82 +28,78 @@ fn told(left: &PacketWords, right: &PacketWords, words: usize) -> Compared
 {
     let mut apart = *left;
     packet_set::exclusive_or(&mut apart, right, words);
-    let Lowest::At(packet) = packet_set::lowest_member(&apart, words) else {
+    let Some(packet) = packet_set::lowest_member(&apart, words) else {
         return Compared::Same;
     };
     if packet_set::contains(left, packet) {
-        return Compared::Left(packet);
+        Compared::Left(packet)
+    } else {
+        Compared::Right(packet)
     }
-    Compared::Right(packet)
 }
 
 // Inner. Loads both policies, which are legal; count is the packet count.
 pub fn load(
     sizes: &[u16],
     count: u16,
-    left_kind: &[u8],
-    left_first: &[u16],
-    left_second: &[u16],
-    right_kind: &[u8],
-    right_first: &[u16],
-    right_second: &[u16],
+    left: PolicyLists,
+    right: PolicyLists,
     nodes: &mut [Nodes; POLICIES],
     tests: &mut [Tests; POLICIES],
 )
-    requires { LoadReady sizes.now (as_lists left_kind.now left_first.now left_second.now) (as_lists right_kind.now right_first.now right_second.now) count nodes.old tests.old }
-    ensures { BothLoaded sizes.now (policy_at_entry left_kind left_first left_second) (policy_at_entry right_kind right_first right_second) nodes.new tests.new }
+    requires { LoadReady sizes.now (lists_of left) (lists_of right) count nodes.old tests.old }
+    ensures { BothLoaded sizes.now (lists_of left.entry) (lists_of right.entry) nodes.new tests.new }
 {
-    loaded::load(
-        sizes,
-        count,
-        left_kind,
-        left_first,
-        left_second,
-        &mut nodes[0],
-        &mut tests[0],
-    );
-    loaded::load(
-        sizes,
-        count,
-        right_kind,
-        right_first,
-        right_second,
-        &mut nodes[1],
-        &mut tests[1],
-    );
+    loaded::load(sizes, count, left, &mut nodes[0], &mut tests[0]);
+    loaded::load(sizes, count, right, &mut nodes[1], &mut tests[1]);
+}
+
+// Both policies of a call, loaded.
+#[derive(Clone, Copy)]
+pub struct LoadedPolicies<'a> {
+    pub sizes: &'a [u16],
+    pub nodes: &'a [Nodes; POLICIES],
+    pub tests: &'a [Tests; POLICIES],
+}
+
+impl<'a> LoadedPolicies<'a> {
+    // The left policy at 0, the right one at 1.
+    fn policy(self, i: usize) -> LoadedPolicy<'a>
+        requires { i < 2 }
+        ensures { let p = self.entry in (result.sizes.now ≡ p.sizes.now) × (result.nodes.now ≡ get_or p.nodes.now i []) × (result.tests.now ≡ get_or p.tests.now i []) }
+    {
+        LoadedPolicy {
+            sizes: self.sizes,
+            nodes: &self.nodes[i],
+            tests: &self.tests[i],
+        }
+    }
 }
 
 // Inner. The outputs of one row's two states compared; next at each packet goes to the two next lists, which are empty before.
 pub fn compare(
-    sizes: &[u16],
-    nodes: &[Nodes; POLICIES],
-    tests: &[Tests; POLICIES],
+    policies: LoadedPolicies,
     row: Row,
     next: &mut [Next; POLICIES],
     work: &mut [u32],
 ) -> Compared
-    requires { CompareReady sizes.now nodes.now tests.now row.packet next.old work.old }
-    ensures { ComparedStates sizes.now nodes.now tests.now row work.old result next.new work.new }
+    requires { CompareReady policies.sizes.now policies.nodes.now policies.tests.now row.packet next.old work.old }
+    ensures { let p = policies.entry in ComparedStates p.sizes.now p.nodes.now p.tests.now row work.old result next.new work.new }
 {
-    let states = row.states;
-    let mut left = [0u32; 32];
+    let mut left = [0; 32];
     let a = engine::step(
-        &nodes[0],
-        &tests[0],
-        sizes,
-        states[0],
+        &policies.policy(0),
+        row.states[0],
         row.packet,
         Span { from: 0, to: 0 },
         &mut left,
         &mut next[0],
         work,
     );
-    let mut right = [0u32; 32];
+    let mut right = [0; 32];
     let b = engine::step(
-        &nodes[1],
-        &tests[1],
-        sizes,
-        states[1],
+        &policies.policy(1),
+        row.states[1],
         row.packet,
         Span { from: 0, to: 0 },
         &mut right,
@@ -117,7 +115,7 @@ pub fn forget(next: &mut [Next; POLICIES], count: u16)
     requires { (count ≤ 1024) × BothMarking count next.old }
     ensures { BothBlank next.new }
 {
-    let words = packet_set::words_for(count as usize);
+    let words = packet_set::words_for(usize::from(count));
     marks::forget(&mut next[0], words);
     marks::forget(&mut next[1], words);
 }

@@ -9,7 +9,7 @@ use Rattle.packet.specs.Packets.{value_at, changed, values_of, number_of}
 use Rattle.packet.specs.Sizes.{product, bad_count, zero_size, product_over, fields_stage, product_stage}
 use Rattle.packet.specs.Refusals.{refusal, refused_at, at_place, first_refused}
 use Rattle.fields.specs.Bytes.{is_blank, is_capital, is_small, is_letter, is_digit, in_word}
-use Rattle.fields.specs.Names.{same_word, field_named, found, is_named, cell_name, names_from, names_in, is_constant, all_small_or_digit, well_formed, bad_name}
+use Rattle.fields.specs.Names.{field_named, is_named, cell_name, names_from, names_in, is_constant, all_small_or_digit, well_formed, bad_name}
 use Rattle.fields.specs.Tables.{fields_from, fields_of, with_field, with_fields, with_tables, joint, joint_names, joint_sizes, names_for, table_on, any_table, mismatched, names_stage, another, other_size, sizes_stage, is_empty, tables_stage}
 use Rattle.policy.specs.NodeLists.{node_count, node_of, node_at, children, one, is_dup, dups_below, grow, tree_at, tree_of, policy_of}
 use Rattle.policy.specs.Legality.{bad_lengths, bad_kind, bad_field, used, wrong_entries, bad_entries, some_not_below, bad_child, occurrences, times_child, not_once, negates_other, bad_negation, too_many_dups, field_of}
@@ -117,5 +117,5 @@ cases =
     ∷ []
 
 all_as_stated : map (λ (c : Case). program_output c.input) cases ≡ map (λ (c : Case). c.stated) cases
-unfolding xor lowest or_at value_at changed values_of number_of product node_count node_of node_at one is_dup dups_below grow tree_at tree_of policy_of node_entry action_entry tree_size entries_from lists_of nodes_of bit mask_of any_below set_of union takes image star_rounds single union_over labels right_spine or_else followed_by remainder flow enter of_marked output_set entered_set next output_mask next_mask starts same_row listed append append_next lowest_telling turn handle run_from run climbing climb path entering run_answer answer_with held at on_both output_at next_at same_states both_zero in_one_output bits_of_dups last_of side_of reported search_answer columns_of held_columns found is_named cell_name names_from names_in is_constant all_small_or_digit well_formed bad_name fields_from fields_of with_field with_fields with_tables joint joint_names joint_sizes names_for table_on any_table mismatched names_stage another other_size sizes_stage is_empty tables_stage is_blank is_capital is_small is_letter is_digit in_word same_word field_named all_digits decimal leading_zero is_number number_token field_token word_token single_mark is_double double_mark begins_double mark_token word_of front_token is_bad rest_of_token placed_from tokens_from tokens constant_policy field_action nothing join_sequence join_sum up_to whole negated negating item_read start close step finish read_on bad_place open_after deep_place stop_place tree_read too_many outcome text_tree tested text_names bad_count zero_size product_over fields_stage product_stage refusal refused_at at_place first_refused children bad_lengths bad_kind bad_field used wrong_entries bad_entries some_not_below bad_child occurrences times_child not_once is_test negates_other bad_negation too_many_dups order in_order causes cause policies_stage stages_of is_of_field field_of mentioned_below mentioned core_from core_sizes only_bits misfit rows_misfit lists_stage text_nodes text_stage texts_tests begins_lf is_cr onto lines_of split_by is_size is_name_and_size is_entry entry_name entry_size entries_of all_entries is_table cell_of cells_of sizes_of table_of asked_of asked_by_lines asked digits_up_to numeral line_rest number_line word_equal word_left word_right word_refused word_of_side verdict_line row_lines last_flag trace_lines refusal_line telling_lines answer_lines output_after program_lent output_of program_output bytes lf crlf over cases
+unfolding xor lowest or_at value_at changed values_of number_of product node_count node_of node_at one is_dup dups_below grow tree_at tree_of policy_of node_entry action_entry tree_size entries_from lists_of nodes_of bit mask_of any_below set_of union takes image star_rounds single union_over labels right_spine or_else followed_by remainder flow enter of_marked output_set entered_set next output_mask next_mask starts same_row listed append append_next lowest_telling turn handle run_from run climbing climb path entering run_answer answer_with held at on_both output_at next_at same_states both_zero in_one_output bits_of_dups last_of side_of reported search_answer columns_of held_columns is_named cell_name names_from names_in is_constant all_small_or_digit well_formed bad_name fields_from fields_of with_field with_fields with_tables joint joint_names joint_sizes names_for table_on any_table mismatched names_stage another other_size sizes_stage is_empty tables_stage is_blank is_capital is_small is_letter is_digit in_word field_named all_digits decimal leading_zero is_number number_token field_token word_token single_mark is_double double_mark begins_double mark_token word_of front_token is_bad rest_of_token placed_from tokens_from tokens constant_policy field_action nothing join_sequence join_sum up_to whole negated negating item_read start close step finish read_on bad_place open_after deep_place stop_place tree_read too_many outcome text_tree tested text_names bad_count zero_size product_over fields_stage product_stage refusal refused_at at_place first_refused children bad_lengths bad_kind bad_field used wrong_entries bad_entries some_not_below bad_child occurrences times_child not_once is_test negates_other bad_negation too_many_dups order in_order causes cause policies_stage stages_of is_of_field field_of mentioned_below mentioned core_from core_sizes only_bits misfit rows_misfit lists_stage text_nodes text_stage texts_tests begins_lf is_cr onto lines_of split_by is_size is_name_and_size is_entry entry_name entry_size entries_of all_entries is_table cell_of cells_of sizes_of table_of asked_of asked_by_lines asked digits_up_to numeral line_rest number_line word_equal word_left word_right word_refused word_of_side verdict_line row_lines last_flag trace_lines refusal_line telling_lines answer_lines output_after program_lent output_of program_output bytes lf crlf over cases
 all_as_stated = refl

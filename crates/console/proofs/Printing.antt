@@ -5,8 +5,8 @@ use mathlib.Core.Path.{◌≡◌, refl, sym, ap, ap₂, ◌∙◌, subst}
 use native.Mathlib.Omega.{arith}
 use lib.ListN.{length, get_or, take, drop, length-append, length-drop, length-map, length-take, length-replicate}
 use Rattle.packet.specs.declared.Refusal.{Refusal}
-use Rattle.packet.specs.declared.Tested.{Tested}
-use Rattle.packet.specs.declared.Tested.TheVariants.{Passed, Refused as Stopped}
+use Rattle.packet.specs.Refusals.{Tested}
+use Rattle.std.specs.Prelude.{Ok, Err}
 use Rattle.packet.specs.Refusals.{refusal}
 use Rattle.fields.specs.Tables.{Table}
 use Rattle.policy.specs.InnerEach.{Each}
@@ -25,7 +25,8 @@ use Rattle.packet.proofs.Written.{length_written, take_written}
 use Rattle.verdict.specs.declared.Verdict.{Verdict}
 use Rattle.verdict.specs.declared.Verdict.TheVariants.{Equal}
 use Rattle.verdict.specs.Verdicts.{telling_verdict, verdict_of, trace_after}
-use Rattle.search.specs.Call.{SearchLists, filled, verdict_after, lent_after, answer_here, rows_here}
+use Rattle.index.specs.declared.RowLists.{RowLists}
+use Rattle.search.specs.Call.{SearchLists, lent, lent_in, filled, verdict_after, lent_after, answer_here, rows_here}
 use Rattle.grammar.specs.Answer.{text_names}
 use Rattle.search_texts.specs.Call.{texts_core, TextsTell, text_nodes, texts_tests, texts_answer, texts_rows, texts_verdict, texts_leaves, TextsSearched}
 use Rattle.printing.specs.ThreeFields.{verdict_line, row_lines, trace_lines}
@@ -107,7 +108,7 @@ module _ (left_table right_table : Table) (left-text right-text : List ℕ) (x :
   abbrev core : List ℕ
   core = texts_core left_table right_table left-text right-text
 
-  legal : texts_tests left_table right_table left-text right-text x ≡ Passed → Legal core L × Legal core R
+  legal : texts_tests left_table right_table left-text right-text x ≡ Ok tt → Legal core L × Legal core R
   unfolding texts_tests Each
   legal e = let g = policies_legal _ _ _ _ _ (passing _ _ _ _ _ e) in (g.0, g.1.0)
 
@@ -127,9 +128,9 @@ module _ (left_table right_table : Table) (left-text right-text : List ℕ) (x :
         shown w z = verdict_lines w z.packets z.lefts z.rights z.trace
 
         go : (t : Tested) → texts_tests left_table right_table left-text right-text x ≡ t → shown v y ≡ output_after t rows a
-        go Passed e =
+        go (Ok tt) e =
             ap₂ shown (D.answers ∙ ap (λ (t : Tested). verdict_after t a) e) (D.leaves ∙ ap (λ (t : Tested). lent_after t rows a x) e) ∙ lines_passed core L R x (legal e) a refl
-        go (Stopped r) e = ap₂ shown (D.answers ∙ ap (λ (t : Tested). verdict_after t a) e) (D.leaves ∙ ap (λ (t : Tested). lent_after t rows a x) e)
+        go (Err r) e = ap₂ shown (D.answers ∙ ap (λ (t : Tested). verdict_after t a) e) (D.leaves ∙ ap (λ (t : Tested). lent_after t rows a x) e)
 
     pub lines_fit : length x.packets ≡ 4096 → length x.lefts ≡ 4096 → length x.rights ≡ 4096 → length x.trace ≡ 4096 → Fits v y.packets y.lefts y.rights y.trace
     unfolding texts_verdict texts_leaves verdict_after lent_after Fits
@@ -148,8 +149,8 @@ module _ (left_table right_table : Table) (left-text right-text : List ℕ) (x :
         moved {w} {z} e f h = subst (λ u. FitsIn u y) (sym e) (subst (FitsIn w) (sym f) h)
 
         go : (u : Tested) → texts_tests left_table right_table left-text right-text x ≡ u → FitsIn v y
-        go Passed e = moved (D.answers ∙ ap (λ (u : Tested). verdict_after u a) e) (D.leaves ∙ ap (λ (u : Tested). lent_after u rows a x) e) (fits_passed core L R x (legal e) p l r t a refl)
-        go (Stopped q) e = moved (D.answers ∙ ap (λ (u : Tested). verdict_after u a) e) (D.leaves ∙ ap (λ (u : Tested). lent_after u rows a x) e) tt
+        go (Ok _) e = moved (D.answers ∙ ap (λ (u : Tested). verdict_after u a) e) (D.leaves ∙ ap (λ (u : Tested). lent_after u rows a x) e) (fits_passed core L R x (legal e) p l r t a refl)
+        go (Err q) e = moved (D.answers ∙ ap (λ (u : Tested). verdict_after u a) e) (D.leaves ∙ ap (λ (u : Tested). lent_after u rows a x) e) tt
 
 -- ---- what the first word says
 
@@ -168,37 +169,43 @@ refusal_not_side right r = other_word _ _ 1 (λ e. omega (arith, e))
 
 starts_equal : (t : Tested) (rows : Columns) (a : SearchAnswer) → take (length word_equal) (output_after t rows a) ≡ word_equal → (n : ℕ) × (verdict_after t a ≡ Equal n)
 unfolding output_after answer_lines verdict_after verdict_of telling_lines verdict_line word_of_side word_left word_right word_equal
-starts_equal Passed rows (equal n) e = (n, refl)
-starts_equal Passed rows (different left α w) e = absurd (other_word _ _ 0 (λ q. omega (arith, q)) e)
-starts_equal Passed rows (different right α w) e = absurd (other_word _ _ 0 (λ q. omega (arith, q)) e)
-starts_equal Passed rows (rows_full n d) e = absurd (refusal_not_equal _ e)
-starts_equal Passed rows (trace_short n) e = absurd (refusal_not_equal _ e)
-starts_equal (Stopped r) rows a e = absurd (refusal_not_equal r e)
+starts_equal (Ok _) rows (equal n) e = (n, refl)
+starts_equal (Ok _) rows (different left α w) e = absurd (other_word _ _ 0 (λ q. omega (arith, q)) e)
+starts_equal (Ok _) rows (different right α w) e = absurd (other_word _ _ 0 (λ q. omega (arith, q)) e)
+starts_equal (Ok _) rows (rows_full n d) e = absurd (refusal_not_equal _ e)
+starts_equal (Ok _) rows (trace_short n) e = absurd (refusal_not_equal _ e)
+starts_equal (Err r) rows a e = absurd (refusal_not_equal r e)
 
 -- the trace of an output that starts with a side's word
 record Tells (t : Tested) (a : SearchAnswer) (s : Side) : Type 0 where
   entering : ℕ
   trace : List ℕ
-  passed : t ≡ Passed
+  passed : t ≡ Ok tt
   answer : a ≡ different s entering trace
 
 starts_side : (s : Side) (t : Tested) (rows : Columns) (a : SearchAnswer) → take (length (word_of_side s)) (output_after t rows a) ≡ word_of_side s → Tells t a s
 unfolding output_after answer_lines telling_lines verdict_line word_of_side word_left word_right word_equal
-starts_side left Passed rows (equal n) e = absurd (other_word _ _ 0 (λ q. omega (arith, q)) e)
-starts_side right Passed rows (equal n) e = absurd (other_word _ _ 0 (λ q. omega (arith, q)) e)
-starts_side left Passed rows (different left α w) e = record { entering = α; trace = w; passed = refl; answer = refl }
-starts_side right Passed rows (different right α w) e = record { entering = α; trace = w; passed = refl; answer = refl }
-starts_side left Passed rows (different right α w) e = absurd (other_word _ _ 0 (λ q. omega (arith, q)) e)
-starts_side right Passed rows (different left α w) e = absurd (other_word _ _ 0 (λ q. omega (arith, q)) e)
-starts_side s Passed rows (rows_full n d) e = absurd (refusal_not_side s _ e)
-starts_side s Passed rows (trace_short n) e = absurd (refusal_not_side s _ e)
-starts_side s (Stopped r) rows a e = absurd (refusal_not_side s r e)
+starts_side left (Ok _) rows (equal n) e = absurd (other_word _ _ 0 (λ q. omega (arith, q)) e)
+starts_side right (Ok _) rows (equal n) e = absurd (other_word _ _ 0 (λ q. omega (arith, q)) e)
+starts_side left (Ok _) rows (different left α w) e = record { entering = α; trace = w; passed = refl; answer = refl }
+starts_side right (Ok _) rows (different right α w) e = record { entering = α; trace = w; passed = refl; answer = refl }
+starts_side left (Ok _) rows (different right α w) e = absurd (other_word _ _ 0 (λ q. omega (arith, q)) e)
+starts_side right (Ok _) rows (different left α w) e = absurd (other_word _ _ 0 (λ q. omega (arith, q)) e)
+starts_side s (Ok _) rows (rows_full n d) e = absurd (refusal_not_side s _ e)
+starts_side s (Ok _) rows (trace_short n) e = absurd (refusal_not_side s _ e)
+starts_side s (Err r) rows a e = absurd (refusal_not_side s r e)
 
 -- ---- the search on two texts, printed
 
 program_lengths : (length program_lent.packets ≡ 4096) × (length program_lent.lefts ≡ 4096) × (length program_lent.rights ≡ 4096) × (length program_lent.trace ≡ 4096)
 unfolding program_lent
 program_lengths = (length-replicate {A = ℕ} 4096 0, length-replicate {A = ℕ} 4096 0, length-replicate {A = ℕ} 4096 0, length-replicate {A = ℕ} 4096 0)
+
+-- what a search leaves, of lists that hold what the row lists do
+pub texts_in : {left_table right_table : Table} {left-text right-text : List ℕ} {x : SearchLists} {v : Verdict} (rows : RowLists) {trace work P Q R : List ℕ} → TextsSearched left_table right_table left-text right-text x v (lent_in rows trace work)
+    → P ≡ rows.packets.now → Q ≡ rows.left.now → R ≡ rows.right.now → TextsSearched left_table right_table left-text right-text x v (lent P Q R rows.parents.now trace work)
+texts_in {left_table} {right_table} {left-text} {right-text} {x} {v} rows {trace} {work} D p q r =
+    subst (TextsSearched left_table right_table left-text right-text x v) (λ i. lent (sym p i) (sym q i) (sym r i) rows.parents.now trace work) D
 
 module _ {left_table right_table : Table} {left-text right-text : List ℕ} {v : Verdict} {y : SearchLists} (D : TextsSearched left_table right_table left-text right-text program_lent v y) where
   pub shows : Fits v y.packets y.lefts y.rights y.trace

@@ -4,24 +4,12 @@
 // whether the bytes beyond are kept.
 #![tactic(auto)]
 
+use harness::Input;
 use std::io::Stdout;
 
 // Whether the output starts with the word and a comma.
 fn starts(output: &[u8], word: &[u8]) -> bool {
-    let mut i = 0;
-    while i < word.len() {
-        if output.len() <= i {
-            return false;
-        }
-        if output[i] != word[i] {
-            return false;
-        }
-        i += 1;
-    }
-    if output.len() <= i {
-        return false;
-    }
-    output[i] == b','
+    matches!(output.strip_prefix(word), Some([b',', ..]))
 }
 
 // Names the word if the output starts with it.
@@ -32,22 +20,9 @@ fn name(stdout: Stdout, output: &[u8], word: &[u8]) {
     }
 }
 
-// Whether the bytes from a place on are all 7.
-fn kept(output: &[u8], from: usize) -> bool {
-    let mut i = from;
-    while i < output.len() {
-        if output[i] != 7 {
-            return false;
-        }
-        i += 1;
-    }
-    true
-}
-
-// What the call wrote, and what the output starts with.
+// What the call wrote, what the output starts with, and whether the bytes beyond are all 7.
 fn show(stdout: Stdout, output: &[u8], n: usize) {
-    let len = harness::least(n, output.len());
-    let said = &output[..len];
+    let (said, beyond) = output.split_at(n.min(output.len()));
     harness::write(stdout, said);
     name(stdout, said, b"equal");
     name(stdout, said, b"left");
@@ -55,34 +30,31 @@ fn show(stdout: Stdout, output: &[u8], n: usize) {
     name(stdout, said, b"refused");
     harness::write(stdout, b", bytes ");
     harness::number(stdout, n as u64);
-    if kept(output, len) {
+    if beyond.iter().all(|b| *b == 7) {
         harness::write(stdout, b", beyond as before");
     }
     harness::line_end(stdout);
 }
 
-fn one_case(stdout: Stdout, input: &[u8], from: usize, given: &mut [u8]) -> usize {
-    let b = harness::build(input, from, given);
-    let len = b.len;
+fn one_case(stdout: Stdout, input: &mut Input, given: &mut [u8]) {
     let mut output = [7u8; 262208];
-    let n = console::answer(&given[..len], &mut output);
+    let n = console::answer(input.build(given), &mut output);
     show(stdout, &output, n);
-    b.at
 }
 
-fn run(stdout: Stdout, input: &[u8], given: &mut [u8]) {
-    let mut at = harness::next_digit(input, 0);
-    for _ in 0..input.len() {
-        if input.len() <= at {
+fn run(stdout: Stdout, bytes: &[u8], given: &mut [u8]) {
+    let mut input = Input { rest: bytes };
+    for _ in 0..bytes.len() {
+        if !input.next_digit() {
             return;
         }
-        at = harness::next_digit(input, one_case(stdout, input, at, given));
+        one_case(stdout, &mut input, given);
     }
 }
 
 fn main(rt: HostRuntime) {
     let mut input = [0u8; 65536];
-    let n = harness::read_full(rt.stdin(), &mut input);
+    let input = harness::read_full(rt.stdin(), &mut input);
     let mut given = [0u8; 40000];
-    run(rt.stdout(), &input[..n], &mut given);
+    run(rt.stdout(), input, &mut given);
 }

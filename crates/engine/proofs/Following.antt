@@ -2,7 +2,7 @@
 use Prim.Native.Nat.{ℕ, pred, ◌≤◌, ◌<◌}
 use mathlib.Core.Bool.{false, ◌||◌}
 use mathlib.Core.List.{List}
-use mathlib.Core.Path.{◌≡◌, refl, sym, ap, ◌∙◌, subst}
+use mathlib.Core.Path.{◌≡◌, sym, ap, ◌∙◌, subst}
 use native.Mathlib.Omega.{arith}
 use lib.Dec.{T, eqb, eqb→eq, eqb_refl}
 use lib.ListN.{length, get_or}
@@ -85,7 +85,6 @@ module _ (sizes nodes tests : List ℕ) (i d β : ℕ) (work₀ seen₀ next₀ 
   -- the set comes out of node n
   pub record ClimbingLists (n : ℕ) (set work seen next : List ℕ) (f t : ℕ) : Type 0 where
     pub spanned : Spanned f t set
-    pub same : length work ≡ length work₀
     pub climbing : (L : NodeLists) → Stands sizes L nodes tests β → Climbing sizes L nodes tests d β (slot work₀) (has_mark next₀) n (member set) (slot work) (has_mark next)
     pub recorded : Recorded sizes work₀ seen₀ next₀ work seen next
 
@@ -99,16 +98,12 @@ module _ {sizes nodes tests : List ℕ} {i d β : ℕ} {work₀ seen₀ next₀ 
   climb_start p b e z {set} q s =
       record {
         spanned = s;
-        same = refl;
         climbing = λ L st. climbing_start st.loaded st.legal (dup_at st p b e z) β st.packet (member set) (single_has st q) (single_only st q) (slot work₀) (has_mark next₀);
         recorded = records_none;
       }
 
   module _ {n : ℕ} {set work seen next : List ℕ} {f t : ℕ} (cl : ClimbingLists sizes nodes tests i d β work₀ seen₀ next₀ n set work seen next f t) where
     module _ {L : NodeLists} (st : Stands sizes L nodes tests β) where
-      pub climb_inside : n < 512
-      climb_inside = let h = (cl.climbing L st).inside in let k = st.legal.well_formed.few in omega arith
-
       module _ {above : ℕ} (e : above ≡ up_in (get_or nodes n 0)) (z : above ≡ 512 → ⊥) where
         up_is : up_at nodes n ≡ above
         unfolding up_at
@@ -168,12 +163,11 @@ module _ {sizes nodes tests : List ℕ} {i d β : ℕ} {work₀ seen₀ next₀ 
 
     -- the set has gone on at the node above
     pub climb_on : {above : ℕ} → above ≡ up_in (get_or nodes n 0) → (above ≡ 512 → ⊥) → {node : Node} {target : ℕ} → node ≡ node_in (get_or nodes above 0) → target ≡ onward node above
-        → 16384 ≤ length work → (L : NodeLists) → Stands sizes L nodes tests β → {f' t' : ℕ} {set' work' seen' next' : List ℕ} → Sent sizes nodes tests target f t set work seen next f' t' set' work' seen' next' → length work' ≡ length work
+        → 16384 ≤ length work → (L : NodeLists) → Stands sizes L nodes tests β → {f' t' : ℕ} {set' work' seen' next' : List ℕ} → Sent sizes nodes tests target f t set work seen next f' t' set' work' seen' next'
         → ClimbingLists sizes nodes tests i d β work₀ seen₀ next₀ above set' work' seen' next' f' t'
-    climb_on e z en et long L st h q =
+    climb_on e z en et long L st h =
         record {
           spanned = (h.sent L (climb_ready st e z en et long)).spanned;
-          same = q ∙ cl.same;
           climbing = λ M sm. climb_more sm e z en et (h.sent M (climb_ready sm e z en et long));
           recorded = records_then cl.recorded (h.sent L (climb_ready st e z en et long)).recorded;
         }

@@ -1,8 +1,8 @@
 -- Each way out of a visit, over the lists.
 use Prim.Native.Nat.{ℕ, suc, ◌≤◌, ◌<◌}
 use mathlib.Core.Bool.{Bool, true, false, ◌&&◌, ◌||◌, not, or-false}
-use mathlib.Core.List.{List}
-use mathlib.Core.Logic.{inl, inr}
+use mathlib.Core.List.{List, []}
+use mathlib.Core.Logic.{◌⊎◌, inl, inr}
 use mathlib.Core.Path.{◌≡◌, refl, sym, ap, ◌∙◌, subst}
 use native.Mathlib.Omega.{arith}
 use lib.Dec.{T, eqb}
@@ -34,15 +34,15 @@ use Rattle.engine.proofs.Throughs.{through_none, through_empty, through_known, t
 use Rattle.engine.proofs.Rounds.{Turning, turning_start, turning_more, turning_end, turning_below}
 use Rattle.engine.proofs.Records.{slot_small, empty_span, records_none, records_then, records_note, records_mark, missing, missing_lt}
 
-pub never_drop : Moves Drop → ⊥
+never_drop : Moves Drop → ⊥
 unfolding Moves
 never_drop h = h
 
-pub never_neg : (c : ℕ) → Moves (Neg c) → ⊥
+never_neg : (c : ℕ) → Moves (Neg c) → ⊥
 unfolding Moves
 never_neg c h = h
 
-pub never_id : Moves Id → ⊥
+never_id : Moves Id → ⊥
 unfolding Moves
 never_id h = h
 
@@ -71,9 +71,6 @@ pub record EntryLists (sizes : List ℕ) (L : NodeLists) (nodes tests : List ℕ
 module _ {sizes nodes tests : List ℕ} {n from to : ℕ} {set work : List ℕ} (L : NodeLists) (rd : VisitReady sizes L nodes tests n from to set work) where
   pub node_small : n < 512
   node_small = let h = rd.legal.well_formed.few in let g = rd.node in omega arith
-
-  pub set_small : {k : ℕ} → k ≡ set_in (get_or nodes n 0) → k ≤ 256
-  set_small e = subst (λ x. x ≤ 256) (sym e) (rd.loaded.small n rd.node)
 
   -- the node that a visit reads
   pub node_is : {d r : Node} → r ≡ node_in (get_or nodes n 0) → r ≡ d → node_at L n ≡ d
@@ -109,7 +106,7 @@ module _ {sizes nodes tests : List ℕ} {n from to : ℕ} {set work : List ℕ} 
         }
 
     -- any other node is entered
-    module _ {keeps : Bool} (es : keeps ≡ slot_in (get_or nodes n 0)) {more : Bool} {seen set₂ work₁ seen₁ : List ℕ} (en : EnteredLists keeps n from to set₁ work seen more set₂ work₁ seen₁) (ts : tests_in (get_or nodes n 0) ≡ false) where
+    module _ {keeps : Bool} (es : keeps ≡ slot_in (get_or nodes n 0)) {more : Bool} {seen set₂ work₁ seen₁ : List ℕ} (en : EnteredLists keeps n from to set₁ work seen more set₂ work₁ seen₁) (ts : tests_in (get_or nodes n 0) ≡ false) (long : length work₁ ≡ length work) where
       pub entry : EntryLists sizes L nodes tests n from to set work seen set₂ work₁ seen₁
       unfolding tests_at
       entry = go keeps refl
@@ -120,7 +117,7 @@ module _ {sizes nodes tests : List ℕ} {n from to : ℕ} {set work : List ℕ} 
               record {
                 entered = entered_slot nodes tests n (member set) (slot work) (member set₁) (member set₂) (slot work₁) cut h.slots h.new.members;
                 spanned = en.spanned;
-                recorded = λ next. records_note h;
+                recorded = λ next. records_note h long;
                 moves = ts;
               }
           go false e =
@@ -140,6 +137,9 @@ module _ {sizes nodes tests : List ℕ} {n from to : ℕ} {set work : List ℕ} 
     pub entry_below : (γ : ℕ) → T (member set₂ γ) → γ < product sizes
     entry_below γ t = rd.below γ (en.entered.within γ t)
 
+    entry_long : 16384 ≤ length work₁
+    entry_long = long_still rd.long (en.recorded []).work_long
+
     -- nothing is new
     pub leave_known : Spanned 0 0 set₂ → (next : List ℕ) → ThroughLists sizes L nodes tests n set work seen next 0 0 set₂ work₁ seen₁ next
     leave_known s next =
@@ -149,9 +149,15 @@ module _ {sizes nodes tests : List ℕ} {n from to : ℕ} {set work : List ℕ} 
           recorded = en.recorded next;
         }
 
-    -- neither ⊥ nor ⊤ comes here: they are tests alone
-    pub leave_never : (d : Node) → node_at L n ≡ d → (Moves d → ⊥) → {A : Type 0} → A
+    -- a node that is tests alone does not come here
+    leave_never : (d : Node) → node_at L n ≡ d → (Moves d → ⊥) → {A : Type 0} → A
     leave_never d e not_so = absurd (not_so (subst Moves e moving.moves))
+
+    -- ⊥, ⊤ and negations are tests alone
+    pub leave_idle : {r : Node} → r ≡ node_in (get_or nodes n 0) → (r ≡ Drop) ⊎ ((r ≡ Id) ⊎ ((c : ℕ) × (r ≡ Neg c))) → {A : Type 0} → A
+    leave_idle q (inl e) = leave_never Drop (node_is q e) never_drop
+    leave_idle q (inr (inl e)) = leave_never Id (node_is q e) never_id
+    leave_idle q (inr (inr e)) = leave_never (Neg e.0) (node_is q e.1) (never_neg e.0)
 
     module _ (a : FieldAction) (e : node_at L n ≡ Field a) where
       acts_in : bad_field sizes (field_of a) (value_of a) ≡ false
@@ -241,14 +247,14 @@ module _ {sizes nodes tests : List ℕ} {n from to : ℕ} {set work : List ℕ} 
       pub seq_below : node_at L n ≡ Seq x y → (x < n) × (y < n)
       seq_below e = let k = seq_kids e in (k.0, k.1)
 
-      pub sum_first : node_at L n ≡ Sum x y → length work₁ ≡ length work → VisitReady sizes L nodes tests x from to set₂ work₁
-      sum_first e q = let k = sum_kids e in child_ready x k.0 k.2 entry_below en.spanned (long_still rd.long q)
+      pub sum_first : node_at L n ≡ Sum x y → VisitReady sizes L nodes tests x from to set₂ work₁
+      sum_first e = let k = sum_kids e in child_ready x k.0 k.2 entry_below en.spanned entry_long
 
-      pub sum_second : node_at L n ≡ Sum x y → {w : List ℕ} → length w ≡ length work → VisitReady sizes L nodes tests y from to set₂ w
-      sum_second e q = let k = sum_kids e in child_ready y k.1 k.3 entry_below en.spanned (long_still rd.long q)
+      pub sum_second : node_at L n ≡ Sum x y → {w : List ℕ} → length w ≡ length work₁ → VisitReady sizes L nodes tests y from to set₂ w
+      sum_second e q = let k = sum_kids e in child_ready y k.1 k.3 entry_below en.spanned (long_still entry_long q)
 
-      pub seq_first : node_at L n ≡ Seq x y → length work₁ ≡ length work → VisitReady sizes L nodes tests x from to set₂ work₁
-      seq_first e q = let k = seq_kids e in child_ready x k.0 k.2 entry_below en.spanned (long_still rd.long q)
+      pub seq_first : node_at L n ≡ Seq x y → VisitReady sizes L nodes tests x from to set₂ work₁
+      seq_first e = let k = seq_kids e in child_ready x k.0 k.2 entry_below en.spanned entry_long
 
       pub leave_sum : (e : node_at L n ≡ Sum x y) {next next₂ next₃ seen₂ seen₃ work₂ work₃ setA set_b setR : List ℕ} {f₁ t₁ f₂ t₂ f t : ℕ} → ThroughLists sizes L nodes tests x set₂ work₁ seen₁ next f₁ t₁ setA work₂ seen₂ next₂
           → ThroughLists sizes L nodes tests y set₂ work₂ seen₂ next₂ f₂ t₂ set_b work₃ seen₃ next₃ → Holds f t setR (λ γ. member setA γ || member set_b γ)
@@ -283,11 +289,11 @@ module _ {sizes nodes tests : List ℕ} {n from to : ℕ} {set work : List ℕ} 
         leave_sum_second none b =
             leave_sum e (shut_out none) b (record { spanned = b.spanned; members = λ γ. sym (ap (λ c. c || member setR γ) (member_empty γ)) })
 
-      module _ (e : node_at L n ≡ Seq x y) (q : length work₁ ≡ length work) {next next₂ seen₂ work₂ setA : List ℕ} {f₁ t₁ : ℕ} (a : ThroughLists sizes L nodes tests x set₂ work₁ seen₁ next f₁ t₁ setA work₂ seen₂ next₂) where
-        pub seq_second : length work₂ ≡ length work₁ → VisitReady sizes L nodes tests y f₁ t₁ setA work₂
-        seq_second q₂ =
+      module _ (e : node_at L n ≡ Seq x y) {next next₂ seen₂ work₂ setA : List ℕ} {f₁ t₁ : ℕ} (a : ThroughLists sizes L nodes tests x set₂ work₁ seen₁ next f₁ t₁ setA work₂ seen₂ next₂) where
+        pub seq_second : VisitReady sizes L nodes tests y f₁ t₁ setA work₂
+        seq_second =
             let k = seq_kids e in
-            child_ready y k.1 k.3 (through_below rd.legal (let h = rd.node in let g = k.0 in omega arith) a.through entry_below) a.spanned (long_still rd.long (q₂ ∙ q))
+            child_ready y k.1 k.3 (through_below rd.legal (let h = rd.node in let g = k.0 in omega arith) a.through entry_below) a.spanned (long_still entry_long a.recorded.work_long)
 
         pub leave_seq_none : t₁ ≤ f₁ → ThroughLists sizes L nodes tests n set work seen next f₁ t₁ setA work₂ seen₂ next₂
         leave_seq_none l =
@@ -333,18 +339,18 @@ module _ {sizes nodes tests : List ℕ} {n from to : ℕ} {set work : List ℕ} 
           }
 
       module _ {next delta out w s x : List ℕ} {f t f₁ t₁ : ℕ} (tn : TurningLists next delta out w s x f t f₁ t₁) where
-        pub turn_ready : 16384 ≤ length w → VisitReady sizes L nodes tests c f t delta w
-        turn_ready q =
-            child_ready c star_kid.0 star_kid.1 (λ γ d. turning_below rd.legal rd.node tn.turning rd.below γ (tn.turning.within γ d)) tn.delta_spanned q
+        pub turn_ready : VisitReady sizes L nodes tests c f t delta w
+        turn_ready =
+            child_ready c star_kid.0 star_kid.1 (λ γ d. turning_below rd.legal rd.node tn.turning rd.below γ (tn.turning.within γ d)) tn.delta_spanned (long_still rd.long tn.recorded.work_long)
 
-        module _ {delta₂ w₂ s₂ x₂ : List ℕ} {f₂ t₂ : ℕ} (th : ThroughLists sizes L nodes tests c delta w s x f₂ t₂ delta₂ w₂ s₂ x₂) {some : Bool} {delta₃ w₃ s₃ : List ℕ} (nt : Noted n f₂ t₂ w₂ s₂ delta₂ some w₃ s₃ delta₃) where
+        module _ {delta₂ w₂ s₂ x₂ : List ℕ} {f₂ t₂ : ℕ} (th : ThroughLists sizes L nodes tests c delta w s x f₂ t₂ delta₂ w₂ s₂ x₂) {some : Bool} {delta₃ w₃ s₃ : List ℕ} (nt : Noted n f₂ t₂ w₂ s₂ delta₂ some w₃ s₃ delta₃) (long : length w₃ ≡ length w₂) where
           -- nothing is new
           pub turn_end : some ≡ false → ThroughLists sizes L nodes tests n set work seen next f₁ t₁ out w₃ s₃ x₂
           turn_end q =
               record {
                 through = turning_end rd.loaded rd.legal rd.node en.moves c e (turning_more rd.loaded rd.legal rd.node en.moves c e tn.turning th.through (slot w₃) (member delta₃) (member out) nt.slots nt.new.members (λ γ. or_false (member out γ) (member delta₃ γ) (none γ))) none;
                 spanned = tn.out_spanned;
-                recorded = records_then tn.recorded (records_then th.recorded (records_note nt));
+                recorded = records_then tn.recorded (records_then th.recorded (records_note nt long));
               }
             where
               none : (γ : ℕ) → member delta₃ γ ≡ false
@@ -361,7 +367,7 @@ module _ {sizes nodes tests : List ℕ} {n from to : ℕ} {set work : List ℕ} 
                 turning = turning_more rd.loaded rd.legal rd.node en.moves c e tn.turning th.through (slot w₃) (member delta₃) (member out₃) nt.slots nt.new.members h.members;
                 delta_spanned = nt.new.spanned;
                 out_spanned = h.spanned;
-                recorded = records_then tn.recorded (records_then th.recorded (records_note nt));
+                recorded = records_then tn.recorded (records_then th.recorded (records_note nt long));
               }
 
           -- and less is missing in the star's slot

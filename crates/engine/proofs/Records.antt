@@ -33,7 +33,7 @@ empty_span {a} {b} {s} sp l γ = ap (λ w. bit w (γ % 32)) (sp.outside (γ / 32
 
 module _ {sizes : List ℕ} where
   pub records_none : {w s x : List ℕ} → Recorded sizes w s x w s x
-  records_none = record { beyond = λ i l. refl; seeing = λ h. h; touching = λ h. h; touching_below = λ h. h; seen_long = refl; next_long = refl }
+  records_none = record { beyond = λ i l. refl; seeing = λ h. h; touching = λ h. h; touching_below = λ h. h; work_long = refl; seen_long = refl; next_long = refl }
 
   pub records_then : {w s x w' s' x' w'' s'' x'' : List ℕ} → Recorded sizes w s x w' s' x' → Recorded sizes w' s' x' w'' s'' x'' → Recorded sizes w s x w'' s'' x''
   records_then a b =
@@ -42,6 +42,7 @@ module _ {sizes : List ℕ} where
         seeing = λ h. b.seeing (a.seeing h);
         touching = λ h. b.touching (a.touching h);
         touching_below = λ h. b.touching_below (a.touching_below h);
+        work_long = b.work_long ∙ a.work_long;
         seen_long = b.seen_long ∙ a.seen_long;
         next_long = b.next_long ∙ a.next_long;
       }
@@ -50,13 +51,14 @@ module _ {sizes : List ℕ} where
   arrays r h = (r.seen_long ∙ h.0, r.next_long ∙ h.1)
 
   -- a slot has taken a set
-  pub records_note : {n from to : ℕ} {w s x set set' w' s' : List ℕ} {some : Bool} → Noted n from to w s set some w' s' set' → Recorded sizes w s x w' s' x
-  records_note {n} {w} {s} {set} h =
+  pub records_note : {n from to : ℕ} {w s x set set' w' s' : List ℕ} {some : Bool} → Noted n from to w s set some w' s' set' → length w' ≡ length w → Recorded sizes w s x w' s' x
+  records_note {n} {w} {s} {set} h long =
       record {
         beyond = h.beyond;
         seeing = λ old m γ t l. subst T (sym (h.seen_nodes m)) ((either (member s m) (eqb m n)).1 (see old m γ l ((either (slot w m γ) (eqb m n && member set γ)).0 (subst T (h.slots m γ) t))));
         touching = λ h. h;
         touching_below = λ h. h;
+        work_long = long;
         seen_long = h.long;
         next_long = refl;
       }
@@ -75,6 +77,7 @@ module _ {sizes : List ℕ} where
             subst T (sym (h.touches γ)) ((either (touched x γ) (member set γ)).1
             (⊎_elim (λ a. inl (old i γ a)) (λ b. inr ((both (eqb i label) (member set γ)).0 b).1) ((either (has_mark x i γ) (eqb i label && member set γ)).0 (subst T (h.marks i γ) t))));
         touching_below = λ old γ t. ⊎_elim (old γ) (below γ) ((either (touched x γ) (member set γ)).0 (subst T (h.touches γ) t));
+        work_long = refl;
         seen_long = refl;
         next_long = h.long;
       }

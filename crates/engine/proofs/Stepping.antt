@@ -1,13 +1,12 @@
 -- The marked remainders of a state one after another, over the lists.
 use Prim.Native.Nat.{ℕ, ◌+◌, ◌-◌, ◌*◌, ◌/◌, ◌%◌, ◌^◌, ◌≤◌, ◌<◌}
-use mathlib.Core.Bool.{Bool, true, false, not, true≢false}
+use mathlib.Core.Bool.{true, false}
 use mathlib.Core.List.{List}
-use mathlib.Core.Path.{◌≡◌, refl, sym, ap, ◌∙◌, subst}
+use mathlib.Core.Path.{◌≡◌, sym, ap, ◌∙◌, subst}
 use native.Mathlib.Decide.{dec_lt}
 use native.Mathlib.Numerals.{add-one}
 use native.Mathlib.Omega.{arith}
-use lib.Dec.{T, eqb}
-use borrow.Author.Tests.{eqb-true}
+use lib.Dec.{T}
 use lib.ListN.{length, get_or}
 use lib.Seq.{ext_get_or}
 use Rattle.policy.specs.NodeLists.{NodeLists, node_count, dups_below}
@@ -18,7 +17,7 @@ use Rattle.automaton.proofs.Tests.{true_T}
 use Rattle.spans.specs.Spans.{slot, has_mark, Spanned, Unseen}
 use Rattle.spans.proofs.Sets.{slot_word, slot_beyond}
 use Rattle.engine.specs.Going.{Recorded}
-use Rattle.engine.specs.Stepping.{Steps, Stands, RemainderReady, RemainderStepped, MarksLeft, Visited, StepReady, Stepped}
+use Rattle.engine.specs.Stepping.{Steps, Stands, RemainderStepped, Visited, StepReady, Stepped}
 use Rattle.engine.proofs.Steps.{steps_start, steps_idle, steps_output, steps_marks}
 use Rattle.engine.proofs.Records.{arrays, records_none, records_then}
 use Rattle.engine.proofs.Leaving.{long_still}
@@ -33,20 +32,11 @@ slots_clear work zeros m γ l = go (dec_lt γ 1024)
 
 -- ---- the marks of a state
 
-pub none_left : (state i : ℕ) → mask_bits ≤ i → MarksLeft state i false
-none_left state i l = record { inside = λ e. absurd (true≢false (sym e)); none = λ e j a b. absurd (omega arith) }
-
-pub some_left : (state i : ℕ) → i < mask_bits → MarksLeft state i (not (eqb (state / 2 ^ i) 0))
-some_left state i l = record { inside = λ e. omega arith; none = λ e j a b. here j a (eqb-true (state / 2 ^ i) 0 (not_false (eqb (state / 2 ^ i) 0) e)) }
-  where
-    here : (j : ℕ) → i ≤ j → state / 2 ^ i ≡ 0 → bit state j ≡ false
-    here j a e =
-        let q : j ≡ i + (j - i) = omega arith in
-        ap (bit state) q ∙ sym (bit_shift state i (j - i)) ∙ ap (λ x. bit x (j - i)) e ∙ bit_of_zero (j - i)
-
-    not_false : (b : Bool) → not b ≡ false → b ≡ true
-    not_false true e = refl
-    not_false false e = sym e
+-- no mark from i on
+pub none_from : (state i : ℕ) → state / 2 ^ i ≡ 0 → (j : ℕ) → i ≤ j → bit state j ≡ false
+none_from state i e j a =
+    let q : j ≡ i + (j - i) = omega arith in
+    ap (bit state) q ∙ sym (bit_shift state i (j - i)) ∙ ap (λ x. bit x (j - i)) e ∙ bit_of_zero (j - i)
 
 module _ {sizes nodes tests : List ℕ} {state i β : ℕ} {out work seen next : List ℕ} {f t : ℕ} where
   -- remainder i is not marked
@@ -62,7 +52,6 @@ module _ {sizes nodes tests : List ℕ} {state i β : ℕ} {out work seen next :
 pub record StepsLists (sizes nodes tests : List ℕ) (state β : ℕ) (out₀ work₀ seen₀ next₀ out work seen next : List ℕ) (f t i : ℕ) : Type 0 where
   pub few : i ≤ mask_bits
   pub spanned : Spanned f t out
-  pub same : length work ≡ length work₀
   pub long : (length seen ≡ 16) × (length next ≡ 1056)
   pub recorded : Recorded sizes work₀ seen₀ next₀ work seen next
   pub steps : (L : NodeLists) → Stands sizes L nodes tests β → Steps sizes L nodes tests (member out₀) (has_mark next₀) (bit state) β i (slot work) (has_mark next) (member out)
@@ -73,20 +62,18 @@ module _ {sizes nodes tests : List ℕ} {state β : ℕ} {out₀ work₀ seen₀
       record {
         few = omega arith;
         spanned = rd.spanned;
-        same = refl;
         long = (l, rd.marks_long);
         recorded = records_none;
         steps = λ L st. steps_start st.loaded st.legal (slot work₀) (λ m α k. slots_clear work₀ rd.zero m α (let h = st.legal.well_formed.few in omega arith));
       }
 
   module _ {out work seen next : List ℕ} {f t from : ℕ} (sl : StepsLists sizes nodes tests state β out₀ work₀ seen₀ next₀ out work seen next f t from) where
-    pub step_more : {f' t' : ℕ} {out' work' seen' next' : List ℕ} → from < mask_bits → Visited sizes nodes tests state from β out work seen next f' t' out' work' seen' next' → length work' ≡ length work
+    pub step_more : {f' t' : ℕ} {out' work' seen' next' : List ℕ} → from < mask_bits → Visited sizes nodes tests state from β out work seen next f' t' out' work' seen' next'
         → StepsLists sizes nodes tests state β out₀ work₀ seen₀ next₀ out' work' seen' next' f' t' (from + 1)
-    step_more {out' = out'} {work'} {seen'} {next'} l vi q =
+    step_more {out' = out'} {work'} {seen'} {next'} l vi =
         record {
           few = omega arith;
           spanned = vi.spanned;
-          same = q ∙ sl.same;
           long = arrays vi.recorded sl.long;
           recorded = records_then sl.recorded vi.recorded;
           steps = λ L st. subst (λ j. Steps sizes L nodes tests (member out₀) (has_mark next₀) (bit state) β j (slot work') (has_mark next') (member out')) (sym (add-one from))
@@ -110,7 +97,7 @@ module _ {sizes nodes tests : List ℕ} {state β : ℕ} {out₀ work₀ seen₀
             touching = sl.recorded.touching;
             touching_below = sl.recorded.touching_below;
             marks_long = sl.recorded.next_long;
-            kept = ext_get_or 0 work' work₀ (q ∙ sl.same) (λ i l. word i (dec_lt i 16384));
+            kept = ext_get_or 0 work' work₀ (q ∙ sl.recorded.work_long) (λ i l. word i (dec_lt i 16384));
           }
         where
           word : (i : ℕ) → Dec (i < 16384) → get_or work' i 0 ≡ get_or work₀ i 0
@@ -118,7 +105,4 @@ module _ {sizes nodes tests : List ℕ} {state β : ℕ} {out₀ work₀ seen₀
           word i (no l) = un.beyond i (omega arith) ∙ sl.recorded.beyond i (omega arith)
 
     pub unsee_asks : {f₀ t₀ : ℕ} → StepReady sizes nodes tests β f₀ t₀ out₀ work₀ next₀ → (16384 ≤ length work) × ((m γ : ℕ) → T (slot work m γ) → m < 512 → T (member seen m))
-    unsee_asks rd = (long_still rd.long sl.same, sl.recorded.seeing (λ m γ h l. absurd (subst T (slots_clear work₀ rd.zero m γ l) h)))
-
-    pub follow_asks : {f₀ t₀ : ℕ} → StepReady sizes nodes tests β f₀ t₀ out₀ work₀ next₀ → RemainderReady sizes nodes tests β f t out work seen next
-    follow_asks rd = record { lists = rd.lists; stands = rd.stands; spanned = sl.spanned; long = long_still rd.long sl.same; arrays = sl.long }
+    unsee_asks rd = (long_still rd.long sl.recorded.work_long, sl.recorded.seeing (λ m γ h l. absurd (subst T (slots_clear work₀ rd.zero m γ l) h)))

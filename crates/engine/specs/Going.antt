@@ -13,12 +13,13 @@ use Rattle.spans.specs.Spans.{slot, has_mark, touched, Spanned}
 use Rattle.loaded.specs.Nodes.{tests_at, up_at, guard_at}
 use Rattle.loaded.specs.Loaded.{OnlyTests, Enterable, Loaded}
 
--- What is recorded is seen, what is marked is touched; the work list beyond the slots is as it was.
+-- What is recorded is seen, what is marked is touched; the work list beyond the slots is as it was. The lists keep their lengths.
 pub record Recorded (sizes work seen next work' seen' next' : List ℕ) : Type 0 where
   pub beyond : (i : ℕ) → 16384 ≤ i → get_or work' i 0 ≡ get_or work i 0
   pub seeing : ((m γ : ℕ) → T (slot work m γ) → m < 512 → T (member seen m)) → (m γ : ℕ) → T (slot work' m γ) → m < 512 → T (member seen' m)
   pub touching : ((i γ : ℕ) → T (has_mark next i γ) → T (touched next γ)) → (i γ : ℕ) → T (has_mark next' i γ) → T (touched next' γ)
   pub touching_below : ((γ : ℕ) → T (touched next γ) → γ < product sizes) → (γ : ℕ) → T (touched next' γ) → γ < product sizes
+  pub work_long : length work' ≡ length work
   pub seen_long : length seen' ≡ length seen
   pub next_long : length next' ≡ length next
 

@@ -1,11 +1,11 @@
 -- One step of a state of a loaded policy at a packet (document 01, "States and rows"): it adds the output to a set and the marks of
 -- next to a list.
-use Rattle.std.specs.Prelude.{ℕ, suc, pred, ◌<◌, ◌≤◌, Bool, true, false, ◌||◌, List, ◌⊎◌, ◌≡◌, T, length, get_or}
+use Rattle.std.specs.Prelude.{ℕ, suc, pred, ◌<◌, ◌≤◌, ◌||◌, List, ◌⊎◌, ◌≡◌, T, length, get_or}
 use Rattle.packet.specs.Sizes.{product, LegalSizes}
 use Rattle.policy.specs.Legality.{Legal}
 use Rattle.policy.specs.Meaning.{numbered}
 use Rattle.policy.specs.NodeLists.{NodeLists, node_count, dups_below, policy_of}
-use Rattle.packet_set.specs.Bits.{mask_bits, bit}
+use Rattle.packet_set.specs.Bits.{bit}
 use Rattle.packet_set.specs.InnerMembers.{Members, Within, member}
 use Rattle.automaton.specs.Remainder.{remainder}
 use Rattle.automaton.specs.Reaches.{Passes, Reaches}
@@ -26,11 +26,6 @@ pub record Steps (sizes : List ℕ) (L : NodeLists) (nodes tests : List ℕ) (R�
   pub closed : (m α : ℕ) → m < node_count L → T (S m α) → Goes sizes L nodes tests S D 512 R by_rule m α
   pub whole : 0 < i → T (marks 0) → Goes sizes L nodes tests S D 512 R into (pred (node_count L)) β
   pub after : (j : ℕ) → 0 < j → j < i → j ≤ dups_below L (node_count L) → T (marks j) → Goes sizes L nodes tests S D 512 R out_of (place_at nodes j) β
-
--- whether remainder i or a later one is marked; `left` false: none is
-pub record MarksLeft (state i : ℕ) (left : Bool) : Type 0 where
-  pub inside : left ≡ true → i < mask_bits
-  pub none : left ≡ false → (j : ℕ) → i ≤ j → j < mask_bits → bit state j ≡ false
 
 -- the policy is loaded, and the packet is one
 pub record Stands (sizes : List ℕ) (L : NodeLists) (nodes tests : List ℕ) (β : ℕ) : Type 0 where

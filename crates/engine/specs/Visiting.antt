@@ -8,6 +8,7 @@ use Rattle.policy.specs.NodeLists.{NodeLists}
 use Rattle.packet_set.specs.InnerMembers.{member}
 use Rattle.spans.specs.Spans.{slot, Spanned, Holds, Noted}
 use Rattle.changes.specs.Changes.{Changed}
+use Rattle.engine.specs.declared.Progress.{Progress}
 use Rattle.engine.specs.Going.{ThroughLists, VisitReady}
 
 -- the packets that set k lets in, and set 0 lets in all; `some` false: none is left
@@ -36,6 +37,10 @@ onward (Sum l r) q = q
 onward (Seq l r) q = r
 onward (Star c) q = q
 onward (Neg c) q = q
+
+-- a step writes to the same lists all along
+abbrev pub SameLists : Progress → Progress → Type 0
+SameLists p q = (q.work.ghost_name ≡ p.work.ghost_name) × (q.next.ghost_name ≡ p.next.ghost_name)
 
 module _ (sizes nodes tests : List ℕ) where
   -- a visit may start, for some policy that is loaded

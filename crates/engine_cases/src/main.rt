@@ -2,89 +2,72 @@
 // its length, then a state, as its four quarters, and a packet. It writes the packets of the output, and each packet with the state next there.
 #![tactic(auto)]
 
-ghost use Rattle.std.specs.Prelude.{◌≡◌};
-ghost use Rattle.packet.specs.declared.Tested.TheVariants.{Passed};
-ghost use Rattle.packet.specs.Sizes.{product_stage, LegalSizes};
-ghost use Rattle.policy.specs.AsLists.{policy_at_entry};
+ghost use Rattle.std.specs.Prelude.{◌≡◌, IfOk};
+ghost use Rattle.packet.specs.Sizes.{product, LegalSizes};
+ghost use Rattle.policy.specs.AsLists.{lists_of};
 ghost use Rattle.policy.specs.Legality.{Legal};
 
+use engine::LoadedPolicy;
+use harness::{Entry, Input};
 use marks::Next;
-use packet::Tested;
-use packet_set::{Lowest, Mask, PacketWords};
+use packet::Refusal;
+use packet_set::{Mask, PacketWords};
+use policy::lent::PolicyLists;
 use spans::Span;
 use std::io::Stdout;
 
-fn output(stdout: Stdout, set: PacketWords) {
-    let mut from: u16 = 0;
-    let mut turns: usize = 0;
-    while turns < 1024 {
-        let Lowest::At(packet) = packet_set::next_member(&set, from, 32) else {
-            return;
-        };
+fn output(stdout: Stdout, set: &PacketWords) {
+    let mut from = 0;
+    while let Some(packet) = packet_set::next_member(set, from, 32) {
         harness::space(stdout);
-        harness::number(stdout, harness::wide(packet));
-        if packet == 65535 {
-            return;
-        }
+        harness::number(stdout, u64::from(packet));
         from = packet + 1;
-        turns += 1;
     }
 }
 
 fn states(stdout: Stdout, next: &Next) {
-    let mut i = 0;
-    while i < 1024 {
-        if next[i] != 0 {
+    for (packet, state) in next[..1024].iter().enumerate() {
+        if *state != 0 {
             harness::space(stdout);
-            harness::number(stdout, i as u64);
+            harness::number(stdout, packet as u64);
             harness::write(stdout, b":");
-            harness::number(stdout, next[i]);
+            harness::number(stdout, *state);
         }
-        i += 1;
     }
 }
 
-// The causes of sizes and of one policy over them.
-fn tested(sizes: &[u16], kind: &[u8], first: &[u16], second: &[u16]) -> Tested
-    ensures { result ≡ Passed → LegalSizes sizes.now × Legal sizes.now (policy_at_entry kind first second) × (product_stage sizes.now ≡ Passed) }
+// The packet count of sizes over which a policy is legal, or the first cause.
+fn tested(sizes: &[u16], policy: PolicyLists) -> Result<u16, Refusal>
+    ensures { IfOk result (λ count. LegalSizes sizes.now × Legal sizes.now (lists_of policy.entry) × (count ≡ product sizes.now)) }
 {
-    let fields = packet::fields_stage(sizes);
-    let counted = packet::packet_count(sizes);
-    let policy = legality::policy_stage(sizes, 0, kind, first, second);
-    let product = counted.tested;
-    let policies = policy.tested;
-    packet::first_of(fields, packet::first_of(product, policies))
+    packet::fields_stage(sizes)?;
+    let count = packet::packet_count(sizes)?;
+    legality::policy_stage(sizes, 0, policy)?;
+    Ok(count)
 }
 
-fn step(
-    stdout: Stdout,
-    sizes: &[u16],
-    kind: &[u8],
-    first: &[u16],
-    second: &[u16],
-    state: Mask,
-    packet: u16,
-) {
-    let Tested::Passed = tested(sizes, kind, first, second) else {
+fn step(stdout: Stdout, sizes: &[u16], policy: PolicyLists, state: Mask, packet: u16) {
+    let Ok(count) = tested(sizes, policy) else {
         harness::write(stdout, b"refused\n");
         return;
     };
-    let counted = packet::packet_count(sizes);
-    let count = counted.packets;
     if count <= packet {
         harness::write(stdout, b"no packet\n");
         return;
     }
-    let mut nodes = [0u64; 576];
-    let mut tests = [0u32; 8224];
-    loaded::load(sizes, count, kind, first, second, &mut nodes, &mut tests);
-    let mut out = [0u32; 32];
-    let mut next = [0; 1056];
-    let mut work = [0u32; 16384];
-    engine::step(
-        &nodes,
-        &tests,
+    let mut nodes = [0; 576];
+    let mut tests = [0; 8224];
+    loaded::load(sizes, count, policy, &mut nodes, &mut tests);
+    let policy = LoadedPolicy {
         sizes,
+        nodes: &nodes,
+        tests: &tests,
+    };
+    let mut out = packet_set::empty();
+    let mut next = [0; 1056];
+    let mut work = [0; 16384];
+    engine::step(
+        &policy,
         state,
         packet,
         Span { from: 0, to: 0 },
@@ -93,51 +76,39 @@ fn step(
         &mut work,
     );
     harness::write(stdout, b"output");
-    output(stdout, out);
+    output(stdout, &out);
     harness::write(stdout, b", next");
     states(stdout, &next);
     harness::line_end(stdout);
 }
 
-fn one_case(stdout: Stdout, input: &[u8], from: usize) -> usize {
-    let mut sizes = [0u16; 16];
-    let declared = harness::scan_list(input, from, &mut sizes);
-    let mut kind = [0u8; 520];
-    let kinds = harness::scan_bytes(input, declared.at, &mut kind);
-    let mut first = [0u16; 520];
-    let firsts = harness::scan_list(input, kinds.at, &mut first);
-    let mut second = [0u16; 520];
-    let seconds = harness::scan_list(input, firsts.at, &mut second);
-    let state = harness::scan_mask(input, seconds.at);
-    let packet = harness::scan(input, state.at);
-    let d = declared.len;
-    let k = kinds.len;
-    let f = firsts.len;
-    let s = seconds.len;
-    step(
-        stdout,
-        &sizes[..d],
-        &kind[..k],
-        &first[..f],
-        &second[..s],
-        state.value,
-        (packet.value % 65536) as u16,
-    );
-    packet.at
+fn one_case(stdout: Stdout, input: &mut Input) {
+    let mut sizes = [0; 16];
+    let mut kind = [0; 520];
+    let mut first = [0; 520];
+    let mut second = [0; 520];
+    let sizes = input.scan_list(&mut sizes);
+    let policy = PolicyLists {
+        kind: input.scan_list(&mut kind),
+        first: input.scan_list(&mut first),
+        second: input.scan_list(&mut second),
+    };
+    let state = Mask::scan(input);
+    let packet = u16::scan(input);
+    step(stdout, sizes, policy, state, packet);
 }
 
-fn run(stdout: Stdout, input: &[u8]) {
-    let mut at = harness::next_digit(input, 0);
-    for _ in 0..input.len() {
-        if input.len() <= at {
+fn run(stdout: Stdout, bytes: &[u8]) {
+    let mut input = Input { rest: bytes };
+    for _ in 0..bytes.len() {
+        if !input.next_digit() {
             return;
         }
-        at = harness::next_digit(input, one_case(stdout, input, at));
+        one_case(stdout, &mut input);
     }
 }
 
 fn main(rt: HostRuntime) {
-    let mut input = [0u8; 65536];
-    let n = harness::read_full(rt.stdin(), &mut input);
-    run(rt.stdout(), &input[..n]);
+    let mut input = [0; 65536];
+    run(rt.stdout(), harness::read_full(rt.stdin(), &mut input));
 }

@@ -8,20 +8,18 @@ use mathlib.Core.List.{List, [], ◌∷◌}
 use mathlib.Core.Logic.{◌↔◌}
 use mathlib.Core.Path.{◌≡◌, refl, sym, ◌∙◌, ap, ap₂, subst}
 use lib.ListN.{length, take, length-take, length-map}
-use borrow.Author.Tests.{eqb-true, eq-eqb, ltb-false, le-ltb, not-false}
+use borrow.Author.Tests.{eq-eqb, le-ltb}
 use Rattle.packet.specs.Lowest.{lowest}
 use Rattle.packet.specs.Refusals.{refused_at, at_place}
 use Rattle.packet.specs.declared.Refusal.{Refusal}
-use Rattle.packet.specs.declared.Tested.{Tested}
-use Rattle.packet.specs.declared.Tested.TheVariants.{Passed, Refused}
-use Rattle.packet.proofs.Tests.{or_false}
-use Rattle.packet.proofs.Stages.{refused_at_passed, at_place_none}
+use Rattle.packet.specs.Refusals.{Tested}
+use Rattle.std.specs.Prelude.{Ok, Err}
 use Rattle.fields.specs.Tables.{Table, joint_sizes}
 use Rattle.policy.specs.NodeLists.{NodeLists, policy_of}
 use Rattle.policy.specs.Order.{pair_core, pair_tests}
 use Rattle.policy.specs.Meaning.{SameTracesBelow, SameTracesDeclared}
-use Rattle.legality.specs.declared.CallTested.{CallTested}
-use Rattle.legality.specs.Answers.{FrontOf}
+use Rattle.legality.specs.declared.LegalCall.{LegalCall as Found}
+use Rattle.legality.specs.Answers.{front_tests, FrontOf}
 use Rattle.system.specs.System.{System}
 use Rattle.system.specs.RowOrder.{Entry, finished, turn, run, full, equal as all_handled, held}
 use Rattle.system.proofs.Answers.{full_iff, answer_finished, held_stopped}
@@ -35,13 +33,13 @@ use Rattle.pair.proofs.Lawful.{EvaluablePair, legal_pair}
 use Rattle.pair.proofs.Evidence.{evidence_judged, accepted_same, evidence_iff, search_accepted, row_order_accepted}
 use Rattle.index.specs.Columns.{EvenColumns}
 use Rattle.lent_lists.specs.LentLists.{misfit, rows_misfit, lists_stage, work_after}
-use Rattle.lent_lists.proofs.Testing.{front_tests, LegalCall, tests_passed, pair_lent, lent_pair}
+use Rattle.lent_lists.proofs.Testing.{front_as, LegalCall, tests_passed, pair_lent, lent_pair, lists_passed, row_list_fits, rows_few}
 use Rattle.classes.proofs.Pairs.{left_named, right_named, same_declared}
 use Rattle.evidence.specs.declared.Evidence.{Evidence}
 use Rattle.evidence.specs.declared.Evidence.TheVariants.{Accepted, RuleA, RuleB, RuleC, RuleD, Refused as NotChecked}
 use Rattle.evidence.specs.Calls.{as_evidence, evidence_of, evidence_tests, evidence_call, HoldRowOrder, CheckedRows}
-use Rattle.row_rules.specs.declared.Spot.{Spot}
-use Rattle.row_rules.specs.Presence.{spot_of, DupsFit, strays}
+use Rattle.std.specs.Prelude.{Option}
+use Rattle.row_rules.specs.Presence.{DupsFit, strays}
 use Rattle.evidence.specs.InnerSteps.{dups_of, StrayIs, LentTable, TableChecked}
 use Rattle.evidence.proofs.Stepping.{dups_few}
 
@@ -69,32 +67,32 @@ reported_same x y e = sym (told_reported x) ∙ ap told e ∙ told_reported y
 not_accepted : {r : Refusal} → NotChecked r ≡ Accepted → ⊥
 not_accepted e = true≢false (cc)
 
-accepted_passed : (t : Tested) (x : RulesAnswer) → evidence_of t x ≡ Accepted → (t ≡ Passed) × (x ≡ accepted)
+accepted_passed : (t : Tested) (x : RulesAnswer) → evidence_of t x ≡ Accepted → (t ≡ Ok tt) × (x ≡ accepted)
 unfolding evidence_of as_evidence
-accepted_passed Passed x e = (refl, reported_same x accepted e)
-accepted_passed (Refused r) x e = absurd (not_accepted e)
+accepted_passed (Ok _) x e = (refl, reported_same x accepted e)
+accepted_passed (Err r) x e = absurd (not_accepted e)
 
 take_few : {A : Type 0} (n : ℕ) (l : List A) → length (take n l) ≤ n
 take_few n l = omega (arith, length-take n l)
 
 -- ---- cause 10
 
-pub lists_pass : (n work : ℕ) → n ≤ 65535 → 16384 ≤ work → lists_stage (n ∷ n ∷ n ∷ []) work ≡ Passed
+pub lists_pass : (n work : ℕ) → n ≤ 65535 → 16384 ≤ work → lists_stage (n ∷ n ∷ n ∷ []) work ≡ Ok tt
 unfolding lists_stage rows_misfit misfit refused_at at_place
 lists_pass n work few long = rw (eq-eqb n n refl, le-ltb 65535 n few, le-ltb work 16384 long) refl
 
-pub lists_passed : (a b c work : ℕ) → lists_stage (a ∷ b ∷ c ∷ []) work ≡ Passed → (b ≡ a) × (c ≡ a) × (a ≤ 65535) × (16384 ≤ work)
-unfolding lists_stage rows_misfit misfit
-lists_passed a b c work e =
-    let x = or_false _ _ (at_place_none 0 _ (refused_at_passed 10 0 _ e)) in
-    let y = or_false _ _ x.0 in
-    let z = or_false _ _ y.1 in
-    (eqb-true b a (not-false _ y.0), eqb-true c a (not-false _ z.0), ltb-false 65535 a z.1, ltb-false work 16384 x.1)
+pub three_passed : (a b c work : ℕ) → lists_stage (a ∷ b ∷ c ∷ []) work ≡ Ok tt → (b ≡ a) × (c ≡ a) × (a ≤ 65535) × (16384 ≤ work)
+unfolding rows_misfit
+three_passed a b c work e =
+    let x = lists_passed _ work e in
+    let y = row_list_fits a b _ x.0 in
+    let z = row_list_fits a c _ y.1 in
+    (y.0, z.0, rows_few a z.1, x.1)
 
 module _ (ts : List Table) (L R : NodeLists) where
-  module _ (e : pair_tests ts L R ≡ Passed) where
-    passed_call : LegalCall ts L R Passed
-    passed_call = tests_passed ts L R Passed (pair_lent ts L R Passed e refl)
+  module _ (e : pair_tests ts L R ≡ Ok tt) where
+    passed_call : LegalCall ts L R (Ok tt)
+    passed_call = tests_passed ts L R (Ok tt) (pair_lent ts L R (Ok tt) e refl)
 
     pair_evaluable : EvaluablePair (pair_core ts L R) (policies L R)
     pair_evaluable = legal_pair (pair_core ts L R) L R passed_call.left_legal passed_call.right_legal
@@ -105,17 +103,17 @@ module _ (ts : List Table) (L R : NodeLists) where
 
   module _ (packets lefts rights : List ℕ) where
     -- two policies that no cause refuses, and lists that fit
-    tests_pass : (words : ℕ) → pair_tests ts L R ≡ Passed → lists_stage (length packets ∷ length lefts ∷ length rights ∷ []) words ≡ Passed → evidence_tests ts L R packets lefts rights words ≡ Passed
+    tests_pass : (words : ℕ) → pair_tests ts L R ≡ Ok tt → lists_stage (length packets ∷ length lefts ∷ length rights ∷ []) words ≡ Ok tt → evidence_tests ts L R packets lefts rights words ≡ Ok tt
     unfolding evidence_tests
     tests_pass words e l = pair_lent ts L R _ e l
 
-    evaluable : (words : ℕ) → evidence_tests ts L R packets lefts rights words ≡ Passed → EvaluablePair (pair_core ts L R) (policies L R)
+    evaluable : (words : ℕ) → evidence_tests ts L R packets lefts rights words ≡ Ok tt → EvaluablePair (pair_core ts L R) (policies L R)
     unfolding evidence_tests
     evaluable words e = pair_evaluable (lent_pair ts L R _ e)
 
     -- accepted exactly when no cause refuses and the four row rules hold
     pub call_accepted : (words : ℕ) → (evidence_call ts L R packets lefts rights words ≡ Accepted)
-        ↔ ((evidence_tests ts L R packets lefts rights words ≡ Passed) × RowRules (pair_core ts L R) (policies L R) packets lefts rights)
+        ↔ ((evidence_tests ts L R packets lefts rights words ≡ Ok tt) × RowRules (pair_core ts L R) (policies L R) packets lefts rights)
     unfolding evidence_call evidence_of as_evidence
     call_accepted words = (
       λ e.
@@ -134,7 +132,7 @@ module _ (ts : List Table) (L R : NodeLists) where
         (pair_declared (lent_pair ts L R _ x.0)).0 (accepted_same (pair_core ts L R) (policies L R) (evaluable words x.0) packets lefts rights x.1)
 
     -- where no cause refuses, the answer names the first broken rule and its spot
-    pub call_judged : (words : ℕ) → evidence_tests ts L R packets lefts rights words ≡ Passed → (x : RulesAnswer) → evidence_call ts L R packets lefts rights words ≡ as_evidence x
+    pub call_judged : (words : ℕ) → evidence_tests ts L R packets lefts rights words ≡ Ok tt → (x : RulesAnswer) → evidence_call ts L R packets lefts rights words ≡ as_evidence x
         → Judged (pair_system (pair_core ts L R) (policies L R)) (table_of (pair_core ts L R) (policies L R) packets lefts rights) x
     unfolding evidence_call evidence_of
     call_judged words p x e =
@@ -144,7 +142,7 @@ module _ (ts : List Table) (L R : NodeLists) where
 
   -- ---- the rows that a search of an equal pair lists
 
-  module _ (room words : ℕ) (few : room ≤ 65535) (pass : pair_tests ts L R ≡ Passed) (long : 16384 ≤ words) where
+  module _ (room words : ℕ) (few : room ≤ 65535) (pass : pair_tests ts L R ≡ Ok tt) (long : 16384 ≤ words) where
     abbrev H : Columns
     H = held_columns (pair_core ts L R) (policies L R) room
 
@@ -152,7 +150,7 @@ module _ (ts : List Table) (L R : NodeLists) where
     unfolding held
     held_length = le_trans (take_few room _) few
 
-    held_tests : evidence_tests ts L R H.packets H.lefts H.rights words ≡ Passed
+    held_tests : evidence_tests ts L R H.packets H.lefts H.rights words ≡ Ok tt
     unfolding held_columns columns_of
     held_tests =
         tests_pass H.packets H.lefts H.rights words pass
@@ -173,7 +171,7 @@ module _ (ts : List Table) (L R : NodeLists) where
     equal_accepted trace count e = held_accepted (search_accepted (pair_core ts L R) (policies L R) (pair_evaluable pass) room trace count e)
 
   -- the row order of an equal pair is accepted
-  pub call_complete : (packets lefts rights : List ℕ) (words : ℕ) → pair_tests ts L R ≡ Passed → SameTracesDeclared (joint_sizes ts) (policy_of L) (policy_of R) → HoldRowOrder (pair_core ts L R) L R packets lefts rights → 16384 ≤ words
+  pub call_complete : (packets lefts rights : List ℕ) (words : ℕ) → pair_tests ts L R ≡ Ok tt → SameTracesDeclared (joint_sizes ts) (policy_of L) (policy_of R) → HoldRowOrder (pair_core ts L R) L R packets lefts rights → 16384 ≤ words
       → evidence_call ts L R packets lefts rights words ≡ Accepted
   call_complete packets lefts rights words pass same h long =
       ap (λ (p : List ℕ). evidence_call ts L R p lefts rights words) h.packets_held
@@ -224,43 +222,47 @@ module _ (ts : List Table) (L R : NodeLists) where
         is = f ∙ ap (λ (u : Tested). evidence_of u (evidence_answer (pair_core ts L R) (policies L R) packets lefts rights)) (sym e)
 
     -- the tests as they were made
-    module _ {said : Tested} (lists : said ≡ lists_stage (length packets ∷ length lefts ∷ length rights ∷ []) (length work)) {q : CallTested} (front : FrontOf ts 1 L R said q) where
-      tests_are : q.tested ≡ evidence_tests ts L R packets lefts rights (length work)
+    module _ {said : Tested} (lists : said ≡ lists_stage (length packets ∷ length lefts ∷ length rights ∷ []) (length work)) where
+      tests_made : front_tests ts 1 L R said ≡ evidence_tests ts L R packets lefts rights (length work)
       unfolding evidence_tests
-      tests_are = front_tests ts L R _ lists front
+      tests_made = ap (front_tests ts 1 L R) lists ∙ front_as ts L R _
 
-      pub refused : (r : Refusal) → q.tested ≡ Refused r → CheckedRows ts L R packets lefts rights work (NotChecked r) work
+      pub refused : {r : Refusal} → front_tests ts 1 L R said ≡ Err r → CheckedRows ts L R packets lefts rights work (NotChecked r) work
       unfolding evidence_of work_after
-      refused r e = checked_rows (Refused r) (sym tests_are ∙ e) (NotChecked r) refl work refl
+      refused {r} e = checked_rows (Err r) (sym tests_made ∙ e) (NotChecked r) refl work refl
 
-      module _ (passed : q.tested ≡ Passed) where
-        pub lent : LentTable (pair_core ts L R) L R packets lefts rights q.packets work
+      -- the causes pass: F is what the front tells
+      module _ {F : Found} (front : FrontOf ts 1 L R said (Ok F)) where
+        tests_passing : evidence_tests ts L R packets lefts rights (length work) ≡ Ok tt
+        tests_passing = sym tests_made ∙ front.0
+
+        pub lent : LentTable (pair_core ts L R) L R packets lefts rights F.packets work
         unfolding evidence_tests
         lent =
-            let h = tests_passed ts L R _ (sym tests_are ∙ passed) in
-            let n = lists_passed _ _ _ _ h.passed in
+            let h = tests_passed ts L R _ tests_passing in
+            let n = three_passed _ _ _ _ h.passed in
             record {
-              allowed = record { legal = h.legal_sizes; left_legal = h.left_legal; right_legal = h.right_legal; packet_count = front.packets passed };
+              allowed = record { legal = h.legal_sizes; left_legal = h.left_legal; right_legal = h.right_legal; packet_count = front.1.packets };
               table = record { left = n.0; right = n.1 };
               numbered = n.2;
               long = n.3;
             }
 
         -- what the search for a row that breaks rule (a) asks, with the dups of the policies
-        module _ {dups : List ℕ} (e : dups ≡ q.left_dups ∷ q.right_dups ∷ []) where
+        module _ {dups : List ℕ} (e : dups ≡ F.left_dups ∷ F.right_dups ∷ []) where
           dups_known : DupsFit dups × (dups ≡ dups_of L R)
-          dups_known = dups_few (pair_core ts L R) L R packets lefts rights lent (front.left_dups_lem passed) (front.right_dups_lem passed) e
+          dups_known = dups_few (pair_core ts L R) L R packets lefts rights lent front.1.left_dups front.1.right_dups e
 
           pub stray_asks : EvenColumns packets lefts rights × ((length packets ≤ 65535) × DupsFit dups)
           stray_asks = (lent.table, (lent.numbered, dups_known.0))
 
           -- the sizes are the core sizes as they were found
-          pub table_asks : {spot : Spot} → spot_of spot ≡ lowest (strays packets lefts rights q.packets dups) (length packets)
-              → LentTable (take q.count q.core) L R packets lefts rights q.packets work × StrayIs L R packets lefts rights q.packets spot
-          table_asks f = (subst (λ (s : List ℕ). LentTable s L R packets lefts rights q.packets work) (sym (front.core passed)) lent, record { first = f ∙ ap (λ (ds : List ℕ). lowest (strays packets lefts rights q.packets ds) (length packets)) dups_known.1 })
+          pub table_asks : {spot : Option ℕ} → spot ≡ lowest (strays packets lefts rights F.packets dups) (length packets)
+              → LentTable (take F.count F.core) L R packets lefts rights F.packets work × StrayIs L R packets lefts rights F.packets spot
+          table_asks f = (subst (λ (s : List ℕ). LentTable s L R packets lefts rights F.packets work) (sym front.1.core) lent, record { first = f ∙ ap (λ (ds : List ℕ). lowest (strays packets lefts rights F.packets ds) (length packets)) dups_known.1 })
 
-        pub table_answered : (answer : Evidence) (work' : List ℕ) → TableChecked (take q.count q.core) L R packets lefts rights work answer work' → CheckedRows ts L R packets lefts rights work answer work'
+        pub table_answered : (answer : Evidence) (work' : List ℕ) → TableChecked (take F.count F.core) L R packets lefts rights work answer work' → CheckedRows ts L R packets lefts rights work answer work'
         unfolding evidence_of work_after
         table_answered answer work' c =
-            let t = subst (λ (s : List ℕ). TableChecked s L R packets lefts rights work answer work') (front.core passed) c in
-            checked_rows Passed (sym tests_are ∙ passed) answer t.answers work' t.cleared
+            let t = subst (λ (s : List ℕ). TableChecked s L R packets lefts rights work answer work') front.1.core c in
+            checked_rows (Ok tt) tests_passing answer t.answers work' t.cleared

@@ -5,7 +5,7 @@ use native.Mathlib.Nat.{le_refl}
 use native.Mathlib.Omega.{arith}
 use mathlib.Core.Bool.{Bool, not, ◌||◌}
 use mathlib.Core.List.{List}
-use mathlib.Core.Option.{none}
+use Rattle.std.specs.Prelude.{None}
 use mathlib.Core.Path.{◌≡◌, refl, ◌∙◌, ap, ap₂}
 use lib.ListN.{length}
 use borrow.Author.Tests.{ltb-true, not-false}
@@ -60,7 +60,7 @@ module _ (sizes : List ℕ) (L R : NodeLists) (packets lefts rights : List ℕ) 
     lowest_stray = lowest_agree _ _ (length packets) (length packets) refl (λ i h. strays_is i)
 
     -- where rule (a) is kept, each packet is below N
-    pub packets_small : lowest (strays packets lefts rights count (dups_of L R)) (length packets) ≡ none → Small packets count
+    pub packets_small : lowest (strays packets lefts rights count (dups_of L R)) (length packets) ≡ None → Small packets count
     unfolding strays row_in_range
     packets_small e = record { small = λ i h. ltb-true _ _ (and_true _ _ (not-false _ (lowest_none _ _ e i h))).0 }
 

@@ -4,7 +4,7 @@ use native.Mathlib.Nat.{not-suc-le-zero}
 use native.Mathlib.Omega.{arith}
 use mathlib.Core.Bool.{◌||◌, not}
 use mathlib.Core.Logic.{◌⊎◌, inl, inr}
-use mathlib.Core.Option.{Option, none, some}
+use Rattle.std.specs.Prelude.{Option, None, Some}
 use mathlib.Core.Path.{◌≡◌, refl, sym, subst}
 use Rattle.packet.specs.Lowest.{lowest}
 use Rattle.packet.proofs.Tests.{last_or_before}
@@ -22,9 +22,9 @@ both_accepted (rule_d i γ) y e = let z : ◌≡◌ {A = ℕ} 0 1 = cc in absurd
 -- no spot, whichever row is asked
 accepted_at : (j i : ℕ) (o u : Option ℕ) → and_then (broken_at (λ γ. rule_c j) o) (broken_at (rule_d j) u) ≡ accepted → and_then (broken_at (λ γ. rule_c i) o) (broken_at (rule_d i) u) ≡ accepted
 unfolding and_then broken_at
-accepted_at j i none none e = refl
-accepted_at j i none (some γ) e = let z : ◌≡◌ {A = ℕ} 0 1 = cc in absurd (omega arith)
-accepted_at j i (some γ) u e = let z : ◌≡◌ {A = ℕ} 0 1 = cc in absurd (omega arith)
+accepted_at j i None None e = refl
+accepted_at j i None (Some γ) e = let z : ◌≡◌ {A = ℕ} 0 1 = cc in absurd (omega arith)
+accepted_at j i (Some γ) u e = let z : ◌≡◌ {A = ℕ} 0 1 = cc in absurd (omega arith)
 
 module _ (S : System) (T : Table S) where
   checked_below : (n j : ℕ) → j < n → check_rows S T n ≡ accepted → check_row S T j ≡ accepted

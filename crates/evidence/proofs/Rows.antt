@@ -7,7 +7,7 @@ use native.Mathlib.Omega.{arith}
 use mathlib.Core.Bool.{true, ◌&&◌}
 use mathlib.Core.List.{List}
 use mathlib.Core.Logic.{◌⊎◌, inl, inr}
-use mathlib.Core.Option.{Option}
+use Rattle.std.specs.Prelude.{Option}
 use mathlib.Core.Path.{◌≡◌, refl, sym, ◌∙◌, ap, ap₂, subst}
 use lib.Dec.{eqb}
 use lib.ListN.{length, get_or, replicate}
@@ -34,12 +34,11 @@ use Rattle.compare.proofs.Telling.{same_lowest, differs_lowest}
 use Rattle.evidence.specs.declared.Evidence.TheVariants.{Accepted, RuleC, RuleD}
 use Rattle.evidence.specs.declared.RowAnswer.{RowAnswer}
 use Rattle.evidence.specs.declared.RowAnswer.TheVariants.{Keeps, Outputs, Next}
-use Rattle.row_rules.specs.declared.Spot.{Spot}
-use Rattle.row_rules.specs.declared.Spot.TheVariants.{At, Nowhere}
-use Rattle.row_rules.specs.Presence.{spot_of, next_missing, Repeated}
+use Rattle.row_rules.specs.Presence.{next_missing, Repeated}
 use Rattle.evidence.specs.Calls.{as_evidence}
 use Rattle.evidence.specs.InnerSteps.{row_told, TableReady, RowChecked, RowsChecked}
 use Rattle.evidence.proofs.Joining.{lowest_agree, missing_is}
+use Rattle.std.specs.Prelude.{Some, None}
 use Rattle.evidence.proofs.Repeats.{repeat_keeps}
 
 -- ---- one row
@@ -93,7 +92,7 @@ module _ {sizes : List ℕ} {nodes tests : List (List ℕ)} {packets lefts right
         unfolding breaks_d
         next_is γ h = ap₂ (next_missing packets lefts rights γ) (at_row.left_next γ h) (at_row.right_next γ h) ∙ missing_is sizes L R packets lefts rights γ _ _
 
-        told_next : answer ≡ Same → (s : Spot) → spot_of s ≡ lowest (λ γ. next_missing packets lefts rights γ (get_or (left_of next) γ 0) (get_or (right_of next) γ 0)) count → broken_at (rule_d i) (spot_of s) ≡ check_row S T i
+        told_next : answer ≡ Same → (s : Option ℕ) → s ≡ lowest (λ γ. next_missing packets lefts rights γ (get_or (left_of next) γ 0) (get_or (right_of next) γ 0)) count → broken_at (rule_d i) s ≡ check_row S T i
         unfolding check_row lowest_telling and_then broken_at
         told_next same s missing =
             ap₂ (λ (o p : Option ℕ). and_then (broken_at (λ γ. rule_c i) o) (broken_at (rule_d i) p))
@@ -108,23 +107,21 @@ module _ {sizes : List ℕ} {nodes tests : List (List ℕ)} {packets lefts right
           not_keeps : Outputs ≡ Keeps → ⊥
           not_keeps k = let y : ◌≡◌ {A = ℕ} 0 1 = cc in omega arith
 
-      pub left_differs : (γ : ℕ) → answer ≡ Left γ → RowChecked sizes nodes tests packets lefts rights i work Outputs next work'
-      left_differs = outputs_differ left
+      pub outputs_apart : ((γ : ℕ) × (answer ≡ Left γ)) ⊎ ((γ : ℕ) × (answer ≡ Right γ)) → RowChecked sizes nodes tests packets lefts rights i work Outputs next work'
+      outputs_apart (inl p) = outputs_differ left p.0 p.1
+      outputs_apart (inr p) = outputs_differ right p.0 p.1
 
-      pub right_differs : (γ : ℕ) → answer ≡ Right γ → RowChecked sizes nodes tests packets lefts rights i work Outputs next work'
-      right_differs = outputs_differ right
-
-      module _ (same : answer ≡ Same) {spot : Spot} (missing : spot_of spot ≡ lowest (λ γ. next_missing packets lefts rights γ (get_or (left_of next) γ 0) (get_or (right_of next) γ 0)) count) where
-        pub row_next : (γ : ℕ) → spot ≡ At γ → RowChecked sizes nodes tests packets lefts rights i work (Next γ) next work'
-        unfolding row_told spot_of broken_at
-        row_next γ e = record { told = λ L R b. told_next L R b same (At γ) (ap spot_of (sym e) ∙ missing); blank = λ k. absurd (not_keeps k); kept = compared.kept }
+      module _ (same : answer ≡ Same) {spot : Option ℕ} (missing : spot ≡ lowest (λ γ. next_missing packets lefts rights γ (get_or (left_of next) γ 0) (get_or (right_of next) γ 0)) count) where
+        pub row_next : (γ : ℕ) → spot ≡ Some γ → RowChecked sizes nodes tests packets lefts rights i work (Next γ) next work'
+        unfolding row_told broken_at
+        row_next γ e = record { told = λ L R b. told_next L R b same (Some γ) (sym e ∙ missing); blank = λ k. absurd (not_keeps k); kept = compared.kept }
           where
             not_keeps : Next γ ≡ Keeps → ⊥
             not_keeps k = let y : ◌≡◌ {A = ℕ} 0 1 = cc in omega arith
 
-        pub row_keeps : spot ≡ Nowhere → {next' : List (List ℕ)} → BothBlank next' → RowChecked sizes nodes tests packets lefts rights i work Keeps next' work'
-        unfolding row_told spot_of broken_at
-        row_keeps e blank = record { told = λ L R b. told_next L R b same Nowhere (ap spot_of (sym e) ∙ missing); blank = λ k. blank; kept = compared.kept }
+        pub row_keeps : spot ≡ None → {next' : List (List ℕ)} → BothBlank next' → RowChecked sizes nodes tests packets lefts rights i work Keeps next' work'
+        unfolding row_told broken_at
+        row_keeps e blank = record { told = λ L R b. told_next L R b same None (sym e ∙ missing); blank = λ k. blank; kept = compared.kept }
 
 -- ---- row by row
 

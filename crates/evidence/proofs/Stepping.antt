@@ -4,7 +4,7 @@ use Prim.Native.Nat.{ℕ, ◌/◌, ◌≤◌}
 use native.Mathlib.Nat.{le_refl}
 use native.Mathlib.Omega.{arith}
 use mathlib.Core.List.{List, [], ◌∷◌}
-use mathlib.Core.Option.{Option}
+use Rattle.std.specs.Prelude.{Option}
 use mathlib.Core.Path.{◌≡◌, refl, sym, ◌∙◌, ap, ap₂, subst}
 use lib.ListN.{length, get_or, replicate, length-replicate, get_or-replicate}
 use Rattle.packet.specs.Lowest.{lowest}
@@ -21,17 +21,16 @@ use Rattle.compare.specs.Comparison.{LoadReady, BothLoaded}
 use Rattle.compare.proofs.Comparing.{load_asks}
 use Rattle.evidence.specs.declared.Evidence.{Evidence}
 use Rattle.evidence.specs.declared.Evidence.TheVariants.{RuleA, RuleB}
-use Rattle.row_rules.specs.declared.Spot.{Spot}
-use Rattle.row_rules.specs.declared.Spot.TheVariants.{At, Nowhere}
-use Rattle.row_rules.specs.Presence.{spot_of, DupsFit, start_missing}
+use Rattle.row_rules.specs.Presence.{DupsFit, start_missing}
 use Rattle.row_rules.proofs.Looking.{two_fit}
 use Rattle.evidence.specs.Calls.{as_evidence}
 use Rattle.evidence.specs.InnerSteps.{dups_of, StrayIs, LentTable, Cleared, Vacant, TableReady, RowsChecked, StartsChecked, TableChecked}
+use Rattle.std.specs.Prelude.{Some, None}
 use Rattle.evidence.proofs.Joining.{lowest_stray, packets_small, lowest_start}
 
 -- the spot found, as the lowest of a test
-found : {spot s : Spot} {o p : Option ℕ} → spot_of spot ≡ o → o ≡ p → spot ≡ s → p ≡ spot_of s
-found e f g = sym (e ∙ f) ∙ ap spot_of g
+found : {spot s : Option ℕ} {o p : Option ℕ} → spot ≡ o → o ≡ p → spot ≡ s → p ≡ s
+found e f g = sym (e ∙ f) ∙ g
 
 module _ (sizes : List ℕ) (L R : NodeLists) (packets lefts rights : List ℕ) where
   abbrev S : System
@@ -61,17 +60,17 @@ module _ (sizes : List ℕ) (L R : NodeLists) (packets lefts rights : List ℕ) 
         → TableReady sizes nodes tests packets lefts rights count trees work
     loaded_ready l I = record { lists = L; others = R; loaded = l; cleared = C; indexed = I }
 
-    module _ {spot : Spot} (missing : spot_of spot ≡ lowest (start_missing packets lefts rights) count) where
-      start_is : {s : Spot} → spot ≡ s → lowest (breaks_b S T) (product sizes) ≡ spot_of s
+    module _ {spot : Option ℕ} (missing : spot ≡ lowest (start_missing packets lefts rights) count) where
+      start_is : {s : Option ℕ} → spot ≡ s → lowest (breaks_b S T) (product sizes) ≡ s
       start_is = found missing (lowest_start sizes L R packets lefts rights count C.lent.allowed.packet_count)
 
-      pub starts_broken : (α : ℕ) → spot ≡ At α → StartsChecked sizes L R packets lefts rights work (RuleB α) work
-      unfolding spot_of as_evidence and_then broken_at
+      pub starts_broken : (α : ℕ) → spot ≡ Some α → StartsChecked sizes L R packets lefts rights work (RuleB α) work
+      unfolding as_evidence and_then broken_at
       starts_broken α e = record { answers = sym (ap (λ (o : Option ℕ). as_evidence (and_then (broken_at rule_b o) (check_rows S T (length packets)))) (start_is e)); kept = refl }
 
-      pub starts_kept : spot ≡ Nowhere → {nodes tests : List (List ℕ)} → BothLoaded sizes L R nodes tests
+      pub starts_kept : spot ≡ None → {nodes tests : List (List ℕ)} → BothLoaded sizes L R nodes tests
           → {answer : Evidence} {work' : List ℕ} → RowsChecked sizes nodes tests packets lefts rights work answer work' → StartsChecked sizes L R packets lefts rights work answer work'
-      unfolding spot_of and_then broken_at
+      unfolding and_then broken_at
       starts_kept e l rows =
           record {
             answers = rows.answers L R l ∙ sym (ap (λ (o : Option ℕ). as_evidence (and_then (broken_at rule_b o) (check_rows S T (length packets)))) (start_is e));
@@ -89,29 +88,28 @@ module _ (sizes : List ℕ) (L R : NodeLists) (packets lefts rights : List ℕ) 
       (subst DupsFit (sym e) (two_fit {l = dl} {r = dr} (omega arith) (omega arith)), e ∙ ap₂ (λ (x y : ℕ). x ∷ y ∷ []) el er)
 
   module _ {count : ℕ} {work clear : List ℕ} (lent : LentTable sizes L R packets lefts rights count work) (isClear : clear ≡ replicate (length work) 0)
-      {spot : Spot} (stray : StrayIs L R packets lefts rights count spot) where
-    stray_is : {s : Spot} → spot ≡ s → lowest (breaks_a S T) (length packets) ≡ spot_of s
+      {spot : Option ℕ} (stray : StrayIs L R packets lefts rights count spot) where
+    stray_is : {s : Option ℕ} → spot ≡ s → lowest (breaks_a S T) (length packets) ≡ s
     stray_is = found stray.first (lowest_stray sizes L R packets lefts rights count lent.allowed.packet_count)
 
-    pub table_broken : (i : ℕ) → spot ≡ At i → TableChecked sizes L R packets lefts rights work (RuleA i) clear
-    unfolding spot_of as_evidence evidence_answer check_rules and_then broken_at
+    pub table_broken : (i : ℕ) → spot ≡ Some i → TableChecked sizes L R packets lefts rights work (RuleA i) clear
+    unfolding as_evidence evidence_answer check_rules and_then broken_at
     table_broken i e =
         record {
           answers = sym (ap (λ (o : Option ℕ). as_evidence (and_then (broken_at rule_a o) (and_then (broken_at rule_b (lowest (breaks_b S T) (product sizes))) (check_rows S T (length packets))))) (stray_is e));
           cleared = isClear;
         }
 
-    pub table_cleared : spot ≡ Nowhere → Cleared sizes L R packets lefts rights count clear
-    unfolding spot_of
+    pub table_cleared : spot ≡ None → Cleared sizes L R packets lefts rights count clear
     table_cleared e =
         record {
           lent = record { allowed = lent.allowed; table = lent.table; numbered = lent.numbered; long = subst (λ (n : ℕ). 16384 ≤ n) (sym (ap length isClear ∙ length-replicate (length work) 0)) lent.long };
-          small = packets_small sizes L R packets lefts rights count lent.allowed.packet_count (sym stray.first ∙ ap spot_of e);
+          small = packets_small sizes L R packets lefts rights count lent.allowed.packet_count (sym stray.first ∙ e);
           zero = λ i h. ap (λ (w : List ℕ). get_or w i 0) isClear ∙ get_or-replicate (length work) i 0 0 (omega (arith, lent.long));
         }
 
-    pub table_kept : spot ≡ Nowhere → {answer : Evidence} {work' : List ℕ} → StartsChecked sizes L R packets lefts rights clear answer work' → TableChecked sizes L R packets lefts rights work answer work'
-    unfolding spot_of evidence_answer check_rules and_then broken_at
+    pub table_kept : spot ≡ None → {answer : Evidence} {work' : List ℕ} → StartsChecked sizes L R packets lefts rights clear answer work' → TableChecked sizes L R packets lefts rights work answer work'
+    unfolding evidence_answer check_rules and_then broken_at
     table_kept e starts =
         record {
           answers =

@@ -1,7 +1,7 @@
 -- The evidence checker's call: the first cause that refuses, else the row rules (document 01, "Row rules for evidence"; document 02, A.6).
 use Rattle.std.specs.Prelude.{ℕ, ◌≤◌, List, [], ◌∷◌, ◌↔◌, ◌≡◌, length}
-use Rattle.packet.specs.declared.Tested.{Tested}
-use Rattle.packet.specs.declared.Tested.TheVariants.{Passed, Refused}
+use Rattle.packet.specs.Refusals.{Tested}
+use Rattle.std.specs.Prelude.{Ok, Err}
 use Rattle.fields.specs.Tables.{Table, joint_sizes}
 use Rattle.policy.specs.NodeLists.{NodeLists, policy_of}
 use Rattle.policy.specs.Order.{pair_core, pair_tests}
@@ -26,8 +26,8 @@ as_evidence (rule_d i γ) = RuleD i γ
 
 -- the answer: a refusal has its own number, side and place
 unfoldable pub evidence_of : Tested → RulesAnswer → Evidence
-evidence_of Passed x = as_evidence x
-evidence_of (Refused r) x = NotChecked r
+evidence_of (Ok _) x = as_evidence x
+evidence_of (Err r) x = NotChecked r
 
 module _ (sizes : List ℕ) (L R : NodeLists) (packets lefts rights : List ℕ) where
   -- The columns hold the row order itself, row for row: it needs no more than `room` rows, at most 65,535, and they are what so
@@ -55,10 +55,10 @@ module _ (ts : List Table) (L R : NodeLists) where
       pub answers : answer ≡ evidence_call (length work)
       pub works : work' ≡ work_after (evidence_tests (length work)) work
       -- "it accepts exactly when no listed cause of refusal holds and the rows keep all four row rules"
-      pub accepts : (answer ≡ Accepted) ↔ ((evidence_tests (length work) ≡ Passed) × RowRules (pair_core ts L R) (policies L R) packets lefts rights)
+      pub accepts : (answer ≡ Accepted) ↔ ((evidence_tests (length work) ≡ Ok tt) × RowRules (pair_core ts L R) (policies L R) packets lefts rights)
       -- "where no cause holds and a rule is broken, it rejects with the rule and spot that document 01 names"
-      pub rejects : evidence_tests (length work) ≡ Passed → (x : RulesAnswer) → answer ≡ as_evidence x → Judged (pair_system (pair_core ts L R) (policies L R)) (table_of (pair_core ts L R) (policies L R) packets lefts rights) x
+      pub rejects : evidence_tests (length work) ≡ Ok tt → (x : RulesAnswer) → answer ≡ as_evidence x → Judged (pair_system (pair_core ts L R) (policies L R)) (table_of (pair_core ts L R) (policies L R) packets lefts rights) x
       -- "whenever it accepts, the two policies have the same traces from every packet": every value of every declared field
       pub sound : answer ≡ Accepted → SameTracesDeclared (joint_sizes ts) (policy_of L) (policy_of R)
       -- an equal pair's row order "is a table that the checker accepts, with any work list that refusal 10 lets pass"
-      pub complete : pair_tests ts L R ≡ Passed → SameTracesDeclared (joint_sizes ts) (policy_of L) (policy_of R) → HoldRowOrder (pair_core ts L R) L R packets lefts rights → 16384 ≤ length work → answer ≡ Accepted
+      pub complete : pair_tests ts L R ≡ Ok tt → SameTracesDeclared (joint_sizes ts) (policy_of L) (policy_of R) → HoldRowOrder (pair_core ts L R) L R packets lefts rights → 16384 ≤ length work → answer ≡ Accepted

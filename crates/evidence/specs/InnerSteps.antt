@@ -5,7 +5,7 @@ use Rattle.policy.specs.Legality.{Legal}
 use Rattle.fields.specs.Tables.{Table}
 use Rattle.policy.specs.NodeLists.{NodeLists, node_count, dups_below}
 use Rattle.policy.specs.Order.{pair_core, pair_tests}
-use Rattle.packet.specs.declared.Tested.TheVariants.{Passed}
+use Rattle.std.specs.Prelude.{Ok}
 use Rattle.packet_set.specs.Bits.{mask_bits}
 use Rattle.pair.specs.Sides.{policies}
 use Rattle.pair.specs.Pair.{pair_system}
@@ -14,8 +14,8 @@ use Rattle.pair.specs.Evidence.{table_of, evidence_answer}
 use Rattle.packet.specs.Lowest.{lowest}
 use Rattle.index.specs.Columns.{EvenColumns, Small}
 use Rattle.index.specs.Index.{Indexed, Indexable}
-use Rattle.row_rules.specs.declared.Spot.{Spot}
-use Rattle.row_rules.specs.Presence.{spot_of, strays, or_end}
+use Rattle.std.specs.Prelude.{Option}
+use Rattle.row_rules.specs.Presence.{strays, or_end}
 use Rattle.compare.specs.Comparison.{BothLoaded, BothBlank}
 use Rattle.evidence.specs.declared.Evidence.{Evidence}
 use Rattle.evidence.specs.declared.Bounds.{Bounds}
@@ -39,8 +39,8 @@ abbrev pub dups_of : NodeLists → NodeLists → List ℕ
 dups_of L R = dups_below L (node_count L) ∷ dups_below R (node_count R) ∷ []
 
 -- the lowest row that breaks rule (a)
-pub record StrayIs (L R : NodeLists) (packets lefts rights : List ℕ) (count : ℕ) (stray : Spot) : Type 0 where
-  pub first : spot_of stray ≡ lowest (strays packets lefts rights count (dups_of L R)) (length packets)
+pub record StrayIs (L R : NodeLists) (packets lefts rights : List ℕ) (count : ℕ) (stray : Option ℕ) : Type 0 where
+  pub first : stray ≡ lowest (strays packets lefts rights count (dups_of L R)) (length packets)
 
 module _ (sizes : List ℕ) (L R : NodeLists) (packets lefts rights : List ℕ) where
   -- no cause before 10 holds, and N is `count`
@@ -106,17 +106,17 @@ module _ (ts : List Table) (L R : NodeLists) where
     pub few : r.rows ≤ 65535
     pub within : r.rows ≤ rows
     pub fit : (r.left_dups < mask_bits) × (r.right_dups < mask_bits)
-    pub passed : pair_tests ts L R ≡ Passed → rows ≤ 65535
+    pub passed : pair_tests ts L R ≡ Ok tt → rows ≤ 65535
         → (r.rows ≡ rows) × (r.count ≡ product (pair_core ts L R)) × (r.left_dups ∷ r.right_dups ∷ [] ≡ dups_of L R)
 
   module _ (packets lefts rights : List ℕ) (rows : ℕ) where
     -- the first entries are the columns of so many records, of which `stray` is the first that breaks rule (a), or their number
     pub record ReadTable (stray : ℕ) : Type 0 where
       pub long : rows ≤ 65535 → (rows ≤ length packets) × (rows ≤ length lefts) × (rows ≤ length rights)
-      pub first : pair_tests ts L R ≡ Passed → rows ≤ 65535
+      pub first : pair_tests ts L R ≡ Ok tt → rows ≤ 65535
           → stray ≡ or_end rows (lowest (strays (take rows packets) (take rows lefts) (take rows rights) (product (pair_core ts L R)) (dups_of L R)) rows)
 
     -- the columns, whatever was read of them, are checked
     pub record ReadChecked (work : List ℕ) (answer : Evidence) (work' : List ℕ) : Type 0 where
-      pub columns : (P Q S : List ℕ) → length P ≡ rows → length Q ≡ rows → length S ≡ rows → (pair_tests ts L R ≡ Passed → rows ≤ 65535 → (take rows packets ≡ P) × (take rows lefts ≡ Q) × (take rows rights ≡ S))
+      pub columns : (P Q S : List ℕ) → length P ≡ rows → length Q ≡ rows → length S ≡ rows → (pair_tests ts L R ≡ Ok tt → rows ≤ 65535 → (take rows packets ≡ P) × (take rows lefts ≡ Q) × (take rows rights ≡ S))
           → CheckedRows ts L R P Q S work answer work'

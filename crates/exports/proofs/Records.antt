@@ -6,7 +6,7 @@ use mathlib.Core.Path.{◌≡◌, sym, ap, subst, ◌∙◌}
 use lib.ListN.{length, take}
 use Rattle.packet.specs.Lowest.{lowest}
 use Rattle.packet.specs.Sizes.{product}
-use Rattle.packet.specs.declared.Tested.TheVariants.{Passed}
+use Rattle.std.specs.Prelude.{Ok}
 use Rattle.fields.specs.Tables.{Table}
 use Rattle.policy.specs.NodeLists.{NodeLists}
 use Rattle.policy.specs.Order.{pair_core, pair_tests}
@@ -15,9 +15,9 @@ use Rattle.records.specs.declared.RowRecord.{RowRecord}
 use Rattle.records.specs.Records.{packets_of, lefts_of, rights_of, over, stray_in}
 use Rattle.records.proofs.Laws.{over_length, over_takes, column_length, stray_lowest}
 use Rattle.evidence.specs.declared.Bounds.{Bounds}
-use Rattle.evidence.specs.InnerSteps.{dups_of, BoundsOf, ReadTable}
-use Rattle.exports.specs.Promises.{EvidenceOut}
-use Rattle.exports.specs.InnerColumns.{ColumnsOut}
+use Rattle.evidence.specs.declared.Evidence.{Evidence}
+use Rattle.evidence.specs.Calls.{CheckedRows}
+use Rattle.evidence.specs.InnerSteps.{dups_of, BoundsOf, ReadTable, ReadChecked}
 
 -- what `records::read_records` says of three lists that were `room` before
 abbrev pub ReadTo : Bounds → List RowRecord → List ℕ → ℕ → List ℕ → List ℕ → List ℕ → Type 0
@@ -38,7 +38,7 @@ module _ (room : List ℕ) (long : length room ≡ 65535) where
   module _ {ts : List Table} {L R : NodeLists} (rows : List RowRecord) {r : Bounds} (bounds : BoundsOf ts L R (length rows) r)
       {stray : ℕ} {packets lefts rights : List ℕ} (read : ReadTo r rows room stray packets lefts rights) where
     -- where the policies pass and the rows are not too many, all of them are read
-    all_read : pair_tests ts L R ≡ Passed → length rows ≤ 65535
+    all_read : pair_tests ts L R ≡ Ok tt → length rows ≤ 65535
         → (take (length rows) packets ≡ packets_of rows) × (take (length rows) lefts ≡ lefts_of rows) × (take (length rows) rights ≡ rights_of rows)
     all_read passed l =
         let all : r.rows ≡ length rows = (bounds.passed passed l).0 in (
@@ -47,7 +47,7 @@ module _ (room : List ℕ) (long : length room ≡ 65535) where
           read_whole rights (rights_of rows) (length rows) r.rows read.3 (column_length _ rows) all l,
         )
 
-    first_stray : pair_tests ts L R ≡ Passed → length rows ≤ 65535
+    first_stray : pair_tests ts L R ≡ Ok tt → length rows ≤ 65535
         → stray ≡ or_end (length rows) (lowest (strays (take (length rows) packets) (take (length rows) lefts) (take (length rows) rights) (product (pair_core ts L R)) (dups_of L R)) (length rows))
     first_stray passed l =
         let e = bounds.passed passed l in
@@ -69,6 +69,6 @@ module _ (room : List ℕ) (long : length room ≡ 65535) where
         }
 
     -- what it promises of the lists holds of the columns
-    pub columns_out : {work answer work' : List ℕ} → ColumnsOut ts L R packets lefts rights (length rows) work answer work'
-        → EvidenceOut ts L R (packets_of rows) (lefts_of rows) (rights_of rows) work answer work'
-    columns_out out = out.columns (packets_of rows) (lefts_of rows) (rights_of rows) (column_length _ rows) (column_length _ rows) (column_length _ rows) all_read
+    pub columns_checked : {work work' : List ℕ} {r : Evidence} → ReadChecked ts L R packets lefts rights (length rows) work r work'
+        → CheckedRows ts L R (packets_of rows) (lefts_of rows) (rights_of rows) work r work'
+    columns_checked done = done.columns (packets_of rows) (lefts_of rows) (rights_of rows) (column_length _ rows) (column_length _ rows) (column_length _ rows) all_read

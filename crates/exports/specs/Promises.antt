@@ -8,10 +8,10 @@ use Rattle.search.specs.Call.{SearchLists, Searched, search_verdict}
 use Rattle.evidence.specs.Calls.{CheckedRows, evidence_call}
 use Rattle.traces.specs.Checking.{CheckedTrace, trace_call}
 use Rattle.search_texts.specs.Call.{TextsSearched, texts_verdict}
-use Rattle.answer_numbers.specs.Numbers.{text_numbers, verdict_numbers, evidence_numbers, trace_numbers}
+use Rattle.answer_numbers.specs.Numbers.{count_numbers, verdict_numbers, evidence_numbers, trace_numbers}
 
 pub record ReadOut (left right : Table) (side : ℕ) (text kind first second answer kind' first' second' : List ℕ) : Type 0 where
-  pub numbers : answer ≡ text_numbers (read_answer left right side text (shortest kind first second))
+  pub numbers : answer ≡ count_numbers (read_answer left right side text (shortest kind first second))
   pub promised : TextRead left right side text kind first second (read_answer left right side text (shortest kind first second)) kind' first' second'
 
 pub record SearchedOut (ts : List Table) (L R : NodeLists) (x : SearchLists) (answer : List ℕ) (y : SearchLists) : Type 0 where

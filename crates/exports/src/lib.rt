@@ -1,20 +1,53 @@
-// The C interface (include/netkat.h): each public call, its answer as eight numbers.
+// The C interface (include/netkat.h): each public call, its answer as eight numbers. C lends each list by itself, so the parameters stay apart here.
 #![tactic(auto)]
 
 ghost use Rattle.std.specs.Prelude.{◌≡◌, length};
-ghost use Rattle.fields.specs.Tables.{table, tables, tables_at_entry};
-ghost use Rattle.policy.specs.AsLists.{as_lists, policy_at_entry};
+ghost use Rattle.fields.specs.Tables.{table, tables, lent_tables};
+ghost use Rattle.policy.specs.AsLists.{as_lists, lists_of};
 ghost use Rattle.legality.specs.Answers.{policy_legality, pair_legality};
-ghost use Rattle.turning.specs.Turning.{values_tests, values_answer, values_left, number_call};
+ghost use Rattle.turning.specs.Turning.{values_tests, values_left, number_call};
 ghost use Rattle.search.specs.Call.{lent_at_entry, lent_at_exit};
 ghost use Rattle.records.specs.Records.{packets_of, lefts_of, rights_of};
-ghost use Rattle.evidence.specs.InnerSteps.{ReadTable};
-ghost use Rattle.answer_numbers.specs.Numbers.{values_numbers, number_numbers, policy_numbers, pair_numbers};
+ghost use Rattle.answer_numbers.specs.Numbers.{values_numbers, count_numbers, pair_numbers};
 ghost use Rattle.exports.specs.Promises.{ReadOut, SearchedOut, TextsOut, EvidenceOut, TraceOut};
-ghost use Rattle.exports.specs.InnerColumns.{ColumnsOut};
 
+use fields::{FieldTable, Tables};
+use index::{Columns, RowLists};
 use packet_set::Mask;
+use policy::lent::PolicyLists;
 use records::RowRecord;
+
+// The tables of a call, as its lists.
+fn tables<'a>(
+    left_names: &'a [u8],
+    left_sizes: &'a [u16],
+    right_names: &'a [u8],
+    right_sizes: &'a [u16],
+) -> Tables<'a>
+    ensures { lent_tables result ≡ tables left_names.now left_sizes.now right_names.now right_sizes.now }
+{
+    Tables {
+        left: FieldTable {
+            names: left_names,
+            sizes: left_sizes,
+        },
+        right: FieldTable {
+            names: right_names,
+            sizes: right_sizes,
+        },
+    }
+}
+
+// A policy, as its lists.
+fn policy<'a>(kind: &'a [u8], first: &'a [u16], second: &'a [u16]) -> PolicyLists<'a>
+    ensures { lists_of result ≡ as_lists kind.now first.now second.now }
+{
+    PolicyLists {
+        kind,
+        first,
+        second,
+    }
+}
 
 // A packet's number turned into its values.
 pub fn netkat_values(
@@ -32,20 +65,13 @@ pub fn netkat_values(
     values: &mut [u16],
     answer: &mut [u64; 8],
 )
-    ensures numbers { answer.new ≡ values_numbers (values_answer (values_tests (tables_at_entry left_names left_sizes right_names right_sizes) (policy_at_entry left_kind left_first left_second) (policy_at_entry right_kind right_first right_second) number (length values.old))) }
-    ensures list { values.new ≡ values_left (tables_at_entry left_names left_sizes right_names right_sizes) (policy_at_entry left_kind left_first left_second) (policy_at_entry right_kind right_first right_second) number values.old }
+    ensures numbers { answer.new ≡ values_numbers (values_tests (tables left_names.now left_sizes.now right_names.now right_sizes.now) (as_lists left_kind.now left_first.now left_second.now) (as_lists right_kind.now right_first.now right_second.now) number (length values.old)) }
+    ensures list { values.new ≡ values_left (tables left_names.now left_sizes.now right_names.now right_sizes.now) (as_lists left_kind.now left_first.now left_second.now) (as_lists right_kind.now right_first.now right_second.now) number values.old }
 {
     *answer = answer_numbers::of_values(turning::values_of(
-        left_names,
-        left_sizes,
-        right_names,
-        right_sizes,
-        left_kind,
-        left_first,
-        left_second,
-        right_kind,
-        right_first,
-        right_second,
+        tables(left_names, left_sizes, right_names, right_sizes),
+        policy(left_kind, left_first, left_second),
+        policy(right_kind, right_first, right_second),
         number,
         values,
     ));
@@ -66,21 +92,15 @@ pub fn netkat_number(
     values: &[u16],
     answer: &mut [u64; 8],
 )
-    ensures { answer.new ≡ number_numbers (number_call (tables_at_entry left_names left_sizes right_names right_sizes) (policy_at_entry left_kind left_first left_second) (policy_at_entry right_kind right_first right_second) values.now) }
+    ensures { answer.new ≡ count_numbers (number_call (tables left_names.now left_sizes.now right_names.now right_sizes.now) (as_lists left_kind.now left_first.now left_second.now) (as_lists right_kind.now right_first.now right_second.now) values.now) }
 {
-    *answer = answer_numbers::of_number(turning::number_of(
-        left_names,
-        left_sizes,
-        right_names,
-        right_sizes,
-        left_kind,
-        left_first,
-        left_second,
-        right_kind,
-        right_first,
-        right_second,
+    *answer = answer_numbers::of_count(turning::number_of(
+        tables(left_names, left_sizes, right_names, right_sizes),
+        policy(left_kind, left_first, left_second),
+        policy(right_kind, right_first, right_second),
         values,
-    ));
+    )
+    .map(u64::from));
 }
 
 // One policy tested.
@@ -94,17 +114,13 @@ pub fn netkat_policy(
     second: &[u16],
     answer: &mut [u64; 8],
 )
-    ensures { answer.new ≡ policy_numbers (policy_legality (tables_at_entry left_names left_sizes right_names right_sizes) (policy_at_entry kind first second)) }
+    ensures { answer.new ≡ count_numbers (policy_legality (tables left_names.now left_sizes.now right_names.now right_sizes.now) (as_lists kind.now first.now second.now)) }
 {
-    *answer = answer_numbers::of_policy(legality::policy_legality(
-        left_names,
-        left_sizes,
-        right_names,
-        right_sizes,
-        kind,
-        first,
-        second,
-    ));
+    *answer = answer_numbers::of_count(legality::policy_legality(
+        tables(left_names, left_sizes, right_names, right_sizes),
+        policy(kind, first, second),
+    )
+    .map(u64::from));
 }
 
 // Two policies tested.
@@ -121,19 +137,12 @@ pub fn netkat_policies(
     right_second: &[u16],
     answer: &mut [u64; 8],
 )
-    ensures { answer.new ≡ pair_numbers (pair_legality (tables_at_entry left_names left_sizes right_names right_sizes) (policy_at_entry left_kind left_first left_second) (policy_at_entry right_kind right_first right_second)) }
+    ensures { answer.new ≡ pair_numbers (pair_legality (tables left_names.now left_sizes.now right_names.now right_sizes.now) (as_lists left_kind.now left_first.now left_second.now) (as_lists right_kind.now right_first.now right_second.now)) }
 {
     *answer = answer_numbers::of_pair(legality::pair_legality(
-        left_names,
-        left_sizes,
-        right_names,
-        right_sizes,
-        left_kind,
-        left_first,
-        left_second,
-        right_kind,
-        right_first,
-        right_second,
+        tables(left_names, left_sizes, right_names, right_sizes),
+        policy(left_kind, left_first, left_second),
+        policy(right_kind, right_first, right_second),
     ));
 }
 
@@ -152,17 +161,15 @@ pub fn netkat_read(
 )
     ensures { ReadOut (table left_names.now left_sizes.now) (table right_names.now right_sizes.now) side text.now kind.old first.old second.old answer.new kind.new first.new second.new }
 {
-    *answer = answer_numbers::of_text(text::read(
-        left_names,
-        left_sizes,
-        right_names,
-        right_sizes,
+    *answer = answer_numbers::of_count(text::read(
+        tables(left_names, left_sizes, right_names, right_sizes),
         side,
         text,
         kind,
         first,
         second,
-    ));
+    )
+    .map(|n| n as u64));
 }
 
 // Two policies searched.
@@ -185,23 +192,19 @@ pub fn netkat_search(
     work: &mut [u32],
     answer: &mut [u64; 8],
 )
-    ensures { SearchedOut (tables_at_entry left_names left_sizes right_names right_sizes) (policy_at_entry left_kind left_first left_second) (policy_at_entry right_kind right_first right_second) (lent_at_entry packet left right parent trace work) answer.new (lent_at_exit packet left right parent trace work) }
+    ensures { SearchedOut (tables left_names.now left_sizes.now right_names.now right_sizes.now) (as_lists left_kind.now left_first.now left_second.now) (as_lists right_kind.now right_first.now right_second.now) (lent_at_entry packet left right parent trace work) answer.new (lent_at_exit packet left right parent trace work) }
 {
-    *answer = answer_numbers::of_verdict(search::search(
-        left_names,
-        left_sizes,
-        right_names,
-        right_sizes,
-        left_kind,
-        left_first,
-        left_second,
-        right_kind,
-        right_first,
-        right_second,
-        packet,
+    let mut rows = RowLists {
+        packets: packet,
         left,
         right,
-        parent,
+        parents: parent,
+    };
+    *answer = answer_numbers::of_verdict(search::search(
+        tables(left_names, left_sizes, right_names, right_sizes),
+        policy(left_kind, left_first, left_second),
+        policy(right_kind, right_first, right_second),
+        &mut rows,
         trace,
         work,
     ));
@@ -225,17 +228,17 @@ pub fn netkat_search_texts(
 )
     ensures { TextsOut (table left_names.now left_sizes.now) (table right_names.now right_sizes.now) left_text.now right_text.now (lent_at_entry packet left right parent trace work) answer.new (lent_at_exit packet left right parent trace work) }
 {
-    *answer = answer_numbers::of_verdict(search_texts::search(
-        left_names,
-        left_sizes,
-        right_names,
-        right_sizes,
-        left_text,
-        right_text,
-        packet,
+    let mut rows = RowLists {
+        packets: packet,
         left,
         right,
-        parent,
+        parents: parent,
+    };
+    *answer = answer_numbers::of_verdict(search_texts::search(
+        tables(left_names, left_sizes, right_names, right_sizes),
+        left_text,
+        right_text,
+        &mut rows,
         trace,
         work,
     ));
@@ -259,65 +262,17 @@ pub fn netkat_evidence(
     work: &mut [u32],
     answer: &mut [u64; 8],
 )
-    ensures { EvidenceOut (tables_at_entry left_names left_sizes right_names right_sizes) (policy_at_entry left_kind left_first left_second) (policy_at_entry right_kind right_first right_second) packet.now left.now right.now work.old answer.new work.new }
+    ensures { EvidenceOut (tables left_names.now left_sizes.now right_names.now right_sizes.now) (as_lists left_kind.now left_first.now left_second.now) (as_lists right_kind.now right_first.now right_second.now) packet.now left.now right.now work.old answer.new work.new }
 {
     *answer = answer_numbers::of_evidence(evidence::check(
-        left_names,
-        left_sizes,
-        right_names,
-        right_sizes,
-        left_kind,
-        left_first,
-        left_second,
-        right_kind,
-        right_first,
-        right_second,
-        packet,
-        left,
-        right,
-        work,
-    ));
-}
-
-// A table of so many records checked, whose columns were read, with the first record that breaks rule (a).
-fn evidence_read(
-    left_names: &[u8],
-    left_sizes: &[u16],
-    right_names: &[u8],
-    right_sizes: &[u16],
-    left_kind: &[u8],
-    left_first: &[u16],
-    left_second: &[u16],
-    right_kind: &[u8],
-    right_first: &[u16],
-    right_second: &[u16],
-    packets: &[u16],
-    lefts: &[Mask],
-    rights: &[Mask],
-    rows: usize,
-    stray: usize,
-    work: &mut [u32],
-    answer: &mut [u64; 8],
-)
-    requires { ReadTable (tables left_names.now left_sizes.now right_names.now right_sizes.now) (as_lists left_kind.now left_first.now left_second.now) (as_lists right_kind.now right_first.now right_second.now) packets.now lefts.now rights.now rows stray }
-    ensures { ColumnsOut (tables_at_entry left_names left_sizes right_names right_sizes) (policy_at_entry left_kind left_first left_second) (policy_at_entry right_kind right_first right_second) packets.now lefts.now rights.now rows work.old answer.new work.new }
-{
-    *answer = answer_numbers::of_evidence(evidence::check_read(
-        left_names,
-        left_sizes,
-        right_names,
-        right_sizes,
-        left_kind,
-        left_first,
-        left_second,
-        right_kind,
-        right_first,
-        right_second,
-        packets,
-        lefts,
-        rights,
-        rows,
-        stray,
+        tables(left_names, left_sizes, right_names, right_sizes),
+        policy(left_kind, left_first, left_second),
+        policy(right_kind, right_first, right_second),
+        Columns {
+            packets: packet,
+            left,
+            right,
+        },
         work,
     ));
 }
@@ -339,24 +294,15 @@ pub fn netkat_evidence_rows(
     work: &mut [u32],
     answer: &mut [u64; 8],
 )
-    ensures { EvidenceOut (tables_at_entry left_names left_sizes right_names right_sizes) (policy_at_entry left_kind left_first left_second) (policy_at_entry right_kind right_first right_second) (packets_of rows.now) (lefts_of rows.now) (rights_of rows.now) work.old answer.new work.new }
+    ensures { EvidenceOut (tables left_names.now left_sizes.now right_names.now right_sizes.now) (as_lists left_kind.now left_first.now left_second.now) (as_lists right_kind.now right_first.now right_second.now) (packets_of rows.now) (lefts_of rows.now) (rights_of rows.now) work.old answer.new work.new }
 {
     let mut packets = [0u16; 65535];
     let mut lefts = [0; 65535];
     let mut rights = [0; 65535];
-    let bounds = evidence::bounds_of(
-        left_names,
-        left_sizes,
-        right_names,
-        right_sizes,
-        left_kind,
-        left_first,
-        left_second,
-        right_kind,
-        right_first,
-        right_second,
-        rows.len(),
-    );
+    let tables = tables(left_names, left_sizes, right_names, right_sizes);
+    let left = policy(left_kind, left_first, left_second);
+    let right = policy(right_kind, right_first, right_second);
+    let bounds = evidence::bounds_of(tables, left, right, rows.len());
     let stray = records::read_records(
         rows,
         bounds.rows,
@@ -367,25 +313,20 @@ pub fn netkat_evidence_rows(
         &mut lefts,
         &mut rights,
     );
-    evidence_read(
-        left_names,
-        left_sizes,
-        right_names,
-        right_sizes,
-        left_kind,
-        left_first,
-        left_second,
-        right_kind,
-        right_first,
-        right_second,
-        &packets,
-        &lefts,
-        &rights,
+    let columns = Columns {
+        packets: &packets,
+        left: &lefts,
+        right: &rights,
+    };
+    *answer = answer_numbers::of_evidence(evidence::check_read(
+        tables,
+        left,
+        right,
+        columns,
         rows.len(),
         stray,
         work,
-        answer,
-    );
+    ));
 }
 
 // A trace checked.
@@ -405,19 +346,12 @@ pub fn netkat_trace(
     work: &mut [u32],
     answer: &mut [u64; 8],
 )
-    ensures { TraceOut (tables_at_entry left_names left_sizes right_names right_sizes) (policy_at_entry left_kind left_first left_second) (policy_at_entry right_kind right_first right_second) entering trace.now work.old answer.new work.new }
+    ensures { TraceOut (tables left_names.now left_sizes.now right_names.now right_sizes.now) (as_lists left_kind.now left_first.now left_second.now) (as_lists right_kind.now right_first.now right_second.now) entering trace.now work.old answer.new work.new }
 {
     *answer = answer_numbers::of_trace(traces::check(
-        left_names,
-        left_sizes,
-        right_names,
-        right_sizes,
-        left_kind,
-        left_first,
-        left_second,
-        right_kind,
-        right_first,
-        right_second,
+        tables(left_names, left_sizes, right_names, right_sizes),
+        policy(left_kind, left_first, left_second),
+        policy(right_kind, right_first, right_second),
         entering,
         trace,
         work,

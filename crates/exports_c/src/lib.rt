@@ -2,13 +2,13 @@
 #![tactic(auto)]
 
 ghost use Rattle.std.specs.Prelude.{◌≡◌, length};
-ghost use Rattle.fields.specs.Tables.{table, tables, tables_at_entry};
-ghost use Rattle.policy.specs.AsLists.{as_lists, policy_at_entry};
+ghost use Rattle.fields.specs.Tables.{table, tables};
+ghost use Rattle.policy.specs.AsLists.{as_lists};
 ghost use Rattle.legality.specs.Answers.{policy_legality, pair_legality};
-ghost use Rattle.turning.specs.Turning.{values_tests, values_answer, values_left, number_call};
+ghost use Rattle.turning.specs.Turning.{values_tests, values_left, number_call};
 ghost use Rattle.search.specs.Call.{lent_at_entry, lent_at_exit};
 ghost use Rattle.records.specs.Records.{packets_of, lefts_of, rights_of};
-ghost use Rattle.answer_numbers.specs.Numbers.{values_numbers, number_numbers, policy_numbers, pair_numbers};
+ghost use Rattle.answer_numbers.specs.Numbers.{values_numbers, count_numbers, pair_numbers};
 ghost use Rattle.exports.specs.Promises.{ReadOut, SearchedOut, TextsOut, EvidenceOut, TraceOut};
 
 use packet_set::Mask;
@@ -31,8 +31,8 @@ pub extern "C" fn netkat_values(
     values: &mut [u16],
     answer: &mut [u64; 8],
 )
-    ensures numbers { answer.new ≡ values_numbers (values_answer (values_tests (tables_at_entry left_names left_sizes right_names right_sizes) (policy_at_entry left_kind left_first left_second) (policy_at_entry right_kind right_first right_second) number (length values.old))) }
-    ensures list { values.new ≡ values_left (tables_at_entry left_names left_sizes right_names right_sizes) (policy_at_entry left_kind left_first left_second) (policy_at_entry right_kind right_first right_second) number values.old }
+    ensures numbers { answer.new ≡ values_numbers (values_tests (tables left_names.now left_sizes.now right_names.now right_sizes.now) (as_lists left_kind.now left_first.now left_second.now) (as_lists right_kind.now right_first.now right_second.now) number (length values.old)) }
+    ensures list { values.new ≡ values_left (tables left_names.now left_sizes.now right_names.now right_sizes.now) (as_lists left_kind.now left_first.now left_second.now) (as_lists right_kind.now right_first.now right_second.now) number values.old }
 {
     exports::netkat_values(
         left_names,
@@ -67,7 +67,7 @@ pub extern "C" fn netkat_number(
     values: &[u16],
     answer: &mut [u64; 8],
 )
-    ensures { answer.new ≡ number_numbers (number_call (tables_at_entry left_names left_sizes right_names right_sizes) (policy_at_entry left_kind left_first left_second) (policy_at_entry right_kind right_first right_second) values.now) }
+    ensures { answer.new ≡ count_numbers (number_call (tables left_names.now left_sizes.now right_names.now right_sizes.now) (as_lists left_kind.now left_first.now left_second.now) (as_lists right_kind.now right_first.now right_second.now) values.now) }
 {
     exports::netkat_number(
         left_names,
@@ -97,7 +97,7 @@ pub extern "C" fn netkat_policy(
     second: &[u16],
     answer: &mut [u64; 8],
 )
-    ensures { answer.new ≡ policy_numbers (policy_legality (tables_at_entry left_names left_sizes right_names right_sizes) (policy_at_entry kind first second)) }
+    ensures { answer.new ≡ count_numbers (policy_legality (tables left_names.now left_sizes.now right_names.now right_sizes.now) (as_lists kind.now first.now second.now)) }
 {
     exports::netkat_policy(
         left_names,
@@ -126,7 +126,7 @@ pub extern "C" fn netkat_policies(
     right_second: &[u16],
     answer: &mut [u64; 8],
 )
-    ensures { answer.new ≡ pair_numbers (pair_legality (tables_at_entry left_names left_sizes right_names right_sizes) (policy_at_entry left_kind left_first left_second) (policy_at_entry right_kind right_first right_second)) }
+    ensures { answer.new ≡ pair_numbers (pair_legality (tables left_names.now left_sizes.now right_names.now right_sizes.now) (as_lists left_kind.now left_first.now left_second.now) (as_lists right_kind.now right_first.now right_second.now)) }
 {
     exports::netkat_policies(
         left_names,
@@ -194,7 +194,7 @@ pub extern "C" fn netkat_search(
     work: &mut [u32],
     answer: &mut [u64; 8],
 )
-    ensures { SearchedOut (tables_at_entry left_names left_sizes right_names right_sizes) (policy_at_entry left_kind left_first left_second) (policy_at_entry right_kind right_first right_second) (lent_at_entry packet left right parent trace work) answer.new (lent_at_exit packet left right parent trace work) }
+    ensures { SearchedOut (tables left_names.now left_sizes.now right_names.now right_sizes.now) (as_lists left_kind.now left_first.now left_second.now) (as_lists right_kind.now right_first.now right_second.now) (lent_at_entry packet left right parent trace work) answer.new (lent_at_exit packet left right parent trace work) }
 {
     exports::netkat_search(
         left_names,
@@ -272,7 +272,7 @@ pub extern "C" fn netkat_evidence(
     work: &mut [u32],
     answer: &mut [u64; 8],
 )
-    ensures { EvidenceOut (tables_at_entry left_names left_sizes right_names right_sizes) (policy_at_entry left_kind left_first left_second) (policy_at_entry right_kind right_first right_second) packet.now left.now right.now work.old answer.new work.new }
+    ensures { EvidenceOut (tables left_names.now left_sizes.now right_names.now right_sizes.now) (as_lists left_kind.now left_first.now left_second.now) (as_lists right_kind.now right_first.now right_second.now) packet.now left.now right.now work.old answer.new work.new }
 {
     exports::netkat_evidence(
         left_names,
@@ -311,7 +311,7 @@ pub extern "C" fn netkat_evidence_rows(
     work: &mut [u32],
     answer: &mut [u64; 8],
 )
-    ensures { EvidenceOut (tables_at_entry left_names left_sizes right_names right_sizes) (policy_at_entry left_kind left_first left_second) (policy_at_entry right_kind right_first right_second) (packets_of rows.now) (lefts_of rows.now) (rights_of rows.now) work.old answer.new work.new }
+    ensures { EvidenceOut (tables left_names.now left_sizes.now right_names.now right_sizes.now) (as_lists left_kind.now left_first.now left_second.now) (as_lists right_kind.now right_first.now right_second.now) (packets_of rows.now) (lefts_of rows.now) (rights_of rows.now) work.old answer.new work.new }
 {
     exports::netkat_evidence_rows(
         left_names,
@@ -348,7 +348,7 @@ pub extern "C" fn netkat_trace(
     work: &mut [u32],
     answer: &mut [u64; 8],
 )
-    ensures { TraceOut (tables_at_entry left_names left_sizes right_names right_sizes) (policy_at_entry left_kind left_first left_second) (policy_at_entry right_kind right_first right_second) entering trace.now work.old answer.new work.new }
+    ensures { TraceOut (tables left_names.now left_sizes.now right_names.now right_sizes.now) (as_lists left_kind.now left_first.now left_second.now) (as_lists right_kind.now right_first.now right_second.now) entering trace.now work.old answer.new work.new }
 {
     exports::netkat_trace(
         left_names,

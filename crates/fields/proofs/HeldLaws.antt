@@ -7,15 +7,16 @@ use mathlib.Core.Bool.{Bool, true, false, cond}
 use mathlib.Core.List.{List, [], ◌∷◌, ◌++◌, map, map-append, append_assoc}
 use mathlib.Core.Path.{◌≡◌, refl, sym, ◌∙◌, ap, ap₂, subst}
 use lib.ListN.{length, get_or, set, take, drop, length-set, length-map, length-append}
-use lib.Seq.{paste, length-paste, take_at, drop_at, take_all, take-suc, take-suc-set, length-take-le}
-use Rattle.packet.specs.declared.Tested.{Tested}
-use Rattle.packet.specs.declared.Tested.TheVariants.{Refused}
+use lib.Seq.{drop-drop, paste, length-paste, take_at, drop_at, take_all, take-suc, take-suc-set, length-take-le}
+use borrow.Rule.Slice.PartMut.{put_mid}
+use Rattle.std.specs.Prelude.{Err}
 use Rattle.packet.specs.Refusals.{refusal}
 use Rattle.packet.specs.Sizes.{fields_stage}
-use Rattle.packet.proofs.Stages.{too_many, refused≢passed}
+use Rattle.packet.proofs.Stages.{too_many}
+use Rattle.fields.specs.declared.JointFields.{JointFields}
 use Rattle.fields.specs.Names.{cell_name, is_named, names_from, names_in}
 use Rattle.fields.specs.Tables.{Table, Field, table, with_field, with_fields, with_tables, fields_from, fields_of, joint, joint_names, joint_sizes}
-use Rattle.fields.specs.Inner.{Held, FieldPut, FieldAdded, TableAdded, Joined, field_in}
+use Rattle.fields.specs.Inner.{Held, FieldPut, FieldAdded, TableAdded, JointlyHeld, field_in}
 use Rattle.fields.proofs.NameLaws.{length_names, names_at}
 use Rattle.fields.proofs.TableLaws.{names_from_take, names_from_suc, names_in_take}
 
@@ -96,6 +97,16 @@ module _ (cell : List ℕ) (size count : ℕ) (cells sizes : List ℕ) where
 
         many : length (fs ++ (field_in cell size ∷ [])) ≡ suc count
         many = length_snoc fs (field_in cell size) ∙ ap suc old
+
+    -- the cell is written over the sixteen bytes there
+    pub cell_written : (mid : List ℕ) → mid ≡ cell → put_mid (count * 16) (count * 16 + 16 - count * 16) cells mid ≡ paste cells (count * 16) cell 16
+    cell_written mid e =
+        let sixteen : count * 16 + 16 - count * 16 ≡ 16 = omega arith in
+        ap₂
+        (λ (ys rest : List ℕ). take (count * 16) cells ++ (ys ++ rest))
+        (e ∙ sym (take_all 16 cell (omega arith)))
+        (drop-drop (count * 16 + 16 - count * 16) (count * 16) cells ∙ ap (λ (k : ℕ). drop (count * 16 + k) cells) sixteen)
+        ∙ sym (append_assoc (take (count * 16) cells) (take 16 cell) (drop (count * 16 + 16) cells))
 
     pub put_more : (cells' : List ℕ) → cells' ≡ paste cells (count * 16) cell 16 → FieldPut cell size count cells sizes (count + 1) cells' (set sizes count size)
     put_more cells' e =
@@ -208,6 +219,9 @@ pub record Adding (t : Table) (i before : ℕ) (cells sizes : List ℕ) (count :
   pub room : length cells' ≡ length cells
   pub space : length sizes' ≡ length sizes
 
+abbrev pub AddingTo : Table → ℕ → JointFields → JointFields → Type 0
+AddingTo t i j j' = Adding t i j.count j.names j.sizes j'.count j'.names j'.sizes
+
 pub adding_none : (t : Table) (before : ℕ) (cells sizes : List ℕ) → before ≤ 9 → Adding t 0 before cells sizes before cells sizes
 unfolding with_fields
 adding_none t before cells sizes few = record { holds = λ fs h. h; few = few; room = refl; space = refl }
@@ -269,28 +283,23 @@ module _ (ts : List Table) (count : ℕ) (cells sizes : List ℕ) (h : Held (joi
   unfolding joint_sizes
   length_joint = length-map (joint ts) (λ (f : Field). f.size)
 
-  pub joined_many : {t : Tested} → 8 < count → t ≡ Refused (refusal 1 0 0) → Joined ts (record { tested = t; count = 0; names = cells; sizes = sizes })
-  joined_many over e =
+  pub joined_many : 8 < count → fields_stage (joint_sizes ts) ≡ Err (refusal 1 0 0)
+  joined_many over =
       let many : length (joint_sizes ts) ≡ 0 → ⊥ = λ z. absurd (not-suc-le-zero {n = 0} (omega (arith, z, length_joint, h.counts))) in
-      record {
-        tested = e ∙ sym (too_many (joint_sizes ts) many (omega (arith, length_joint, h.counts)));
-        few = omega arith;
-        room = room;
-        space = space;
-        named = λ p. absurd (refused≢passed (sym e ∙ p));
-        sized = λ p. absurd (refused≢passed (sym e ∙ p));
-      }
+      too_many (joint_sizes ts) many (omega (arith, length_joint, h.counts))
 
-  pub joined_few : {t : Tested} → count ≤ 8 → t ≡ fields_stage (take count sizes) → Joined ts (record { tested = t; count = count; names = cells; sizes = sizes })
-  unfolding joint_sizes joint_names
-  joined_few few e =
+  pub joined_sizes : count ≤ 8 → take count sizes ≡ joint_sizes ts
+  unfolding joint_sizes
+  joined_sizes few = let many = held_few h few in ap (λ (n : ℕ). take n sizes) (sym many) ∙ h.sized (omega (arith, many))
+
+  pub joined_held : count ≤ 8 → JointlyHeld ts (record { count = count; names = cells; sizes = sizes })
+  unfolding joint_names
+  joined_held few =
       let many = held_few h few in
-      let the_sizes : take count sizes ≡ joint_sizes ts = ap (λ (n : ℕ). take n sizes) (sym many) ∙ h.sized (omega (arith, many)) in
       record {
-        tested = e ∙ ap fields_stage the_sizes;
         few = few;
         room = room;
         space = space;
-        named = λ _. names_in_take count cells (omega arith) ∙ ap (λ (n : ℕ). names_from n cells) (sym many) ∙ h.named (omega (arith, many));
-        sized = λ _. the_sizes;
+        named = names_in_take count cells (omega arith) ∙ ap (λ (n : ℕ). names_from n cells) (sym many) ∙ h.named (omega (arith, many));
+        sized = joined_sizes few;
       }

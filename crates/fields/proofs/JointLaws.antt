@@ -7,13 +7,13 @@ use mathlib.Core.Bool.{Bool, true, false, cond, not, ◌||◌}
 use mathlib.Core.List.Memᴰ
 use mathlib.Core.List.{List, [], ◌∷◌, ◌++◌, map, map-append, append_assoc, append-nil, Memᴰ}
 use mathlib.Core.Logic.{◌⊎◌, inl, inr, ⊎_elim, ◌↔◌}
-use mathlib.Core.Option.{none, some}
+use Rattle.std.specs.Prelude.{None, Some}
 use mathlib.Core.Path.{◌≡◌, refl, sym, ◌∙◌, ap, ap₂, subst}
 use borrow.Author.Tests.{eqb-true, not-false}
 use lib.Dec.{eqb}
 use lib.ListN.{length, get_or, take, length-map, get_or-append, get_or-map}
 use lib.Seq.{append_snoc}
-use Rattle.packet.specs.declared.Tested.TheVariants.{Passed}
+use Rattle.std.specs.Prelude.{Ok}
 use Rattle.packet.specs.Lowest.{lowest}
 use Rattle.packet.proofs.Lowest.{lowest_none}
 use Rattle.packet.proofs.Stages.{first_refused_passed, refused_at_passed, at_place_none}
@@ -56,22 +56,22 @@ unfolding any_table
 any_none test t ts e (Memᴰ.head {x} {xs} q) = ap test q ∙ (or_false (test x) (any_table test xs) e).0
 any_none test t ts e (Memᴰ.tail {x} {xs} m) = any_none test t xs (or_false (test x) (any_table test xs) e).1 m
 
-names_pass : (t : Table) (side : ℕ) (ts : List Table) → names_stage side ts ≡ Passed → Memᴰ t ts → lowest (bad_name (names_in t.cells)) (length t.sizes) ≡ none
+names_pass : (t : Table) (side : ℕ) (ts : List Table) → names_stage side ts ≡ Ok tt → Memᴰ t ts → lowest (bad_name (names_in t.cells)) (length t.sizes) ≡ None
 unfolding names_stage
 names_pass t side ts e (Memᴰ.head {x} {xs} q) =
     ap (λ (u : Table). lowest (bad_name (names_in u.cells)) (length u.sizes)) q ∙ refused_at_passed 20 side _ (first_refused_passed _ _ e).0
 names_pass t side ts e (Memᴰ.tail {x} {xs} m) = names_pass t (suc side) xs (first_refused_passed _ _ (first_refused_passed _ _ e).1).0 m
 
-module _ (ts : List Table) (e : tables_stage ts ≡ Passed) where
+module _ (ts : List Table) (e : tables_stage ts ≡ Ok tt) where
   all_matched : any_table mismatched ts ≡ false
   unfolding tables_stage
   all_matched = at_place_none 0 _ (refused_at_passed 4 0 _ (first_refused_passed _ _ e).0)
 
-  all_named : names_stage 1 ts ≡ Passed
+  all_named : names_stage 1 ts ≡ Ok tt
   unfolding tables_stage
   all_named = (first_refused_passed _ _ (first_refused_passed _ _ e).1).0
 
-  all_sized : sizes_stage 1 ts ≡ Passed
+  all_sized : sizes_stage 1 ts ≡ Ok tt
   unfolding tables_stage
   all_sized = (first_refused_passed _ _ (first_refused_passed _ _ (first_refused_passed _ _ e).1).1).0
 
@@ -238,7 +238,7 @@ joint_begins : (t : Table) (ts : List Table) → Good t → Begins (fields_of t)
 unfolding joint with_tables
 joint_begins t ts g = subst (λ (l : List Field). Begins l (with_tables (with_fields [] (fields_of t)) ts)) (first_table g) (with_tables_begins (with_fields [] (fields_of t)) ts)
 
-module _ (t : Table) (ts : List Table) (e : tables_stage (t ∷ ts) ≡ Passed) where
+module _ (t : Table) (ts : List Table) (e : tables_stage (t ∷ ts) ≡ Ok tt) where
   first_good : Good t
   first_good = good (t ∷ ts) e t (Memᴰ.head refl)
 
@@ -279,7 +279,7 @@ unfolding joint_names joint with_tables
 one_table t g = ap names_of (first_table g) ∙ table_names g
 
 -- "then names that only the right one has"
-pub right_follows : (left right : Table) → tables_stage (left ∷ right ∷ []) ≡ Passed → joint_names (left ∷ right ∷ []) ≡ names_in left.cells ++ only_in (names_in left.cells) (names_in right.cells)
+pub right_follows : (left right : Table) → tables_stage (left ∷ right ∷ []) ≡ Ok tt → joint_names (left ∷ right ∷ []) ≡ names_in left.cells ++ only_in (names_in left.cells) (names_in right.cells)
 right_follows left right e =
     next_follows (left ∷ []) right (good (left ∷ right ∷ []) e right (Memᴰ.tail (Memᴰ.head refl)))
     ∙ ap (λ (l : List (List ℕ)). l ++ only_in l (names_in right.cells)) (one_table left (good (left ∷ right ∷ []) e left (Memᴰ.head refl)))
@@ -311,7 +311,7 @@ with_tables_named t fs ts w (Memᴰ.head {x} {xs} q) e =
     named_begins w (with_tables_begins (with_fields fs (fields_of x)) xs) (with_fields_named fs (fields_of x) w (ap (λ (u : Table). is_named (names_of (fields_of u)) w) (sym q) ∙ e))
 with_tables_named t fs ts w (Memᴰ.tail {x} {xs} m) e = with_tables_named t (with_fields fs (fields_of x)) xs w m e
 
-pub named_joint : (ts : List Table) → tables_stage ts ≡ Passed → (t : Table) → Memᴰ t ts → (w : List ℕ) → is_named (names_in t.cells) w ≡ true → is_named (joint_names ts) w ≡ true
+pub named_joint : (ts : List Table) → tables_stage ts ≡ Ok tt → (t : Table) → Memᴰ t ts → (w : List ℕ) → is_named (names_in t.cells) w ≡ true → is_named (joint_names ts) w ≡ true
 unfolding joint_names joint
 named_joint ts e t m w n = with_tables_named t [] ts w m (ap (λ (l : List (List ℕ)). is_named l w) (table_names (good ts e t m)) ∙ n)
 
@@ -319,15 +319,15 @@ named_joint ts e t m w n = with_tables_named t [] ts w m (ap (λ (l : List (List
 
 -- A word of a text is field f exactly if it stands in the table of the text's side and f is its joint number.
 pub word_field : (ts : List Table) (t : Table) (w : List ℕ) (f : ℕ) → (w ≡ [] → ⊥)
-    → (field_named (names_for ts t) w ≡ some f) ↔ ((is_named (names_in t.cells) w ≡ true) × (field_named (joint_names ts) w ≡ some f))
+    → (field_named (names_for ts t) w ≡ Some f) ↔ ((is_named (names_in t.cells) w ≡ true) × (field_named (joint_names ts) w ≡ Some f))
 unfolding names_for kept_name
 word_field ts t w f word = kept_found (names_in t.cells) (joint_names ts) w word f
 
 -- ---- one size for each name
 
 -- a later table agrees with this one
-later_same : (t : Table) (ts : List Table) (side : ℕ) → sizes_stage side (t ∷ ts) ≡ Passed → (u : Table) → Memᴰ u ts → (w : List ℕ) (i j : ℕ) → i < length t.sizes
-    → field_named (names_in t.cells) w ≡ some i → field_named (names_in u.cells) w ≡ some j → get_or t.sizes i 0 ≡ get_or u.sizes j 0
+later_same : (t : Table) (ts : List Table) (side : ℕ) → sizes_stage side (t ∷ ts) ≡ Ok tt → (u : Table) → Memᴰ u ts → (w : List ℕ) (i j : ℕ) → i < length t.sizes
+    → field_named (names_in t.cells) w ≡ Some i → field_named (names_in u.cells) w ≡ Some j → get_or t.sizes i 0 ≡ get_or u.sizes j 0
 unfolding sizes_stage other_size another
 later_same t ts side e u m w i j h p q = sym (eqb-true (get_or u.sizes j 0) (get_or t.sizes i 0) (not-false _ agrees))
   where
@@ -337,20 +337,20 @@ later_same t ts side e u m w i j h p q = sym (eqb-true (get_or u.sizes j 0) (get
     agrees : not (eqb (get_or u.sizes j 0) (get_or t.sizes i 0)) ≡ false
     agrees = sym (ap (another (get_or t.sizes i 0) u.sizes) (ap (field_named (names_in u.cells)) (found_is (names_in t.cells) w i p) ∙ q)) ∙ none_other
 
-sized_pairs : (ts : List Table) (side : ℕ) → sizes_stage side ts ≡ Passed → ((v : Table) → Memᴰ v ts → Good v) → (t u : Table) → Memᴰ t ts → Memᴰ u ts → (w : List ℕ) (i j : ℕ)
-    → field_named (names_in t.cells) w ≡ some i → field_named (names_in u.cells) w ≡ some j → get_or t.sizes i 0 ≡ get_or u.sizes j 0
+sized_pairs : (ts : List Table) (side : ℕ) → sizes_stage side ts ≡ Ok tt → ((v : Table) → Memᴰ v ts → Good v) → (t u : Table) → Memᴰ t ts → Memᴰ u ts → (w : List ℕ) (i j : ℕ)
+    → field_named (names_in t.cells) w ≡ Some i → field_named (names_in u.cells) w ≡ Some j → get_or t.sizes i 0 ≡ get_or u.sizes j 0
 unfolding sizes_stage
 sized_pairs [] side e goods t u m n w i j p q = absurd (Memᴰ.not-nil m)
 sized_pairs (x ∷ xs) side e goods t u m n w i j p q = go (Memᴰ.cases_cons m) (Memᴰ.cases_cons n) (sized_pairs xs (suc side) (first_refused_passed _ _ (first_refused_passed _ _ e).1).0 (λ v k. goods v (Memᴰ.tail k)) t u)
   where
-    first : (v z : Table) → v ≡ x → Memᴰ z xs → (k l : ℕ) → field_named (names_in v.cells) w ≡ some k → field_named (names_in z.cells) w ≡ some l → get_or v.sizes k 0 ≡ get_or z.sizes l 0
+    first : (v z : Table) → v ≡ x → Memᴰ z xs → (k l : ℕ) → field_named (names_in v.cells) w ≡ Some k → field_named (names_in z.cells) w ≡ Some l → get_or v.sizes k 0 ≡ get_or z.sizes l 0
     first v z a k' k l b c =
-        let here : field_named (names_in x.cells) w ≡ some k = ap (λ (y : Table). field_named (names_in y.cells) w) (sym a) ∙ b in
+        let here : field_named (names_in x.cells) w ≡ Some k = ap (λ (y : Table). field_named (names_in y.cells) w) (sym a) ∙ b in
         ap (λ (y : Table). get_or y.sizes k 0) a
         ∙ later_same x xs side e z k' w k l (size_below x.cells w x.sizes k (goods x (Memᴰ.head refl)).matched here) here c
 
     go : (t ≡ x) ⊎ Memᴰ t xs → (u ≡ x) ⊎ Memᴰ u xs
-        → (Memᴰ t xs → Memᴰ u xs → (w : List ℕ) (i j : ℕ) → field_named (names_in t.cells) w ≡ some i → field_named (names_in u.cells) w ≡ some j → get_or t.sizes i 0 ≡ get_or u.sizes j 0)
+        → (Memᴰ t xs → Memᴰ u xs → (w : List ℕ) (i j : ℕ) → field_named (names_in t.cells) w ≡ Some i → field_named (names_in u.cells) w ≡ Some j → get_or t.sizes i 0 ≡ get_or u.sizes j 0)
         → get_or t.sizes i 0 ≡ get_or u.sizes j 0
     go (inl a) (inl b) rest = let same : t ≡ u = a ∙ sym b in let index : i ≡ j = cc in cc
     go (inl a) (inr b) rest = first t u a b i j p q
@@ -358,8 +358,8 @@ sized_pairs (x ∷ xs) side e goods t u m n w i j p q = go (Memᴰ.cases_cons m)
     go (inr a) (inr b) rest = rest a b w i j p q
 
 -- past 21 all tables that have a name give it one size
-pub same_size : (ts : List Table) → tables_stage ts ≡ Passed → (t u : Table) → Memᴰ t ts → Memᴰ u ts → (w : List ℕ) (i j : ℕ)
-    → field_named (names_in t.cells) w ≡ some i → field_named (names_in u.cells) w ≡ some j → get_or t.sizes i 0 ≡ get_or u.sizes j 0
+pub same_size : (ts : List Table) → tables_stage ts ≡ Ok tt → (t u : Table) → Memᴰ t ts → Memᴰ u ts → (w : List ℕ) (i j : ℕ)
+    → field_named (names_in t.cells) w ≡ Some i → field_named (names_in u.cells) w ≡ Some j → get_or t.sizes i 0 ≡ get_or u.sizes j 0
 same_size ts e t u m n w i j p q = sized_pairs ts 1 (all_sized ts e) (good ts e) t u m n w i j p q
 
 -- ---- each joint field is a field of one of the tables
@@ -433,7 +433,7 @@ module _ (ts : List Table) (f : ℕ) where
       (in_with_tables [] ts (get_or (with_tables [] ts) f no_field) (at_in (with_tables [] ts) f no_field (subst (λ (n : ℕ). f < n) (length-map (with_tables [] ts) (λ (g : Field). g.name)) h)))
 
 -- past 20 each joint name is well-formed and no constant
-pub joint_formed : (ts : List Table) → tables_stage ts ≡ Passed → (f : ℕ) → f < length (joint_names ts)
+pub joint_formed : (ts : List Table) → tables_stage ts ≡ Ok tt → (f : ℕ) → f < length (joint_names ts)
     → (well_formed (get_or (joint_names ts) f []) ≡ true) × (is_constant (get_or (joint_names ts) f []) ≡ false)
 joint_formed ts e f h =
     let c = joint_comes ts f h in
@@ -442,8 +442,8 @@ joint_formed ts e f h =
     (ap well_formed same ∙ g.formed c.is.at c.is.below, ap is_constant same ∙ g.free c.is.at c.is.below)
 
 -- past 21 a table gives each of its names the joint size
-pub one_size : (ts : List Table) → tables_stage ts ≡ Passed → (t : Table) → Memᴰ t ts → (w : List ℕ) (f i : ℕ)
-    → field_named (joint_names ts) w ≡ some f → field_named (names_in t.cells) w ≡ some i → get_or t.sizes i 0 ≡ get_or (joint_sizes ts) f 0
+pub one_size : (ts : List Table) → tables_stage ts ≡ Ok tt → (t : Table) → Memᴰ t ts → (w : List ℕ) (f i : ℕ)
+    → field_named (joint_names ts) w ≡ Some f → field_named (names_in t.cells) w ≡ Some i → get_or t.sizes i 0 ≡ get_or (joint_sizes ts) f 0
 one_size ts e t m w f i p q =
     let c = joint_comes ts f (found_below (joint_names ts) w f p) in
     let named : get_or (names_in c.from.cells) c.is.at [] ≡ w = c.is.name ∙ sym (joint_name ts f) ∙ found_is (joint_names ts) w f p in

@@ -2,30 +2,28 @@
 use Prim.Native.Nat.{ℕ, zero, suc, ◌+◌, ◌-◌, ◌*◌, ◌/◌, ◌≤◌, ◌<◌}
 use native.Mathlib.Nat.{not-suc-le-zero, le_of_suc-le-suc, le_refl}
 use native.Mathlib.Omega.{arith}
-use mathlib.Core.Bool.{Bool, true, false, ◌&&◌, ◌||◌, cond, true≢false}
+use mathlib.Core.Bool.{Bool, true, false, ◌||◌, true≢false}
 use mathlib.Core.List.{List, [], ◌∷◌}
-use mathlib.Core.Option.{none, some}
+use Rattle.std.specs.Prelude.{None, Some}
 use mathlib.Core.Path.{◌≡◌, refl, sym, ◌∙◌, ap, ap₂, subst}
-use lib.Dec.{eqb, leb}
-use lib.ListN.{length, get_or, take, drop, length-drop, drop_of_length-le}
-use lib.Seq.{length-take-le, drop-drop, drop-cons}
-use borrow.Author.Tests.{eqb-true, eq-eqb, ne_eqb, le-leb, lt-leb}
+use lib.Dec.{eqb}
+use Rattle.std.specs.Prelude.{is_some}
+use lib.ListN.{length, get_or, take, drop, drop_of_length-le}
+use lib.Seq.{drop-drop, drop-cons}
+use borrow.Author.Tests.{eqb-true, eq-eqb, le-leb, lt-leb}
 use Rattle.packet.specs.Lowest.{lowest}
 use Rattle.packet.proofs.Lowest.{Found, lowest_is, lowest_found, lowest_none_whole}
 use Rattle.packet.proofs.Tests.{and_true}
 use Rattle.fields.specs.Bytes.{is_small, is_digit}
-use Rattle.fields.specs.Names.{same_word, field_named, found, is_named, cell_name, names_from, names_in, well_formed, all_small_or_digit}
-use Rattle.fields.specs.Inner.{name_end}
+use Rattle.fields.specs.Names.{same_word, field_named, is_named, cell_name, names_from, names_in, well_formed, all_small_or_digit}
 
 pub same_eq : (a b : List ℕ) → same_word a b ≡ true → a ≡ b
-unfolding same_word
 same_eq [] [] e = refl
 same_eq [] (y ∷ ys) e = absurd (true≢false (sym e))
 same_eq (x ∷ xs) [] e = absurd (true≢false (sym e))
 same_eq (x ∷ xs) (y ∷ ys) e = ap₂ ◌∷◌ (eqb-true x y (and_true (eqb x y) (same_word xs ys) e).0) (same_eq xs ys (and_true (eqb x y) (same_word xs ys) e).1)
 
 pub same_refl : (a : List ℕ) → same_word a a ≡ true
-unfolding same_word
 same_refl [] = refl
 same_refl (x ∷ xs) = rw (eq-eqb x x refl) (same_refl xs)
 
@@ -40,37 +38,11 @@ same_is false a b f g = go (same_word a b) refl
 
 -- ---- cells
 
--- the name in a cell is a part of it
-pub cell_part : (cell : List ℕ) → 16 ≡ length cell → cell_name cell ≡ take (name_end (get_or cell 0 0) - 1) (drop 1 cell)
-unfolding cell_name name_end
-cell_part [] e = absurd (true≢false (cc))
-cell_part (n ∷ bs) e = go (leb n 15) refl
-  where
-    go : (b : Bool) → leb n 15 ≡ b → cond (leb n 15) (take n bs) [] ≡ take (cond (leb n 15) (suc n) 1 - 1) bs
-    go true q = rw q (let one : n ≡ suc n - 1 = omega arith in ap (λ (k : ℕ). take k bs) one)
-    go false q = rw q refl
-
--- the part of a cell that a function reads as its name
-pub name_part : (cell : List ℕ) (e : ℕ) → 16 ≡ length cell → e ≡ name_end (get_or cell 0 0) → take (e - 1) (drop 1 cell) ≡ cell_name cell
-name_part cell e h q = ap (λ (n : ℕ). take (n - 1) (drop 1 cell)) q ∙ sym (cell_part cell h)
-
-pub name_end_short : (n : ℕ) → n ≤ 15 → name_end n ≡ suc n
-unfolding name_end
-name_end_short n h = rw (le-leb n 15 h) refl
-
-pub name_end_long : (n : ℕ) → 15 < n → name_end n ≡ 1
-unfolding name_end
-name_end_long n h = rw (lt-leb n 15 h) refl
-
 -- a cell whose length is over 15 holds the empty word
-pub long_holds : (cell w : List ℕ) → 15 < get_or cell 0 0 → eqb (length w) 0 ≡ same_word w (cell_name cell)
-unfolding cell_name same_word
-long_holds [] w h = absurd (not-suc-le-zero h)
-long_holds (n ∷ bs) w h = rw (lt-leb n 15 h) (empty_word w)
-  where
-    empty_word : (w : List ℕ) → eqb (length w) 0 ≡ same_word w []
-    empty_word [] = refl
-    empty_word (x ∷ xs) = ne_eqb (length (x ∷ xs)) 0 (λ e. omega arith)
+pub long_name : (cell : List ℕ) → 15 < get_or cell 0 0 → [] ≡ cell_name cell
+unfolding cell_name
+long_name [] h = absurd (not-suc-le-zero h)
+long_name (n ∷ bs) h = rw (lt-leb n 15 h) refl
 
 -- else the name is as long as its first byte says
 pub short_name : (cell : List ℕ) → 16 ≡ length cell → get_or cell 0 0 ≤ 15 → cell_name cell ≡ take (get_or cell 0 0) (drop 1 cell)
@@ -78,15 +50,9 @@ unfolding cell_name
 short_name [] e h = refl
 short_name (n ∷ bs) e h = rw (le-leb n 15 h) refl
 
-pub other_length : (cell w : List ℕ) → 16 ≡ length cell → get_or cell 0 0 ≤ 15 → (get_or cell 0 0 ≡ length w → ⊥) → false ≡ same_word w (cell_name cell)
-other_length cell w e h d = go (same_word w (cell_name cell)) refl
-  where
-    long : length (cell_name cell) ≡ get_or cell 0 0
-    long = ap length (short_name cell e h) ∙ length-take-le (get_or cell 0 0) (drop 1 cell) (omega (arith, length-drop 1 cell))
-
-    go : (b : Bool) → same_word w (cell_name cell) ≡ b → false ≡ b
-    go true q = absurd (d (sym (ap length (same_eq w (cell_name cell) q) ∙ long)))
-    go false q = refl
+-- as a function cuts it out
+pub name_cut : (cell : List ℕ) → 16 ≡ length cell → get_or cell 0 0 ≤ 15 → take (get_or cell 0 0 + 1 - 1) (drop 1 cell) ≡ cell_name cell
+name_cut cell e h = let one : get_or cell 0 0 + 1 - 1 ≡ get_or cell 0 0 = omega arith in ap (λ (k : ℕ). take k (drop 1 cell)) one ∙ sym (short_name cell e h)
 
 pub length_names_from : (n : ℕ) (cells : List ℕ) → length (names_from n cells) ≡ n
 unfolding names_from
@@ -113,19 +79,6 @@ names_at cells i h = names_from_at (length cells / 16) cells i h
 
 -- ---- bytes of names
 
-and_false : (a : Bool) → a && false ≡ false
-and_false true = refl
-and_false false = refl
-
-pub within : (low high b : ℕ) → low ≤ b → b ≤ high → leb low b && leb b high ≡ true
-within low high b l h = rw (le-leb low b l) (le-leb b high h)
-
-pub below : (low high b : ℕ) → b < low → leb low b && leb b high ≡ false
-below low high b h = rw (lt-leb low b h) refl
-
-pub above : (low high b : ℕ) → high < b → leb low b && leb b high ≡ false
-above low high b h = rw (lt-leb b high h) (and_false (leb low b))
-
 module _ (w : List ℕ) (i : ℕ) where
   pub all_fails : i < length w → (is_small (get_or w i 0) || is_digit (get_or w i 0)) ≡ false → all_small_or_digit (drop i w) ≡ false
   unfolding all_small_or_digit
@@ -138,16 +91,6 @@ module _ (w : List ℕ) (i : ℕ) where
   pub all_end : length w ≤ i → all_small_or_digit (drop i w) ≡ true
   unfolding all_small_or_digit
   all_end h = ap all_small_or_digit (drop_of_length-le w h)
-
-pub well_formed_is : (w : List ℕ) (r : Bool) → 0 < length w → is_small (get_or w 0 0) ≡ true → r ≡ all_small_or_digit (drop 1 w) → r ≡ well_formed w
-unfolding well_formed
-well_formed_is [] r h e q = absurd (not-suc-le-zero h)
-well_formed_is (b ∷ bs) r h e q = rw e q
-
-pub ill_formed : (w : List ℕ) → 0 < length w → is_small (get_or w 0 0) ≡ false → well_formed w ≡ false
-unfolding well_formed
-ill_formed [] h e = absurd (not-suc-le-zero h)
-ill_formed (b ∷ bs) h e = rw e refl
 
 pub no_name : (w : List ℕ) → length w ≡ 0 → well_formed w ≡ false
 unfolding well_formed
@@ -165,22 +108,22 @@ bears_cell cells w f h e q =
     let sixteen : f * 16 + 16 - f * 16 ≡ 16 = omega arith in
     ap (same_word w) (names_at cells f h ∙ sym (ap (λ (k : ℕ). cell_name (take k (drop (f * 16) cells))) sixteen)) ∙ sym e ∙ q
 
-pub find_found : (cells w : List ℕ) (f : ℕ) → f < length cells / 16 → lowest (bears cells w) f ≡ none → bears cells w f ≡ true → field_named (names_in cells) w ≡ some f
+pub find_found : (cells w : List ℕ) (f : ℕ) → f < length cells / 16 → lowest (bears cells w) f ≡ None → bears cells w f ≡ true → field_named (names_in cells) w ≡ Some f
 unfolding field_named
 find_found cells w f h miss e = lowest_found (bears cells w) f (length (names_in cells)) miss e (subst (λ (k : ℕ). f < k) (sym (length_names cells)) h)
 
-pub find_none : (cells w : List ℕ) (f : ℕ) → lowest (bears cells w) f ≡ none → f ≡ length cells / 16 → field_named (names_in cells) w ≡ none
+pub find_none : (cells w : List ℕ) (f : ℕ) → lowest (bears cells w) f ≡ None → f ≡ length cells / 16 → field_named (names_in cells) w ≡ None
 unfolding field_named
 find_none cells w f miss e = lowest_none_whole (bears cells w) f (length (names_in cells)) miss (e ∙ sym (length_names cells))
 
-pub found_below : (names : List (List ℕ)) (w : List ℕ) (f : ℕ) → field_named names w ≡ some f → f < length names
+pub found_below : (names : List (List ℕ)) (w : List ℕ) (f : ℕ) → field_named names w ≡ Some f → f < length names
 unfolding field_named
 found_below names w f e = (subst (Found (λ (f : ℕ). same_word w (get_or names f [])) (length names)) e (lowest_is _ (length names))).below
 
-pub is_named_lem : (names : List (List ℕ)) (w : List ℕ) (f : ℕ) → field_named names w ≡ some f → is_named names w ≡ true
-unfolding is_named found
-is_named_lem names w f e = ap found e
+pub is_named_lem : (names : List (List ℕ)) (w : List ℕ) (f : ℕ) → field_named names w ≡ Some f → is_named names w ≡ true
+unfolding is_named
+is_named_lem names w f e = ap is_some e
 
-pub not_named : (names : List (List ℕ)) (w : List ℕ) → field_named names w ≡ none → is_named names w ≡ false
-unfolding is_named found
-not_named names w e = ap found e
+pub not_named : (names : List (List ℕ)) (w : List ℕ) → field_named names w ≡ None → is_named names w ≡ false
+unfolding is_named
+not_named names w e = ap is_some e

@@ -1,24 +1,24 @@
 -- The names in cells, cell by cell, and tables of them. Assumes nothing.
-use Prim.Native.Nat.{ℕ, zero, suc, ◌+◌, ◌-◌, ◌*◌, ◌/◌, ◌≤◌, ◌<◌}
+use Prim.Native.Nat.{ℕ, ◌%◌, zero, suc, ◌+◌, ◌-◌, ◌*◌, ◌/◌, ◌≤◌, ◌<◌}
 use native.Mathlib.Nat.{not-suc-le-zero, le_of_suc-le-suc}
 use native.Mathlib.Omega.{arith}
 use mathlib.Core.Bool.{Bool, true, false, cond, ◌||◌, not}
 use mathlib.Core.List.{List, [], ◌∷◌, ◌++◌, map, map-append, append_assoc, append-nil}
 use mathlib.Core.Logic.{⊎_elim, ◌≢◌}
-use mathlib.Core.Option.{Option, none, some}
+use Rattle.std.specs.Prelude.{Some}
 use mathlib.Core.Path.{◌≡◌, refl, sym, ◌∙◌, ap, ap₂, subst}
 use borrow.Author.Tests.{eqb-true, eqb-false, eq-eqb, ne_eqb}
 use lib.Dec.{eqb}
-use lib.ListN.{length, get_or, set, take, drop, length-set, length-map, length-drop, drop_of_length-le}
-use lib.Seq.{drop-drop, drop-cons, take-take, take-suc, take-set-le, drop-set-lt, drop-set-add, length-take-le, ext_get_or, get_or-take, get_or-drop, get_or-set_same, get_or-set_other, set-get_or, set_at, get_or_at, take_all}
-use Rattle.packet.specs.declared.Tested.TheVariants.{Passed}
+use lib.ListN.{length, get_or, set, take, drop, length-set, length-map, drop_of_length-le}
+use lib.Seq.{drop-drop, drop-cons, take-take, take-suc, take-set-le, drop-set-lt, drop-set-add, length-take-le, ext_get_or, get_or-set_same, get_or-set_other, set-get_or, set_at, get_or_at, take_all}
+use Rattle.std.specs.Prelude.{Ok}
 use Rattle.packet.specs.Sizes.{fields_stage}
 use Rattle.packet.proofs.Stages.{first_refused_passed}
 use Rattle.packet.proofs.Tests.{lt_or_le}
 use Rattle.fields.specs.Names.{cell_name, field_named, names_from, names_in, well_formed, is_constant, is_named, bad_name}
 use Rattle.fields.specs.Tables.{Table, table, any_table, another, other_size, joint_sizes, tables_stage}
-use Rattle.fields.specs.Inner.{name_end, kept_cell, kept_name, kept_names}
-use Rattle.fields.proofs.NameLaws.{length_names_from, names_from_at, names_at, length_names, name_part, found_below}
+use Rattle.fields.specs.Inner.{kept_cell, kept_name, kept_names}
+use Rattle.fields.proofs.NameLaws.{length_names_from, names_from_at, names_at, length_names, found_below}
 
 -- a part of a first part
 take_drop_take : {A : Type 0} (m a k : ℕ) (l : List A) → a + m ≤ k → take m (drop a (take k l)) ≡ take m (drop a l)
@@ -67,70 +67,40 @@ pub take_names : (i : ℕ) (cells : List ℕ) → i * 16 ≤ length cells → ta
 unfolding names_in
 take_names i cells h = take_names_from i (length cells / 16) cells (omega arith) ∙ sym (names_in_take i cells h)
 
--- the part of the cells that a function reads as the name of the cell at a place
-pub name_part_at : (cells : List ℕ) (at e : ℕ) → at + 16 ≤ length cells → (e ≡ name_end (get_or cells at 0)) × (1 ≤ e) × (e ≤ 16) → take (at + e - (at + 1)) (drop (at + 1) cells) ≡ cell_name (take 16 (drop at cells))
-name_part_at cells at e h ends =
-    let cell = take 16 (drop at cells) in
-    let whole : 16 ≡ length cell = sym (length-take-le 16 (drop at cells) (omega (arith, length-drop at cells))) in
-    let first : get_or cell 0 0 ≡ get_or cells at 0 = get_or-take 16 (drop at cells) 0 0 (omega arith) ∙ get_or-drop at cells 0 0 ∙ ap (λ (k : ℕ). get_or cells k 0) {x = at + 0} {y = at} (omega arith) in
-    ap (λ (k : ℕ). take k (drop (at + 1) cells)) {x = at + e - (at + 1)} {y = e - 1} (omega (arith, ends.1))
-    ∙ ap (take (e - 1)) (sym (drop-drop 1 at cells))
-    ∙ sym (take_drop_take (e - 1) 1 16 (drop at cells) (omega (arith, ends.1, ends.2)))
-    ∙ name_part cell e whole (ends.0 ∙ ap name_end (sym first))
-
 -- ---- cause 20
 
-bad : List (List ℕ) → List ℕ → Bool
+abbrev pub bad : List (List ℕ) → List ℕ → Bool
 bad earlier w = not (well_formed w) || is_constant w || is_named earlier w
 
 pub bad_cell : (cells : List ℕ) (i : ℕ) {r s : Bool} → i < length cells / 16
     → r ≡ (not (well_formed (cell_name (take (i * 16 + 16 - i * 16) (drop (i * 16) cells)))) || is_constant (cell_name (take (i * 16 + 16 - i * 16) (drop (i * 16) cells))) || is_named (names_in (take (i * 16) cells)) (cell_name (take (i * 16 + 16 - i * 16) (drop (i * 16) cells))))
     → r ≡ s → bad_name (names_in cells) i ≡ s
-unfolding bad_name bad
+unfolding bad_name
 bad_cell cells i h e q =
     let sixteen : 16 ≡ i * 16 + 16 - i * 16 = omega arith in
     ap₂ bad (take_names i cells (omega arith)) (names_at cells i h ∙ ap (λ (k : ℕ). cell_name (take k (drop (i * 16) cells))) sixteen) ∙ sym e ∙ q
 
--- the answer of each test
-module _ (earlier : List (List ℕ)) (w : List ℕ) where
-  pub malformed : well_formed w ≡ false → true ≡ (not (well_formed w) || is_constant w || is_named earlier w)
-  malformed e = rw e refl
-
-  pub constant : well_formed w ≡ true → is_constant w ≡ true → true ≡ (not (well_formed w) || is_constant w || is_named earlier w)
-  constant e f = rw (e, f) refl
-
-  pub repeats : {r : Bool} → well_formed w ≡ true → is_constant w ≡ false → r ≡ is_named earlier w → r ≡ (not (well_formed w) || is_constant w || is_named earlier w)
-  repeats e f q = rw (e, f) q
-
 -- ---- causes 4, 21 and 1
 
 -- where all causes pass, 1 and 2 pass over the joint fields
-pub tables_legal : (ts : List Table) → tables_stage ts ≡ Passed → fields_stage (joint_sizes ts) ≡ Passed
+pub tables_legal : (ts : List Table) → tables_stage ts ≡ Ok tt → fields_stage (joint_sizes ts) ≡ Ok tt
 unfolding tables_stage
 tables_legal ts e = (first_refused_passed _ _ (first_refused_passed _ _ (first_refused_passed _ _ (first_refused_passed _ _ (first_refused_passed _ _ e).1).1).1).1).0
 
-pub mismatched_by : (cells sizes : ℕ) → (cells ≡ sizes * 16 → ⊥) → true ≡ not (eqb cells (sizes * 16))
-mismatched_by cells sizes h = rw (ne_eqb cells (sizes * 16) h) refl
+module _ (cells sizes : ℕ) where
+  pub no_cells : (cells % 16 ≡ 0 → ⊥) → not (eqb (cells % 16) 0) ≡ not (eqb cells (sizes * 16))
+  no_cells h = rw (ne_eqb (cells % 16) 0 h, ne_eqb cells (sizes * 16) (λ e. h (omega (arith, e)))) refl
 
-pub matched_by : (cells sizes : ℕ) → cells ≡ sizes * 16 → false ≡ not (eqb cells (sizes * 16))
-matched_by cells sizes h = rw (eq-eqb cells (sizes * 16) h) refl
+  pub some_cells : cells % 16 ≡ 0 → not (eqb (cells / 16) sizes) ≡ not (eqb cells (sizes * 16))
+  some_cells h = ap not (same (eqb (cells / 16) sizes) refl)
+    where
+      same : (b : Bool) → eqb (cells / 16) sizes ≡ b → b ≡ eqb cells (sizes * 16)
+      same true e = sym (eq-eqb cells (sizes * 16) (omega (arith, eqb-true (cells / 16) sizes e)))
+      same false e = sym (ne_eqb cells (sizes * 16) (λ q. eqb-false (cells / 16) sizes e (omega (arith, q))))
 
 -- a name that is found has a size
-pub size_below : (cells w sizes : List ℕ) (j : ℕ) → length cells ≡ length sizes * 16 → field_named (names_in cells) w ≡ some j → j < length sizes
+pub size_below : (cells w sizes : List ℕ) (j : ℕ) → length cells ≡ length sizes * 16 → field_named (names_in cells) w ≡ Some j → j < length sizes
 size_below cells w sizes j h e = omega (arith, found_below (names_in cells) w j e, length_names cells)
-
-module _ (size : ℕ) (sizes : List ℕ) {o : Option ℕ} where
-  pub another_none : o ≡ none → false ≡ another size sizes o
-  unfolding another
-  another_none e = rw e refl
-
-  pub another_same : {j : ℕ} → o ≡ some j → get_or sizes j 0 ≡ size → false ≡ another size sizes o
-  unfolding another
-  another_same {j} e q = rw e (rw (eq-eqb (get_or sizes j 0) size q) refl)
-
-  pub another_other : {j : ℕ} → o ≡ some j → (get_or sizes j 0 ≡ size → ⊥) → true ≡ another size sizes o
-  unfolding another
-  another_other {j} e q = rw e (rw (ne_eqb (get_or sizes j 0) size q) refl)
 
 or_no : (b : Bool) → b || false ≡ b
 or_no true = refl

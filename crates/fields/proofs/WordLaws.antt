@@ -5,13 +5,13 @@ use native.Mathlib.Omega.{arith}
 use mathlib.Core.Bool.{Bool, true, false, cond}
 use mathlib.Core.List.{List, [], ◌∷◌, ◌++◌, map}
 use mathlib.Core.Logic.{◌⊎◌, inl, inr, ⊎_elim, ◌↔◌}
-use mathlib.Core.Option.{Option, none, some}
+use Rattle.std.specs.Prelude.{Option, None, Some, is_some}
 use mathlib.Core.Path.{◌≡◌, refl, sym, ◌∙◌, ap, subst}
 use lib.ListN.{length, get_or, take, length-append, length-map, get_or-append, get_or-map}
 use lib.Seq.{get_or_at, get_or-take, length-take-le}
 use Rattle.packet.proofs.Lowest.{Found, lowest_is, lowest_only, none_lowest}
 use Rattle.packet.proofs.Tests.{clash, last_or_before}
-use Rattle.fields.specs.Names.{same_word, field_named, found, is_named}
+use Rattle.fields.specs.Names.{same_word, field_named, is_named}
 use Rattle.fields.specs.Inner.{kept_name}
 use Rattle.fields.proofs.NameLaws.{same_eq, same_refl, not_named, found_below}
 
@@ -25,36 +25,36 @@ same_differs a b h = go (same_word a b) refl
 -- ---- the first of the names that is a word
 
 module _ (names : List (List ℕ)) (w : List ℕ) where
-  pub found_is : (f : ℕ) → field_named names w ≡ some f → get_or names f [] ≡ w
+  pub found_is : (f : ℕ) → field_named names w ≡ Some f → get_or names f [] ≡ w
   unfolding field_named
   found_is f e = sym (same_eq w (get_or names f []) (subst (Found (λ (f : ℕ). same_word w (get_or names f [])) (length names)) e (lowest_is _ (length names))).passes)
 
-  pub found_first : (f : ℕ) → field_named names w ≡ some f → (j : ℕ) → j < f → get_or names j [] ≡ w → ⊥
+  pub found_first : (f : ℕ) → field_named names w ≡ Some f → (j : ℕ) → j < f → get_or names j [] ≡ w → ⊥
   unfolding field_named
   found_first f e j h q =
       clash (ap (same_word w) q ∙ same_refl w) ((subst (Found (λ (f : ℕ). same_word w (get_or names f [])) (length names)) e (lowest_is _ (length names))).first j h)
 
-  pub first_found : (f : ℕ) → f < length names → get_or names f [] ≡ w → ((j : ℕ) → j < f → get_or names j [] ≡ w → ⊥) → field_named names w ≡ some f
+  pub first_found : (f : ℕ) → f < length names → get_or names f [] ≡ w → ((j : ℕ) → j < f → get_or names j [] ≡ w → ⊥) → field_named names w ≡ Some f
   unfolding field_named
   first_found f h e none_before =
       lowest_only
       (λ (f : ℕ). same_word w (get_or names f []))
       (length names)
-      (some f)
+      (Some f)
       (record { below = h; passes = ap (same_word w) e ∙ same_refl w; first = λ j b. same_differs w (get_or names j []) (λ q. none_before j b (sym q)) })
 
   -- a word that is none of the names
-  pub none_found : ((i : ℕ) → i < length names → get_or names i [] ≡ w → ⊥) → field_named names w ≡ none
+  pub none_found : ((i : ℕ) → i < length names → get_or names i [] ≡ w → ⊥) → field_named names w ≡ None
   unfolding field_named
   none_found h = none_lowest (λ (f : ℕ). same_word w (get_or names f [])) (length names) (λ i b. same_differs w (get_or names i []) (λ q. h i b (sym q)))
 
   pub no_name_is : is_named names w ≡ false → (i : ℕ) → i < length names → get_or names i [] ≡ w → ⊥
-  unfolding is_named found field_named
+  unfolding is_named field_named
   no_name_is e i h q = go (field_named names w) e (lowest_is (λ (f : ℕ). same_word w (get_or names f [])) (length names))
     where
-      go : (o : Option ℕ) → found o ≡ false → Found (λ (f : ℕ). same_word w (get_or names f [])) (length names) o → ⊥
-      go none f g = clash (ap (same_word w) q ∙ same_refl w) (g i h)
-      go (some f) g k = clash refl g
+      go : (o : Option ℕ) → is_some o ≡ false → Found (λ (f : ℕ). same_word w (get_or names f [])) (length names) o → ⊥
+      go None f g = clash (ap (same_word w) q ∙ same_refl w) (g i h)
+      go (Some f) g k = clash refl g
 
   pub none_named : ((i : ℕ) → i < length names → get_or names i [] ≡ w → ⊥) → is_named names w ≡ false
   none_named h = not_named names w (none_found h)
@@ -69,15 +69,15 @@ module _ (names : List (List ℕ)) (w : List ℕ) where
   -- where one of the names stands
   pub record Stands : Type 0 where
     pub at : ℕ
-    pub is : field_named names w ≡ some at
+    pub is : field_named names w ≡ Some at
 
   pub stands : is_named names w ≡ true → Stands
-  unfolding is_named found
+  unfolding is_named
   stands e = go (field_named names w) refl e
     where
-      go : (o : Option ℕ) → field_named names w ≡ o → found o ≡ true → Stands
-      go none q f = clash f refl
-      go (some i) q f = record { at = i; is = q }
+      go : (o : Option ℕ) → field_named names w ≡ o → is_some o ≡ true → Stands
+      go None q f = clash f refl
+      go (Some i) q f = record { at = i; is = q }
 
 -- ---- names of two lists
 
@@ -159,7 +159,7 @@ apart_each names h =
     }
 
 -- a word that stands at a place of such names is found there
-pub apart_found : (names : List (List ℕ)) (w : List ℕ) (i : ℕ) → Apart names → i < length names → get_or names i [] ≡ w → field_named names w ≡ some i
+pub apart_found : (names : List (List ℕ)) (w : List ℕ) (i : ℕ) → Apart names → i < length names → get_or names i [] ≡ w → field_named names w ≡ Some i
 apart_found names w i a h e = first_found names w i h e (λ j b q. a.differ j i b h (q ∙ sym e))
 
 -- ---- names of which some are emptied
@@ -190,13 +190,13 @@ module _ (theirs names : List (List ℕ)) (w : List ℕ) (word : w ≡ [] → �
   is_kept e x q = ap (kept_name theirs) q ∙ rw e refl
 
   -- a word is found among them where it is one of theirs and stands there
-  pub kept_found : (f : ℕ) → (field_named (map (kept_name theirs) names) w ≡ some f) ↔ ((is_named theirs w ≡ true) × (field_named names w ≡ some f))
+  pub kept_found : (f : ℕ) → (field_named (map (kept_name theirs) names) w ≡ Some f) ↔ ((is_named theirs w ≡ true) × (field_named names w ≡ Some f))
   kept_found f = (to, back)
     where
       long : length (map (kept_name theirs) names) ≡ length names
       long = length-map names (kept_name theirs)
 
-      to : field_named (map (kept_name theirs) names) w ≡ some f → (is_named theirs w ≡ true) × (field_named names w ≡ some f)
+      to : field_named (map (kept_name theirs) names) w ≡ Some f → (is_named theirs w ≡ true) × (field_named names w ≡ Some f)
       to e =
           let here = kept_is (get_or names f []) (sym (kept_at f) ∙ found_is (map (kept_name theirs) names) w f e) in (
             here.0,
@@ -209,7 +209,7 @@ module _ (theirs names : List (List ℕ)) (w : List ℕ) (word : w ≡ [] → �
                 (λ j b q. found_first (map (kept_name theirs) names) w f e j b (kept_at j ∙ is_kept here.0 (get_or names j []) q)),
           )
 
-      back : (is_named theirs w ≡ true) × (field_named names w ≡ some f) → field_named (map (kept_name theirs) names) w ≡ some f
+      back : (is_named theirs w ≡ true) × (field_named names w ≡ Some f) → field_named (map (kept_name theirs) names) w ≡ Some f
       back (t, e) =
           first_found
           (map (kept_name theirs) names)

@@ -1,16 +1,16 @@
 -- What the inner functions on tables promise.
-use Rattle.std.specs.Prelude.{ℕ, suc, min, ◌+◌, ◌*◌, ◌≤◌, cond, List, [], ◌∷◌, ◌++◌, map, ◌≡◌, leb, length, set, take, drop}
-use Rattle.packet.specs.declared.Tested.{Tested}
-use Rattle.packet.specs.declared.Tested.TheVariants.{Passed}
+use Rattle.std.specs.Prelude.{ℕ, min, ◌*◌, ◌≤◌, cond, List, [], ◌∷◌, ◌++◌, map, ◌≡◌, Result, Ok, Err, length, set, take, drop}
+use Rattle.packet.specs.Refusals.{Tested}
 use Rattle.packet.specs.Refusals.{refused_at, at_zero, first_refused}
 use Rattle.packet.specs.Sizes.{fields_stage}
-use Rattle.fields.specs.declared.Joint as Answered
+use Rattle.packet.specs.declared.Refusal.{Refusal}
+use Rattle.fields.specs.declared.JointFields.{JointFields}
 use Rattle.fields.specs.Names.{is_named, cell_name, names_from, names_in}
 use Rattle.fields.specs.Tables.{Table, Field, any_table, is_empty, names_stage, sizes_stage, with_field, with_fields, fields_of, joint_names, joint_sizes, tables_stage}
 
--- where the name in a cell ends, whose first byte is n
-unfoldable pub name_end : ℕ → ℕ
-name_end n = cond (leb n 15) (suc n) 1
+-- 16 bytes a name
+abbrev pub Matched : Table → Type 0
+Matched t = length t.cells ≡ length t.sizes * 16
 
 -- causes 20 and 21, and 1 of the tables
 unfoldable pub names_and_sizes : List Table → Tested
@@ -59,20 +59,34 @@ pub record TableAdded (t : Table) (count : ℕ) (cells sizes : List ℕ) (r : �
   pub room : length cells' ≡ length cells
   pub space : length sizes' ≡ length sizes
 
+-- the same of joint fields in the code
+abbrev pub Put : List ℕ → ℕ → JointFields → JointFields → Type 0
+Put cell size j j' = FieldPut cell size j.count j.names j.sizes j'.count j'.names j'.sizes
+
+abbrev pub Added : List ℕ → ℕ → JointFields → JointFields → Type 0
+Added cell size j j' = FieldAdded cell size j.count j.names j.sizes j'.count j'.names j'.sizes
+
+abbrev pub AllAdded : Table → JointFields → JointFields → Type 0
+AllAdded t j j' = TableAdded t j.count j.names j.sizes j'.count j'.names j'.sizes
+
 -- ---- the answer
 
--- The joint fields of tables: their names in cells, and their sizes, where the causes pass that this says.
-pub record AnswerOf (ts : List Table) (says : Tested) (r : Answered.Joint) : Type 0 where
-  pub tested : r.tested ≡ says
-  pub few : r.count ≤ 8
-  pub room : 128 ≡ length r.names
-  pub space : 8 ≡ length r.sizes
-  pub named : r.tested ≡ Passed → names_in (take (r.count * 16) r.names) ≡ joint_names ts
-  pub sized : r.tested ≡ Passed → take r.count r.sizes ≡ joint_sizes ts
+-- The joint fields of tables: their names in cells, and their sizes.
+pub record JointlyHeld (ts : List Table) (j : JointFields) : Type 0 where
+  pub few : j.count ≤ 8
+  pub room : 128 ≡ length j.names
+  pub space : 8 ≡ length j.sizes
+  pub named : names_in (take (j.count * 16) j.names) ≡ joint_names ts
+  pub sized : take j.count j.sizes ≡ joint_sizes ts
+
+-- where the causes pass that this says
+abbrev pub AnswerOf : List Table → Tested → Result JointFields Refusal → Type 0
+AnswerOf ts says (Ok j) = (says ≡ Ok tt) × JointlyHeld ts j
+AnswerOf ts says (Err r) = says ≡ Err r
 
 -- causes 1 and 2 of the joint fields alone
-abbrev pub Joined : List Table → Answered.Joint → Type 0
+abbrev pub Joined : List Table → Result JointFields Refusal → Type 0
 Joined ts = AnswerOf ts (fields_stage (joint_sizes ts))
 
-abbrev pub JointOf : List Table → Answered.Joint → Type 0
+abbrev pub JointOf : List Table → Result JointFields Refusal → Type 0
 JointOf ts = AnswerOf ts (tables_stage ts)

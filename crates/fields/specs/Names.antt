@@ -1,28 +1,20 @@
 -- Names of fields, and the cells that hold them (document 02, A.4). A name lies in a cell of 16 bytes: its length, then its bytes; those past
 -- the length are not read.
-use Rattle.std.specs.Prelude.{ℕ, zero, suc, ◌/◌, Bool, true, false, cond, not, ◌&&◌, ◌||◌, List, [], ◌∷◌, leb, eqb, length, get_or, take, drop}
-use Rattle.std.proofs.Math.Option.{Option, none, some}
+use Rattle.std.specs.Prelude.{ℕ, zero, suc, ◌/◌, Bool, true, false, cond, not, ◌&&◌, ◌||◌, List, [], ◌∷◌, leb, length, get_or, take, drop, Option, is_some, bytes_eq}
 use Rattle.packet.specs.Lowest.{lowest}
 use Rattle.fields.specs.Bytes.{is_small, is_digit}
 
 -- two words are the same, byte for byte
-unfoldable pub same_word : List ℕ → List ℕ → Bool
-same_word [] [] = true
-same_word [] (b ∷ bs) = false
-same_word (a ∷ as') [] = false
-same_word (a ∷ as') (b ∷ bs) = eqb a b && same_word as' bs
+abbrev pub same_word : List ℕ → List ℕ → Bool
+same_word = bytes_eq
 
 -- the first of the names that is the word
 unfoldable pub field_named : List (List ℕ) → List ℕ → Option ℕ
 field_named names w = lowest (λ f. same_word w (get_or names f [])) (length names)
 
-unfoldable pub found : Option ℕ → Bool
-found none = false
-found (some f) = true
-
 -- the word is one of the names
 unfoldable pub is_named : List (List ℕ) → List ℕ → Bool
-is_named names w = found (field_named names w)
+is_named names w = is_some (field_named names w)
 
 -- the name in a cell; a length over 15 is no name's, and the cell then holds the empty word
 unfoldable pub cell_name : List ℕ → List ℕ

@@ -1,11 +1,11 @@
 -- Tables of field names with their sizes, and the joint fields of several tables (document 02, A.4). Any number of tables; a call on a left and a
 -- right policy has two.
 use Rattle.std.specs.Prelude.{ℕ, suc, ◌*◌, Bool, false, cond, not, ◌||◌, List, [], ◌∷◌, ◌++◌, map, eqb, length, get_or}
-use Rattle.std.proofs.Math.Option.{Option, none, some}
-use Rattle.std.specs.Borrow.{Bor}
-use denote.Triple.Both.{Both}
-use Rattle.packet.specs.declared.Tested.{Tested}
-use Rattle.packet.specs.declared.Tested.TheVariants.{Passed}
+use Rattle.std.specs.Prelude.{Option, None, Some}
+use Rattle.fields.specs.declared.FieldTable.{FieldTable}
+use Rattle.fields.specs.declared.Tables.{Tables}
+use Rattle.packet.specs.Refusals.{Tested}
+use Rattle.std.specs.Prelude.{Ok}
 use Rattle.packet.specs.Lowest.{lowest}
 use Rattle.packet.specs.Refusals.{refused_at, at_zero, first_refused}
 use Rattle.packet.specs.Sizes.{fields_stage}
@@ -23,9 +23,12 @@ table cells sizes = record { cells = cells; sizes = sizes }
 abbrev pub tables : List ℕ → List ℕ → List ℕ → List ℕ → List Table
 tables leftNames leftSizes rightNames rightSizes = table leftNames leftSizes ∷ table rightNames rightSizes ∷ []
 
--- the same of the references that an `ensures` names
-abbrev pub tables_at_entry : (leftNames leftSizes rightNames rightSizes : Both (Bor (List ℕ)) (Bor (List ℕ))) → List Table
-tables_at_entry leftNames leftSizes rightNames rightSizes = tables leftNames.entry.now leftSizes.entry.now rightNames.entry.now rightSizes.entry.now
+-- those that are lent
+abbrev pub lent_table : FieldTable → Table
+lent_table t = table t.names.now t.sizes.now
+
+abbrev pub lent_tables : Tables → List Table
+lent_tables t = lent_table t.left ∷ lent_table t.right ∷ []
 
 pub record Field : Type 0 where
   pub name : List ℕ
@@ -84,13 +87,13 @@ mismatched t = not (eqb (length t.cells) (length t.sizes * 16))
 
 -- cause 20: table by table, the first of them with this side
 unfoldable pub names_stage : ℕ → List Table → Tested
-names_stage side [] = Passed
+names_stage side [] = Ok tt
 names_stage side (t ∷ ts) = first_refused (refused_at 20 side (lowest (bad_name (names_in t.cells)) (length t.sizes)) ∷ names_stage (suc side) ts ∷ [])
 
 -- another size than this one, if there is one
 unfoldable pub another : ℕ → List ℕ → Option ℕ → Bool
-another size sizes none = false
-another size sizes (some j) = not (eqb (get_or sizes j 0) size)
+another size sizes None = false
+another size sizes (Some j) = not (eqb (get_or sizes j 0) size)
 
 -- name i of the table has another size in the other one
 unfoldable pub other_size : Table → ℕ → Table → Bool
@@ -98,7 +101,7 @@ other_size t i other = another (get_or t.sizes i 0) other.sizes (field_named (na
 
 -- cause 21: a name of a table has another size in a later one
 unfoldable pub sizes_stage : ℕ → List Table → Tested
-sizes_stage side [] = Passed
+sizes_stage side [] = Ok tt
 sizes_stage side (t ∷ ts) = first_refused (refused_at 21 side (lowest (λ i. any_table (other_size t i) ts) (length t.sizes)) ∷ sizes_stage (suc side) ts ∷ [])
 
 -- cause 1: a table is empty

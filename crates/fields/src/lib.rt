@@ -3,247 +3,158 @@
 
 pub mod names;
 
-ghost use Rattle.std.specs.Prelude.{◌≡◌, false, not, ◌||◌, [], ◌∷◌, ◌≤◌, ◌*◌, ◌+◌, eqb, length};
+ghost use Rattle.std.specs.Prelude.{◌≡◌, ◌≤◌, ◌*◌, ◌+◌, length, [], ◌∷◌};
 ghost use Rattle.std.proofs.Math.Seq.{paste};
-ghost use Rattle.packet.specs.Lowest.{lowest, option_of};
-ghost use Rattle.packet.specs.Refusals.{refusal, refused_at, at_zero};
-ghost use Rattle.packet.specs.declared.Tested.TheVariants.{Refused};
-ghost use Rattle.fields.specs.Names.{field_named, names_in, cell_name};
-ghost use Rattle.fields.specs.Tables.{table, tables_at_entry, any_table, another, other_size};
-ghost use Rattle.fields.specs.Inner.{kept_cell, kept_names, FieldPut, FieldAdded, TableAdded, names_and_sizes, Joined, JointOf};
+ghost use Rattle.packet.specs.Lowest.{lowest};
+ghost use Rattle.packet.specs.Refusals.{refused_at, at_zero};
+ghost use Rattle.fields.specs.Names.{field_named, names_in};
+ghost use Rattle.fields.specs.Tables.{lent_table, lent_tables, mismatched, is_empty, any_table, another, other_size};
+ghost use Rattle.fields.specs.Inner.{Matched, kept_cell, kept_names, Put, Added, AllAdded, names_and_sizes, Joined, JointOf};
 
-use packet::{Place, Refusal, Tested};
+use packet::{Refusal, Tested, unsided};
 
-// What the causes of the tables say, beside the joint fields, which count where they pass: their number, their names in cells, their sizes.
-#[derive(Drop)]
-pub struct Joint {
-    pub tested: Tested,
+// A table as it is lent: the cells of its names, and a size for each.
+#[derive(Clone, Copy)]
+pub struct FieldTable<'a> {
+    pub names: &'a [u8],
+    pub sizes: &'a [u16],
+}
+
+// The left and the right table of a call.
+#[derive(Clone, Copy)]
+pub struct Tables<'a> {
+    pub left: FieldTable<'a>,
+    pub right: FieldTable<'a>,
+}
+
+// Joint fields: their number, their names in cells, their sizes.
+#[derive(Clone, Copy)]
+pub struct JointFields {
     pub count: usize,
     pub names: [u8; 128],
     pub sizes: [u16; 8],
 }
 
-// Whether cells of so many bytes are not 16 for each size.
-fn is_mismatched(cells: usize, sizes: usize) -> bool
-    ensures { result ≡ not (eqb cells (sizes * 16)) }
+// Cause 4 of a table: whether its cells are not 16 bytes for each size.
+fn is_mismatched(table: FieldTable) -> bool
+    ensures { result ≡ mismatched (lent_table table.entry) }
 {
-    if cells % 16 != 0 {
-        return true;
-    }
-    if cells / 16 != sizes {
-        return true;
-    }
-    false
+    table.names.len() % 16 != 0 || table.names.len() / 16 != table.sizes.len()
 }
 
 // Whether a table gives the name another size.
-fn has_other(w: &[u8], size: u16, cells: &[u8], sizes: &[u16]) -> bool
-    requires { length cells.now ≡ length sizes.now * 16 }
-    ensures { result ≡ another size sizes.now (field_named (names_in cells.now) w.now) }
+fn has_other(table: FieldTable, w: &[u8], size: u16) -> bool
+    requires { Matched (lent_table table) }
+    ensures { result ≡ another size table.entry.sizes.now (field_named (names_in table.entry.names.now) w.now) }
 {
-    match names::find(cells, w) {
-        Place::At(j) => {
-            let other = sizes[j as usize];
-            if other == size {
-                return false;
-            }
-            true
-        }
-        Place::Nowhere => false,
+    match names::find(table.names, w) {
+        Some(j) => table.sizes[j] != size,
+        None => false,
     }
-}
-
-// Whether a table gives the name in a cell another size.
-fn cell_has_other(cell: &[u8], size: u16, cells: &[u8], sizes: &[u16]) -> bool
-    requires { (16 ≡ length cell.now) × (length cells.now ≡ length sizes.now * 16) }
-    ensures { result ≡ another size sizes.now (field_named (names_in cells.now) (cell_name cell.now)) }
-{
-    let end = names::name_end(cell[0]);
-    has_other(&cell[1..end], size, cells, sizes)
 }
 
 // The first name of a table that has another size in the other one.
-fn two_sizes(names: &[u8], sizes: &[u16], other_names: &[u8], other_sizes: &[u16]) -> Place
-    requires { (length names.now ≡ length sizes.now * 16) × (length other_names.now ≡ length other_sizes.now * 16) }
-    ensures { option_of result ≡ lowest (λ i. any_table (other_size (table names.now sizes.now) i) (table other_names.now other_sizes.now ∷ [])) (length sizes.now) }
+fn two_sizes(table: FieldTable, other: FieldTable) -> Option<usize>
+    requires { Matched (lent_table table) × Matched (lent_table other) }
+    ensures { result ≡ lowest (λ i. any_table (other_size (lent_table table.entry) i) (lent_table other.entry ∷ [])) (length table.entry.sizes.now) }
 {
-    let mut i = 0;
-    while i < sizes.len() {
+    for (i, size) in table.sizes.iter().enumerate() {
         let at = i * 16;
-        let end = at + 16;
-        if cell_has_other(&names[at..end], sizes[i], other_names, other_sizes) {
-            return Place::At(i as u64);
+        if has_other(other, names::name_in(&table.names[at..at + 16]), *size) {
+            return Some(i);
         }
-        i += 1;
     }
-    Place::Nowhere
+    None
 }
 
 // Cause 1 of the tables: one without names.
-fn empty(left: usize, right: usize) -> Tested
-    ensures { result ≡ refused_at 1 0 (at_zero (eqb left 0 || (eqb right 0 || false))) }
+fn some_empty(tables: Tables) -> Tested
+    ensures { result ≡ refused_at 1 0 (at_zero (any_table is_empty (lent_tables tables.entry))) }
 {
-    if left == 0 {
-        return refuse(1);
+    if tables.left.sizes.is_empty() || tables.right.sizes.is_empty() {
+        return Err(unsided(1, 0));
     }
-    if right == 0 {
-        return refuse(1);
-    }
-    Tested::Passed
-}
-
-// A cause without side and place.
-fn refuse(number: u8) -> Tested
-    ensures { result ≡ Refused (refusal number 0 0) }
-{
-    Tested::Refused(Refusal {
-        number,
-        side: 0,
-        place: 0,
-    })
+    Ok(())
 }
 
 // Causes 20 and 21, and 1 of the tables.
-fn names_and_sizes(
-    left_names: &[u8],
-    left_sizes: &[u16],
-    right_names: &[u8],
-    right_sizes: &[u16],
-) -> Tested
-    requires { (length left_names.now ≡ length left_sizes.now * 16) × (length right_names.now ≡ length right_sizes.now * 16) }
-    ensures { result ≡ names_and_sizes (tables_at_entry left_names left_sizes right_names right_sizes) }
+fn names_and_sizes(tables: Tables) -> Tested
+    requires { Matched (lent_table tables.left) × Matched (lent_table tables.right) }
+    ensures { result ≡ names_and_sizes (lent_tables tables.entry) }
 {
-    let left = packet::refused_at(20, 1, names::first_bad(left_names));
-    if let Tested::Refused(r) = left {
-        return Tested::Refused(r);
-    }
-    let right = packet::refused_at(20, 2, names::first_bad(right_names));
-    if let Tested::Refused(r) = right {
-        return Tested::Refused(r);
-    }
-    let sizes = packet::refused_at(
-        21,
-        1,
-        two_sizes(left_names, left_sizes, right_names, right_sizes),
-    );
-    packet::first_of(sizes, empty(left_sizes.len(), right_sizes.len()))
+    packet::refused_at(20, 1, names::first_bad(tables.left.names))?;
+    packet::refused_at(20, 2, names::first_bad(tables.right.names))?;
+    packet::refused_at(21, 1, two_sizes(tables.left, tables.right))?;
+    some_empty(tables)
 }
 
-// The cell is copied to where another one lies.
-fn copy_cell(cell: &[u8], cells: &mut [u8], at: usize)
-    requires { (16 ≡ length cell.now) × (at + 16 ≤ length cells.old) }
-    ensures { cells.new ≡ paste cells.old at cell.now 16 }
-{
-    let mut i = 0;
-    while i < 16 {
-        cells[at + i] = cell[i];
-        i += 1;
+impl JointFields {
+    // A field whose name is new; 9 stands for all numbers over eight.
+    fn put(&mut self, cell: &[u8], size: u16)
+        requires { (16 ≡ length cell.now) × (self.old.count ≤ 8) }
+        ensures { Put cell.now size self.old self.new }
+    {
+        if self.count == 8 {
+            self.count = 9;
+            return;
+        }
+        let at = self.count * 16;
+        self.names[at..at + 16].copy_from_slice(cell);
+        self.sizes[self.count] = size;
+        self.count += 1;
     }
-}
 
-// A field whose name is new, after so many; 9 stands for all numbers over eight.
-fn put(cell: &[u8], size: u16, count: usize, names: &mut [u8], sizes: &mut [u16]) -> usize
-    requires { (16 ≡ length cell.now) × (count ≤ 8) × (128 ≡ length names.old) × (8 ≡ length sizes.old) }
-    ensures { FieldPut cell.now size count names.old sizes.old result names.new sizes.new }
-{
-    if count == 8 {
-        return 9;
+    // A further field, unless its name is there.
+    fn add(&mut self, cell: &[u8], size: u16)
+        requires { (16 ≡ length cell.now) × (self.old.count ≤ 9) }
+        ensures { Added cell.now size self.old self.new }
+    {
+        if 8 < self.count || names::is_named(&self.names[..self.count * 16], names::name_in(cell)) {
+            return;
+        }
+        self.put(cell, size);
     }
-    copy_cell(cell, names, count * 16);
-    sizes[count] = size;
-    count + 1
-}
 
-// A further field, unless its name is there.
-fn add(cell: &[u8], size: u16, count: usize, names: &mut [u8], sizes: &mut [u16]) -> usize
-    requires { (16 ≡ length cell.now) × (count ≤ 9) × (128 ≡ length names.old) × (8 ≡ length sizes.old) }
-    ensures { FieldAdded cell.now size count names.old sizes.old result names.new sizes.new }
-{
-    if 8 < count {
-        return count;
+    // The fields of a table.
+    fn add_table(&mut self, table: FieldTable)
+        requires { Matched (lent_table table) × (self.old.count ≤ 9) }
+        ensures { AllAdded (lent_table table.entry) self.old self.new }
+    {
+        for (i, size) in table.sizes.iter().enumerate() {
+            let at = i * 16;
+            self.add(&table.names[at..at + 16], *size);
+        }
     }
-    let at = count * 16;
-    let end = names::name_end(cell[0]);
-    if names::is_named(&names[..at], &cell[1..end]) {
-        return count;
-    }
-    put(cell, size, count, names, sizes)
-}
-
-// The fields of a table, after so many.
-fn add_table(
-    cells: &[u8],
-    table_sizes: &[u16],
-    before: usize,
-    names: &mut [u8],
-    sizes: &mut [u16],
-) -> usize
-    requires { (length cells.now ≡ length table_sizes.now * 16) × (before ≤ 9) × (128 ≡ length names.old) × (8 ≡ length sizes.old) }
-    ensures { TableAdded (table cells.now table_sizes.now) before names.old sizes.old result names.new sizes.new }
-{
-    let mut count = before;
-    let mut i = 0;
-    while i < table_sizes.len() {
-        let at = i * 16;
-        let end = at + 16;
-        count = add(&cells[at..end], table_sizes[i], count, names, sizes);
-        i += 1;
-    }
-    count
 }
 
 // The joint fields of tables that pass up to there, and causes 1 and 2 of them.
-fn joined(left_names: &[u8], left_sizes: &[u16], right_names: &[u8], right_sizes: &[u16]) -> Joint
-    requires { (length left_names.now ≡ length left_sizes.now * 16) × (length right_names.now ≡ length right_sizes.now * 16) }
-    ensures { Joined (tables_at_entry left_names left_sizes right_names right_sizes) result }
+fn joined(tables: Tables) -> Result<JointFields, Refusal>
+    requires { Matched (lent_table tables.left) × Matched (lent_table tables.right) }
+    ensures { Joined (lent_tables tables.entry) result }
 {
-    let mut names = [0u8; 128];
-    let mut sizes = [0u16; 8];
-    let left = add_table(left_names, left_sizes, 0, &mut names, &mut sizes);
-    let count = add_table(right_names, right_sizes, left, &mut names, &mut sizes);
-    if 8 < count {
-        return Joint {
-            tested: refuse(1),
-            count: 0,
-            names,
-            sizes,
-        };
-    }
-    let tested = packet::fields_stage(&sizes[..count]);
-    Joint {
-        tested,
-        count,
-        names,
-        sizes,
-    }
-}
-
-// No joint fields: the tables are refused.
-fn refused(tested: Tested) -> Joint
-    ensures { (result.tested ≡ tested) × (result.count ≡ 0) × (128 ≡ length result.names) × (8 ≡ length result.sizes) }
-{
-    Joint {
-        tested,
+    let mut joint = JointFields {
         count: 0,
-        names: [0u8; 128],
-        sizes: [0u16; 8],
+        names: [0; 128],
+        sizes: [0; 8],
+    };
+    joint.add_table(tables.left);
+    joint.add_table(tables.right);
+    if 8 < joint.count {
+        return Err(unsided(1, 0));
     }
+    packet::fields_stage(&joint.sizes[..joint.count])?;
+    Ok(joint)
 }
 
 // Inner: the causes of a left and a right table, and their joint fields.
-pub fn join(left_names: &[u8], left_sizes: &[u16], right_names: &[u8], right_sizes: &[u16]) -> Joint
-    ensures { JointOf (tables_at_entry left_names left_sizes right_names right_sizes) result }
+pub fn join(tables: Tables) -> Result<JointFields, Refusal>
+    ensures { JointOf (lent_tables tables.entry) result }
 {
-    if is_mismatched(left_names.len(), left_sizes.len()) {
-        return refused(refuse(4));
+    if is_mismatched(tables.left) || is_mismatched(tables.right) {
+        return Err(unsided(4, 0));
     }
-    if is_mismatched(right_names.len(), right_sizes.len()) {
-        return refused(refuse(4));
-    }
-    match names_and_sizes(left_names, left_sizes, right_names, right_sizes) {
-        Tested::Refused(r) => refused(Tested::Refused(r)),
-        Tested::Passed => joined(left_names, left_sizes, right_names, right_sizes),
-    }
+    names_and_sizes(tables)?;
+    joined(tables)
 }
 
 // Empties the cell at a place if the table lacks its name.
@@ -251,21 +162,16 @@ fn keep_if_named(cells: &mut [u8], at: usize, table: &[u8])
     requires { at + 16 ≤ length cells.old }
     ensures { cells.new ≡ kept_cell (names_in table.now) cells.old at }
 {
-    let end = names::name_end(cells[at]);
-    if names::is_named(table, &cells[at + 1..at + end]) {
-        return;
+    if !names::is_named(table, names::name_in(&cells[at..at + 16])) {
+        cells[at] = 0;
     }
-    cells[at] = 0;
 }
 
 // Inner: empties the cells whose names the table lacks.
 pub fn keep_named(cells: &mut [u8], table: &[u8])
     ensures { names_in cells.new ≡ kept_names (names_in table.now) (names_in cells.old) }
 {
-    let count = cells.len() / 16;
-    let mut f = 0;
-    while f < count {
+    for f in 0..cells.len() / 16 {
         keep_if_named(cells, f * 16, table);
-        f += 1;
     }
 }

@@ -3,12 +3,11 @@
 use Prim.Native.Nat.{ℕ, pred, ◌≤◌, min}
 use native.Mathlib.Omega.{arith}
 use mathlib.Core.List.{List, [], ◌∷◌}
-use mathlib.Core.Option.{Option, none}
+use Rattle.std.specs.Prelude.{Option, None, Ok, Err}
 use mathlib.Core.Path.{◌≡◌, refl, sym, ◌∙◌, ap, ap₂}
 use Rattle.packet.specs.Lowest.{lowest}
 use Rattle.packet.specs.Refusals.{refused_at, at_place, at_zero, first_refused}
-use Rattle.packet.specs.declared.Tested.{Tested}
-use Rattle.packet.specs.declared.Tested.TheVariants.{Passed, Refused as Failed}
+use Rattle.packet.specs.Refusals.{Tested}
 use Rattle.packet.proofs.Lowest.{none_lowest}
 use Rattle.policy.specs.Tree.{Policy, sum, seq, star, neg}
 use Rattle.policy.specs.Meaning.{Packets, Traces}
@@ -18,8 +17,10 @@ use Rattle.policy.specs.Legality.{bad_lengths, bad_kind, bad_entries, bad_child,
 use Rattle.policy.specs.Order.{sided, cause, causes, policies_stage}
 use Rattle.policy.proofs.Congruence.{traces_unlabelled}
 use Rattle.policy.proofs.Nodes.{nodes_count, nodes_read_back, nodes_lengths, nodes_kinds, nodes_below, nodes_once}
-use Rattle.grammar.specs.declared.Answer.TheVariants.{Nodes}
-use Rattle.grammar.specs.Tokens.{Token, Constant, Comparison, dropped, passed, recorded}
+use Rattle.grammar.specs.declared.Token.{Token}
+use Rattle.grammar.specs.declared.Constant.{Constant}
+use Rattle.grammar.specs.declared.Constant.TheVariants.{Drop, Id, Dup}
+use Rattle.grammar.specs.declared.Comparison.{Comparison}
 use Rattle.grammar.specs.Grammar.{constant_policy, field_action, Item, Starred, Sequence, Sum, word, action, parentheses, negation, item, starred, single, sequenced, alone, summed}
 use Rattle.grammar.specs.Answer.{text_tree, answer_to}
 use Rattle.grammar.proofs.AnswerLaws.{few_enough, count_parts}
@@ -28,9 +29,9 @@ use Rattle.grammar.proofs.GrammarLaws.{read_derives, tree_read_lem}
 -- the tree of a text has no numbers at its dups
 constant_unlabelled : (c : Constant) → unlabelled (constant_policy c) ≡ constant_policy c
 unfolding unlabelled constant_policy
-constant_unlabelled dropped = refl
-constant_unlabelled passed = refl
-constant_unlabelled recorded = refl
+constant_unlabelled Drop = refl
+constant_unlabelled Id = refl
+constant_unlabelled Dup = refl
 
 record Bare (p : Policy) : Type 0 where
   same : unlabelled p ≡ p
@@ -84,16 +85,16 @@ mutual
 pub derived_unlabelled : {ts : List Token} {p : Policy} → Sum ts p → unlabelled p ≡ p
 derived_unlabelled d = (sum_bare d).same
 
-passes : (number side : ℕ) (L : NodeLists) (place : NodeLists → Option ℕ) → place L ≡ none → cause number place (sided side L ∷ []) ≡ Passed
+passes : (number side : ℕ) (L : NodeLists) (place : NodeLists → Option ℕ) → place L ≡ None → cause number place (sided side L ∷ []) ≡ Ok tt
 unfolding cause first_refused refused_at
 passes number side L place e = rw e
 
-four_pass : (a b c d f g h : Tested) → a ≡ Passed → b ≡ Passed → d ≡ Passed → f ≡ Passed → first_refused (a ∷ b ∷ c ∷ d ∷ f ∷ g ∷ h ∷ []) ≡ first_refused (c ∷ g ∷ h ∷ [])
+four_pass : (a b c d f g h : Tested) → a ≡ Ok tt → b ≡ Ok tt → d ≡ Ok tt → f ≡ Ok tt → first_refused (a ∷ b ∷ c ∷ d ∷ f ∷ g ∷ h ∷ []) ≡ first_refused (c ∷ g ∷ h ∷ [])
 unfolding first_refused
-four_pass a b Passed d f g h p q r s = rw (p, q, r, s)
-four_pass a b (Failed x) d f g h p q r s = rw (p, q)
+four_pass a b (Ok _) d f g h p q r s = rw (p, q, r, s)
+four_pass a b (Err x) d f g h p q r s = rw (p, q)
 
-module _ (names : List (List ℕ)) (text : List ℕ) (room n : ℕ) (e : answer_to names text room ≡ Nodes n) where
+module _ (names : List (List ℕ)) (text : List ℕ) (room n : ℕ) (e : answer_to names text room ≡ Ok n) where
   few : tree_size (text_tree names text) ≤ 512
   few = let h : tree_size (text_tree names text) ≤ min 512 room = few_enough room (tree_size (text_tree names text)) (count_parts names text room n (sym e)).2 in omega arith
 

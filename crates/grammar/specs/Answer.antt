@@ -1,50 +1,45 @@
 -- What the reader answers and leaves in the lent lists: the causes of the tables (document 02, A.4), then 14 to 17 of document 01, each over the
 -- whole text before the next.
-use Rattle.std.specs.Prelude.{ℕ, suc, pred, min, true, false, cond, List, [], ◌∷◌, ◌≡◌, ltb, length}
-use Rattle.std.proofs.Math.Option.{Option, none, some}
+use Rattle.std.specs.Prelude.{Option, None, Some, Result, Ok, Err, ℕ, suc, pred, min, true, false, cond, List, [], ◌∷◌, ◌≡◌, ltb, length}
 use Rattle.packet.specs.Refusals.{refused_at, first_refused}
 use Rattle.packet.specs.Written.{written}
-use Rattle.packet.specs.declared.Tested.{Tested}
-use Rattle.packet.specs.declared.Tested.TheVariants.{Passed, Refused as Failed}
+use Rattle.packet.specs.declared.Refusal.{Refusal}
+use Rattle.packet.specs.Refusals.{Tested}
 use Rattle.fields.specs.Tables.{Table, names_for, table_on, tables_stage}
 use Rattle.policy.specs.Order.{in_order}
 use Rattle.policy.specs.Tree.{Policy}
 use Rattle.policy.specs.Tree
 use Rattle.policy.specs.NodesOfTree.{tree_size, nodes_of}
-use Rattle.grammar.specs.declared.Answer.{Answer}
-use Rattle.grammar.specs.declared.Answer.TheVariants.{Nodes, Refused}
-use Rattle.grammar.specs.Tokens.{Token, Placed, constant, field, number, comparison, plus, semicolon, asterisk, opening, closing, exclamation, bad, is_bad, tokens}
+use Rattle.grammar.specs.declared.Token.{Token}
+use Rattle.grammar.specs.declared.Token.TheVariants.{Opening, Closing}
+use Rattle.grammar.specs.Tokens.{Placed, is_bad, tokens}
 use Rattle.grammar.specs.Reading.{Outcome, tree, stop, start, read_on}
+
+-- what reading a text says: the number of its nodes, or a refusal
+abbrev pub Answer : Type 0
+Answer = Result ℕ Refusal
 
 -- cause 14: the first token that is bad
 unfoldable pub bad_place : List Placed → Option ℕ
-bad_place [] = none
-bad_place (t ∷ ts) = elim (is_bad t.token) [ true ↦ some t.start | false ↦ bad_place ts ]
+bad_place [] = None
+bad_place (t ∷ ts) = elim (is_bad t.token) [ true ↦ Some t.start | false ↦ bad_place ts ]
 
 -- how many parentheses are open after a token; never below 0
 unfoldable pub open_after : ℕ → Token → ℕ
-open_after n opening = suc n
-open_after n closing = pred n
-open_after n (constant c) = n
-open_after n (field f) = n
-open_after n (number v) = n
-open_after n (comparison c) = n
-open_after n plus = n
-open_after n semicolon = n
-open_after n asterisk = n
-open_after n exclamation = n
-open_after n bad = n
+open_after n Opening = suc n
+open_after n Closing = pred n
+open_after n _ = n
 
 -- cause 15: the first token with which over 64 parentheses are open, n of them before the first of these tokens
 unfoldable pub deep_place : ℕ → List Placed → Option ℕ
-deep_place n [] = none
+deep_place n [] = None
 deep_place n (t ∷ ts) =
-    elim (ltb 64 (open_after n t.token)) [ true ↦ some t.start | false ↦ deep_place (open_after n t.token) ts ]
+    elim (ltb 64 (open_after n t.token)) [ true ↦ Some t.start | false ↦ deep_place (open_after n t.token) ts ]
 
 -- cause 16: the token or end that no legal text continues with
 unfoldable pub stop_place : Outcome → Option ℕ
-stop_place (tree p) = none
-stop_place (stop place) = some place
+stop_place (tree p) = None
+stop_place (stop place) = Some place
 
 -- the tree that was read
 unfoldable pub tree_read : Outcome → Policy
@@ -53,11 +48,11 @@ tree_read (stop place) = Tree.drop
 
 -- cause 17: over 512 nodes, or more than the shortest lent list
 unfoldable pub too_many : ℕ → ℕ → Option ℕ
-too_many room n = cond (ltb (min 512 room) n) (some n) none
+too_many room n = cond (ltb (min 512 room) n) (Some n) None
 
 unfoldable pub answer_after : Tested → ℕ → Answer
-answer_after Passed n = Nodes n
-answer_after (Failed r) n = Refused r
+answer_after (Ok _) n = Ok n
+answer_after (Err r) n = Err r
 
 module _ (names : List (List ℕ)) (text : List ℕ) where
   -- the reading of the whole text
@@ -84,8 +79,8 @@ module _ (names : List (List ℕ)) (text : List ℕ) where
 
 -- a lent list after an answer: the nodes' entries on a count, as found on a refusal
 unfoldable pub left_by : Answer → List ℕ → List ℕ → List ℕ
-left_by (Nodes n) entries old = written entries old
-left_by (Refused r) entries old = old
+left_by (Ok n) entries old = written entries old
+left_by (Err r) entries old = old
 
 -- the length of the shortest lent list
 unfoldable pub shortest : List ℕ → List ℕ → List ℕ → ℕ
@@ -109,11 +104,11 @@ module _ (left right : Table) (side : ℕ) where
       in_order
       record {
         fields = tables_stage (left ∷ right ∷ []);
-        product = Passed;
+        product = Ok tt;
         texts = tested text_names text room;
-        policies = Passed;
-        lists = Passed;
-        packets = Passed;
+        policies = Ok tt;
+        lists = Ok tt;
+        packets = Ok tt;
       }
 
   unfoldable pub read_answer : List ℕ → ℕ → Answer

@@ -1,9 +1,11 @@
 -- Reading tokens from left to right: a function that finds the tree, or the first token (or the end) that no legal text continues with.
-use Rattle.std.specs.Prelude.{ℕ, zero, suc, List, [], ◌∷◌}
-use Rattle.std.proofs.Math.Option.{Option, none, some}
+use Rattle.std.specs.Prelude.{ℕ, zero, suc, List, [], ◌∷◌, Option, None, Some}
 use Rattle.policy.specs.Tree.{Policy, sum, seq, star, neg}
 use Rattle.policy.specs.Tree
-use Rattle.grammar.specs.Tokens.{Token, Placed, Comparison, constant, field, number, comparison, plus, semicolon, asterisk, opening, closing, exclamation, bad}
+use Rattle.grammar.specs.declared.Token.{Token}
+use Rattle.grammar.specs.declared.Token.TheVariants.{Keyword, Field, Number, Operator, Plus, Semicolon, Asterisk, Opening, Closing, Exclamation}
+use Rattle.grammar.specs.declared.Comparison.{Comparison}
+use Rattle.grammar.specs.Tokens.{Placed}
 use Rattle.grammar.specs.Grammar.{constant_policy, field_action}
 
 -- what stands before the present item inside the same parentheses: sequences joined by +, then starred items joined by ;, then so many !
@@ -14,15 +16,15 @@ pub record Before : Type 0 where
 
 -- nothing stands before
 unfoldable pub nothing : Before
-nothing = record { summed = none; sequenced = none; negations = 0 }
+nothing = record { summed = None; sequenced = None; negations = 0 }
 
 unfoldable pub join_sequence : Option Policy → Policy → Policy
-join_sequence none p = p
-join_sequence (some q) p = seq q p
+join_sequence None p = p
+join_sequence (Some q) p = seq q p
 
 unfoldable pub join_sum : Option Policy → Policy → Policy
-join_sum none p = p
-join_sum (some q) p = sum q p
+join_sum None p = p
+join_sum (Some q) p = sum q p
 
 -- the sequence up to the present item, and the sum up to it: both join to the left
 unfoldable pub up_to : Before → Policy → Policy
@@ -56,55 +58,25 @@ item_read b cs p = has (record { summed = b.summed; sequenced = b.sequenced; neg
 
 -- a ) after the item p
 unfoldable pub close : Before → List Before → Policy → Option State
-close b [] p = none
-close b (c ∷ cs) p = some (item_read c cs (whole b p))
+close b [] p = None
+close b (c ∷ cs) p = Some (item_read c cs (whole b p))
 
 -- the state after one more token, if a legal text can have it there
 unfoldable pub step : State → Token → Option State
-step (wants b cs) (constant c) = some (item_read b cs (constant_policy c))
-step (wants b cs) (field f) = some (named b cs f)
-step (wants b cs) opening = some (wants nothing (b ∷ cs))
-step (wants b cs) exclamation = some (wants (negating b) cs)
-step (wants b cs) (number n) = none
-step (wants b cs) (comparison c) = none
-step (wants b cs) plus = none
-step (wants b cs) semicolon = none
-step (wants b cs) asterisk = none
-step (wants b cs) closing = none
-step (wants b cs) bad = none
-step (named b cs f) (comparison c) = some (compared b cs f c)
-step (named b cs f) (constant c) = none
-step (named b cs f) (field g) = none
-step (named b cs f) (number n) = none
-step (named b cs f) plus = none
-step (named b cs f) semicolon = none
-step (named b cs f) asterisk = none
-step (named b cs f) opening = none
-step (named b cs f) closing = none
-step (named b cs f) exclamation = none
-step (named b cs f) bad = none
-step (compared b cs f c) (number v) = some (item_read b cs (Tree.field (field_action c f v)))
-step (compared b cs f c) (constant d) = none
-step (compared b cs f c) (field g) = none
-step (compared b cs f c) (comparison d) = none
-step (compared b cs f c) plus = none
-step (compared b cs f c) semicolon = none
-step (compared b cs f c) asterisk = none
-step (compared b cs f c) opening = none
-step (compared b cs f c) closing = none
-step (compared b cs f c) exclamation = none
-step (compared b cs f c) bad = none
-step (has b cs p) asterisk = some (has b cs (star p))
-step (has b cs p) semicolon = some (wants (record { summed = b.summed; sequenced = some (up_to b p); negations = 0 }) cs)
-step (has b cs p) plus = some (wants (record { summed = some (whole b p); sequenced = none; negations = 0 }) cs)
-step (has b cs p) closing = close b cs p
-step (has b cs p) (constant c) = none
-step (has b cs p) (field g) = none
-step (has b cs p) (number n) = none
-step (has b cs p) (comparison c) = none
-step (has b cs p) opening = none
-step (has b cs p) exclamation = none
-step (has b cs p) bad = none
+step (wants b cs) (Keyword c) = Some (item_read b cs (constant_policy c))
+step (wants b cs) (Field f) = Some (named b cs f)
+step (wants b cs) Opening = Some (wants nothing (b ∷ cs))
+step (wants b cs) Exclamation = Some (wants (negating b) cs)
+step (wants b cs) _ = None
+step (named b cs f) (Operator c) = Some (compared b cs f c)
+step (named b cs f) _ = None
+step (compared b cs f c) (Number v) = Some (item_read b cs (Tree.field (field_action c f v)))
+step (compared b cs f c) _ = None
+step (has b cs p) Asterisk = Some (has b cs (star p))
+step (has b cs p) Semicolon = Some (wants (record { summed = b.summed; sequenced = Some (up_to b p); negations = 0 }) cs)
+step (has b cs p) Plus = Some (wants (record { summed = Some (whole b p); sequenced = None; negations = 0 }) cs)
+step (has b cs p) Closing = close b cs p
+step (has b cs p) _ = None
 
 -- a tree, or the byte of the token (or of the end) that no legal text continues with
 pub data Outcome : Type 0 where
@@ -122,4 +94,4 @@ finish end (has b (c ∷ cs) p) = stop end
 -- reading on from a state; the text ends at the byte `end`
 unfoldable pub read_on : ℕ → State → List Placed → Outcome
 read_on end s [] = finish end s
-read_on end s (t ∷ ts) = elim (step s t.token) [ none ↦ stop t.start | some s' ↦ read_on end s' ts ]
+read_on end s (t ∷ ts) = elim (step s t.token) [ None ↦ stop t.start | Some s' ↦ read_on end s' ts ]

@@ -1,24 +1,11 @@
 -- Tokens of a text (document 01, "Text", and document 02, A.1 and A.4). The names of the fields are a parameter.
-use Rattle.std.specs.Prelude.{ℕ, zero, suc, ◌+◌, ◌-◌, ◌*◌, Bool, true, false, cond, not, ◌&&◌, ◌||◌, List, [], ◌∷◌, leb, ltb, eqb, length, get_or, drop}
-use Rattle.std.proofs.Math.Option.{Option, none, some}
+use Rattle.std.specs.Prelude.{ℕ, zero, suc, ◌+◌, ◌-◌, ◌*◌, Bool, true, false, cond, not, ◌&&◌, ◌||◌, List, [], ◌∷◌, leb, ltb, eqb, length, get_or, drop, Option, None, Some}
 use Rattle.fields.specs.Bytes.{is_blank, is_digit, in_word}
 use Rattle.fields.specs.Names.{same_word, field_named, word_drop, word_id, word_dup}
-
--- drop, id and dup
-pub data Constant : Type 0 where
-  dropped passed recorded : Constant
-
--- `=`, `!=` and `<-`
-pub data Comparison : Type 0 where
-  equals differs assigned : Comparison
-
--- what a text is made of; bad is a byte at which no token starts, or a word that is none of the words of a text
-pub data Token : Type 0 where
-  constant : Constant → Token
-  field : ℕ → Token
-  number : ℕ → Token
-  comparison : Comparison → Token
-  plus semicolon asterisk opening closing exclamation bad : Token
+use Rattle.grammar.specs.declared.Token.{Token}
+use Rattle.grammar.specs.declared.Token.TheVariants.{Keyword, Field, Number, Operator, Plus, Semicolon, Asterisk, Opening, Closing, Exclamation, Bad}
+use Rattle.grammar.specs.declared.Constant.TheVariants.{Drop, Id, Dup}
+use Rattle.grammar.specs.declared.Comparison.TheVariants.{Equal, Different, Assigned}
 
 unfoldable pub all_digits : List ℕ → Bool
 all_digits [] = true
@@ -38,23 +25,23 @@ is_number w = all_digits w && not (leading_zero w) && leb (decimal 0 w) 65535
 
 -- a word that is no name of a field: a number, or bad
 unfoldable pub number_token : List ℕ → Token
-number_token w = cond (is_number w) (number (decimal 0 w)) bad
+number_token w = cond (is_number w) (Number (decimal 0 w)) Bad
 
 unfoldable pub field_token : Option ℕ → List ℕ → Token
-field_token (some f) w = field f
-field_token none w = number_token w
+field_token (Some f) w = Field f
+field_token None w = number_token w
 
 -- a word: drop, id, dup, a field's name or a number
 unfoldable pub word_token : List (List ℕ) → List ℕ → Token
 word_token names w =
-    cond (same_word w word_drop) (constant dropped)
-    (cond (same_word w word_id) (constant passed) (cond (same_word w word_dup) (constant recorded) (field_token (field_named names w) w)))
+    cond (same_word w word_drop) (Keyword Drop)
+    (cond (same_word w word_id) (Keyword Id) (cond (same_word w word_dup) (Keyword Dup) (field_token (field_named names w) w)))
 
 -- marks of one byte: = + ; * ( )
 unfoldable pub single_mark : ℕ → Token
 single_mark b =
-    cond (eqb b 61) (comparison equals)
-    (cond (eqb b 43) plus (cond (eqb b 59) semicolon (cond (eqb b 42) asterisk (cond (eqb b 40) opening (cond (eqb b 41) closing bad)))))
+    cond (eqb b 61) (Operator Equal)
+    (cond (eqb b 43) Plus (cond (eqb b 59) Semicolon (cond (eqb b 42) Asterisk (cond (eqb b 40) Opening (cond (eqb b 41) Closing Bad)))))
 
 -- != and <-
 unfoldable pub is_double : ℕ → ℕ → Bool
@@ -66,7 +53,7 @@ begins_double b = eqb b 33 || eqb b 60
 -- the mark at a byte that may begin one of two bytes; a ! without = is a mark of its own
 unfoldable pub double_mark : ℕ → ℕ → Token
 double_mark b after =
-    cond (eqb b 33) (cond (eqb after 61) (comparison differs) exclamation) (cond (eqb b 60 && eqb after 45) (comparison assigned) bad)
+    cond (eqb b 33) (cond (eqb after 61) (Operator Different) Exclamation) (cond (eqb b 60 && eqb after 45) (Operator Assigned) Bad)
 
 -- the mark at a byte, which the next byte may be a part of
 unfoldable pub mark_token : ℕ → ℕ → Token
@@ -82,17 +69,8 @@ unfoldable pub front_token : List (List ℕ) → ℕ → List ℕ → Token
 front_token names b bs = cond (in_word b) (word_token names (word_of (b ∷ bs))) (mark_token b (get_or bs 0 0))
 
 unfoldable pub is_bad : Token → Bool
-is_bad (constant c) = false
-is_bad (field f) = false
-is_bad (number n) = false
-is_bad (comparison c) = false
-is_bad plus = false
-is_bad semicolon = false
-is_bad asterisk = false
-is_bad opening = false
-is_bad closing = false
-is_bad exclamation = false
-is_bad bad = true
+is_bad Bad = true
+is_bad _ = false
 
 -- how many bytes after its first the front token has
 unfoldable pub rest_of_token : ℕ → List ℕ → ℕ

@@ -1,5 +1,5 @@
 -- The ways an append ends: nothing to append, no room, the row appended.
-use mathlib.Core.Path.{◌≡◌, sym, ◌∙◌, ap, ap₂, subst}
+use mathlib.Core.Path.{◌≡◌, refl, sym, ◌∙◌, ap, ap₂, subst}
 use mathlib.Core.Bool.{Bool, true, false, ◌&&◌, ◌||◌, not}
 use mathlib.Core.List.{List, [], ◌∷◌}
 use Prim.Native.Nat.{ℕ, suc, ◌+◌, ◌≤◌, ◌<◌}
@@ -10,38 +10,40 @@ use lib.ListN.{length, get_or, set, replicate, length-set}
 use lib.Seq.{get_or-set_same, get_or-set_other}
 use borrow.Author.Tests.{eq-eqb, lt-ltb, le-ltb}
 use Rattle.index.specs.declared.Row.{Row}
-use Rattle.index.specs.declared.Lookup.{Lookup}
-use Rattle.index.specs.declared.Lookup.TheVariants.{Listed, Vacant}
-use Rattle.index.specs.declared.Vacancy.TheVariants.{At, Nowhere}
-use Rattle.index.specs.declared.Appended.{Appended}
-use Rattle.index.specs.declared.Appended.TheVariants.{Rows, Full}
+use Rattle.index.specs.declared.Columns.{Columns}
+use Rattle.index.specs.Lent.{rows_of}
+use Rattle.std.specs.Prelude.{Option, Some, None, Result, Ok, Err}
+use Rattle.std.specs.Result.{result_err}
 use Rattle.index.specs.Columns.{policy_count, EvenColumns, row_at, masks_agree, rows_agree, all_zero, listed_below}
 use Rattle.index.specs.Index.{VacantAt, LookEnds, Indexed, RoomFor, trees_with}
 use Rattle.index.specs.Appending.{is_new, NewPlaced, Lists, append_answer, rows_after, new_if, is_added, Appending}
 use Rattle.index.proofs.Growth.{indexed_more}
+use Rattle.index.proofs.Lent.{read_rows}
 
 module _ {f : ℕ → Row} {count n : ℕ} {trees : List ℕ} {r : Row} where
-  new_nowhere : is_new f n r ≡ false → NewPlaced f count n trees r Nowhere
+  new_nowhere : is_new f n r ≡ false → NewPlaced f count n trees r None
   new_nowhere e = record { at = λ slot q. let z : ◌≡◌ {A = ℕ} 0 1 = cc in absurd (omega arith); nowhere = λ q. e }
 
   module _ (dead : Bool) (isDead : dead ≡ masks_agree policy_count r.states (replicate policy_count 0)) where
-    pub new_dead : dead ≡ true → NewPlaced f count n trees r Nowhere
+    pub new_dead : dead ≡ true → NewPlaced f count n trees r None
     unfolding is_new all_zero
     new_dead e = new_nowhere (ap (λ t. not (t || listed_below f n r)) (sym isDead ∙ e))
 
-    module _ (living : dead ≡ false) {answer : Lookup} (p : LookEnds f count n trees r answer) where
-      pub new_listed : (i : ℕ) → answer ≡ Listed i → NewPlaced f count n trees r Nowhere
+    module _ (living : dead ≡ false) where
+      pub new_placed : (answer : Result ℕ ℕ) → LookEnds f count n trees r answer → NewPlaced f count n trees r (result_err answer)
       unfolding is_new all_zero
-      new_listed i e = new_nowhere (ap₂ (λ s t. not (s || t)) (sym isDead ∙ living) (p.listed i e).listed)
-
-      pub new_at : (slot : ℕ) → answer ≡ Vacant slot → NewPlaced f count n trees r (At slot)
-      unfolding is_new all_zero
-      new_at slot e =
-          let v = p.vacant slot e in
+      new_placed (Ok i) p = new_nowhere (ap₂ (λ s t. not (s || t)) (sym isDead ∙ living) (p.listed i refl).listed)
+      new_placed (Err slot) p =
+          let v = p.vacant slot refl in
           record {
             at = λ s q. let here : slot ≡ s = cc in (ap₂ (λ s t. not (s || t)) (sym isDead ∙ living) v.unlisted, subst (VacantAt f count n trees r) here v);
             nowhere = λ q. let z : ◌≡◌ {A = ℕ} 0 1 = cc in absurd (omega arith);
           }
+
+-- the columns that the row lists are read as
+pub placed_in : (columns : Columns) {P L R trees : List ℕ} {count n : ℕ} {r : Row} {answer : Option ℕ} → columns.packets.now ≡ P → columns.left.now ≡ L → columns.right.now ≡ R
+    → NewPlaced (rows_of columns) count n trees r answer → NewPlaced (row_at P L R) count n trees r answer
+placed_in columns {trees = trees} {count} {n} {r} {answer} p l q placed = subst (λ f. NewPlaced f count n trees r answer) (read_rows columns p l q) placed
 
 -- the columns with row r put at n
 module _ (P L R : List ℕ) (n : ℕ) (r : Row) where
@@ -82,7 +84,7 @@ module _ (x : Lists) (count n : ℕ) (r : Row) (parent : ℕ) (I : Indexed x.pac
   new = is_new (row_at x.packets x.left x.right) n r
 
   -- nothing is appended
-  kept : (answer : Appended) → answer ≡ append_answer new (ltb n (length x.packets)) n → is_added x n r ≡ false → Appending x x count n r parent answer
+  kept : (answer : Option ℕ) → answer ≡ append_answer new (ltb n (length x.packets)) n → is_added x n r ≡ false → Appending x x count n r parent answer
   unfolding rows_after
   kept answer a e =
       record {
@@ -95,25 +97,25 @@ module _ (x : Lists) (count n : ℕ) (r : Row) (parent : ℕ) (I : Indexed x.pac
         indexed = subst (λ b. Indexed x.packets x.left x.right count (rows_after b n) x.trees) (sym e) I;
       }
 
-  pub append_listed : new ≡ false → Appending x x count n r parent (Rows n)
+  pub append_listed : new ≡ false → Appending x x count n r parent (Some n)
   unfolding append_answer is_added
-  append_listed e = kept (Rows n) (ap (λ t. append_answer t (ltb n (length x.packets)) n) (sym e)) (ap (λ t. t && ltb n (length x.packets)) e)
+  append_listed e = kept (Some n) (ap (λ t. append_answer t (ltb n (length x.packets)) n) (sym e)) (ap (λ t. t && ltb n (length x.packets)) e)
 
-  pub append_full : new ≡ true → length x.packets ≤ n → Appending x x count n r parent Full
+  pub append_full : new ≡ true → length x.packets ≤ n → Appending x x count n r parent None
   unfolding append_answer is_added
-  append_full e l = kept Full (ap₂ (λ s t. append_answer s t n) (sym e) (sym (le-ltb n (length x.packets) l))) (ap₂ ◌&&◌ e (le-ltb n (length x.packets) l))
+  append_full e l = kept None (ap₂ (λ s t. append_answer s t n) (sym e) (sym (le-ltb n (length x.packets) l))) (ap₂ ◌&&◌ e (le-ltb n (length x.packets) l))
 
   pub append_more : new ≡ true → n < length x.packets → RoomFor x.packets n 1 x.trees → r.packet < count → (slot : ℕ) → VacantAt (row_at x.packets x.left x.right) count n x.trees r slot → (y : Lists)
       → y.packets ≡ set x.packets n r.packet → y.left ≡ set x.left n (get_or r.states 0 0) → y.right ≡ set x.right n (get_or r.states 1 0)
       → y.parents ≡ set x.parents n parent → y.trees ≡ set x.trees slot (n + 1)
-      → Appending x y count n r parent (Rows (n + 1))
+      → Appending x y count n r parent (Some (n + 1))
   unfolding append_answer is_added rows_after trees_with
   append_more e l free small slot W y isP isL isR isQ at =
       let isT : y.trees ≡ set x.trees slot (suc n) = at ∙ ap (set x.trees slot) (add-one n) in
       let room = lt-ltb n (length x.packets) l in
       let added : is_added x n r ≡ true = ap₂ ◌&&◌ e room in
       record {
-        answers = ap Rows (add-one n) ∙ ap₂ (λ s t. append_answer s t n) (sym e) (sym room);
+        answers = ap Some (add-one n) ∙ ap₂ (λ s t. append_answer s t n) (sym e) (sym room);
         packets = isP ∙ sym (new_if_true _ _ _ added);
         left = isL ∙ sym (new_if_true _ _ _ added);
         right = isR ∙ sym (new_if_true _ _ _ added);

@@ -16,8 +16,7 @@ use Rattle.system.specs.RowOrder.{Entry, entry_at, listed, append}
 use Rattle.system.proofs.Basics.{and_true, length_snoc, Place, old, last, place}
 use Rattle.system.proofs.Listing.{append_kept, append_new}
 use Rattle.index.specs.declared.Row.{Row}
-use Rattle.index.specs.declared.Appended.{Appended}
-use Rattle.index.specs.declared.Appended.TheVariants.{Rows, Full}
+use Rattle.std.specs.Prelude.{Option, Some, None}
 use Rattle.index.specs.Columns.{policy_count, row_at, masks_agree, rows_agree, all_zero, listed_below}
 use Rattle.index.specs.Index.{Indexed, trees_with}
 use Rattle.index.specs.Appending.{is_new, Lists, append_answer, rows_after, is_added, Appending}
@@ -95,12 +94,12 @@ module _ (S : System) (M : Masks S) where
       (ap₂ (λ a b. record { row = row_of S M a; parent = b } ∷ []) (rows n (le_refl _)) (parents n (le_refl _)))
 
 -- How an append ended.
-pub data Outcome (x : Lists) (n : ℕ) (r : Row) (answer : Appended) : Type 0 where
-  added : is_new (row_at x.packets x.left x.right) n r ≡ true → n < length x.packets → is_added x n r ≡ true → answer ≡ Rows (suc n) → Outcome x n r answer
-  full : is_new (row_at x.packets x.left x.right) n r ≡ true → length x.packets ≤ n → is_added x n r ≡ false → answer ≡ Full → Outcome x n r answer
-  known : is_new (row_at x.packets x.left x.right) n r ≡ false → is_added x n r ≡ false → answer ≡ Rows n → Outcome x n r answer
+pub data Outcome (x : Lists) (n : ℕ) (r : Row) (answer : Option ℕ) : Type 0 where
+  added : is_new (row_at x.packets x.left x.right) n r ≡ true → n < length x.packets → is_added x n r ≡ true → answer ≡ Some (suc n) → Outcome x n r answer
+  full : is_new (row_at x.packets x.left x.right) n r ≡ true → length x.packets ≤ n → is_added x n r ≡ false → answer ≡ None → Outcome x n r answer
+  known : is_new (row_at x.packets x.left x.right) n r ≡ false → is_added x n r ≡ false → answer ≡ Some n → Outcome x n r answer
 
-pub outcome : {x y : Lists} {count n : ℕ} {r : Row} {parent : ℕ} {answer : Appended} → Appending x y count n r parent answer → Outcome x n r answer
+pub outcome : {x y : Lists} {count n : ℕ} {r : Row} {parent : ℕ} {answer : Option ℕ} → Appending x y count n r parent answer → Outcome x n r answer
 unfolding is_added append_answer
 outcome {x} {n = n} {r = r} {answer = answer} A = go (is_new (row_at x.packets x.left x.right) n r) (ltb n (length x.packets)) refl refl
   where
@@ -121,7 +120,7 @@ grown x count n r parent =
       trees = trees_with (row_at x.packets x.left x.right) count r n x.trees;
     }
 
-module _ {x y : Lists} {count n : ℕ} {r : Row} {parent : ℕ} {answer : Appended} (A : Appending x y count n r parent answer) where
+module _ {x y : Lists} {count n : ℕ} {r : Row} {parent : ℕ} {answer : Option ℕ} (A : Appending x y count n r parent answer) where
   pub grows : is_added x n r ≡ true → y ≡ grown x count n r parent
   unfolding grown
   grows e = λ k.
@@ -143,11 +142,11 @@ module _ {x y : Lists} {count n : ℕ} {r : Row} {parent : ℕ} {answer : Append
         trees = (A.trees ∙ new_if_false _ _ _ e) k;
       }
 
-  full_is_no_count : {B : Type 0} (m : ℕ) → answer ≡ Full → answer ≡ Rows m → B
+  full_is_no_count : {B : Type 0} (m : ℕ) → answer ≡ None → answer ≡ Some m → B
   full_is_no_count m e a = let z : ◌≡◌ {A = ℕ} 0 1 = cc in absurd (omega arith)
 
-  -- the index after the answer `Rows m`
-  pub appended_indexed : (m : ℕ) → answer ≡ Rows m → Indexed y.packets y.left y.right count m y.trees
+  -- the index after the answer `Some m`
+  pub appended_indexed : (m : ℕ) → answer ≡ Some m → Indexed y.packets y.left y.right count m y.trees
   unfolding rows_after
   appended_indexed m e = go (outcome A)
     where
@@ -180,14 +179,14 @@ module _ (S : System) (M : Masks S) where
   abbrev pub entries_in : Lists → ℕ → List (Entry S)
   entries_in x n = entries S M x.packets x.left x.right x.parents n
 
-  -- what the answer `Rows m` means: the entries are those of the system's append
+  -- what the answer `Some m` means: the entries are those of the system's append
   pub record Grew (x y : Lists) (count n m : ℕ) (r : Row) (parent : ℕ) : Type 0 where
     pub entries : entries_in y m ≡ append S parent (entries_in x n) (row_of S M r)
     pub indexed : Indexed y.packets y.left y.right count m y.trees
     pub more : n ≤ m
     pub beyond : Beyond x y m
 
-  -- what the answer `Full` means: a row must be appended to columns that are full
+  -- what the answer `None` means: a row must be appended to columns that are full
   pub record Stuck (x y : Lists) (n : ℕ) (r : Row) (parent : ℕ) : Type 0 where
     pub room : n ≡ length x.packets
     pub same : y ≡ x
@@ -203,7 +202,7 @@ module _ (S : System) (M : Masks S) (lawful : Lawful S) where
       let states : M.state a.states ≡ M.state b.states = lawful.same_eq _ _ (M.same_states_lem a.states b.states ∙ both.1) in
       λ k. record { packet = packets k; state = states k }
 
-  module _ {x y : Lists} {count n : ℕ} {r : Row} {parent : ℕ} {answer : Appended} (A : Appending x y count n r parent answer)
+  module _ {x y : Lists} {count n : ℕ} {r : Row} {parent : ℕ} {answer : Option ℕ} (A : Appending x y count n r parent answer)
       (I : Indexed x.packets x.left x.right count n x.trees) (long : length x.parents ≡ length x.packets) where
     snoc : n < length x.packets
         → entries_of S M (row_at (set x.packets n r.packet) (set x.left n (get_or r.states 0 0)) (set x.right n (get_or r.states 1 0))) (λ i. get_or (set x.parents n parent) i 0) (suc n)
@@ -217,7 +216,7 @@ module _ (S : System) (M : Masks S) (lawful : Lawful S) where
         (ap₂ (λ a b. record { row = a; parent = b } ∷ []) (row_same _ r (put_here x.packets x.left x.right n r I.table l))
         (get_or-set_same x.parents n parent 0 (subst (λ m. n < m) (sym long) l)))
 
-    pub appended_rows : (m : ℕ) → answer ≡ Rows m → Grew S M x y count n m r parent
+    pub appended_rows : (m : ℕ) → answer ≡ Some m → Grew S M x y count n m r parent
     unfolding grown
     appended_rows m e = go (outcome A)
       where
@@ -242,7 +241,7 @@ module _ (S : System) (M : Masks S) (lawful : Lawful S) where
               beyond = subst (λ z. Beyond x z m) (sym y-is) (record { packets = refl; left = refl; right = refl; parents = refl });
             }
 
-    pub appended_full : answer ≡ Full → Stuck S M x y n r parent
+    pub appended_full : answer ≡ None → Stuck S M x y n r parent
     appended_full e = go (outcome A)
       where
         go : Outcome x n r answer → Stuck S M x y n r parent

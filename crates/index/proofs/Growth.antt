@@ -11,8 +11,7 @@ use lib.ListN.{length, get_or, set, replicate, length-replicate, length-set}
 use lib.Seq.{get_or-set_same}
 use borrow.Author.Tests.{lt-ltb}
 use Rattle.index.specs.declared.Row.{Row}
-use Rattle.index.specs.declared.Lookup.{Lookup}
-use Rattle.index.specs.declared.Lookup.TheVariants.{Listed, Vacant}
+use Rattle.std.specs.Prelude.{Result, Ok, Err}
 use Rattle.index.specs.Columns.{EvenColumns, row_at, rows_agree, listed_below}
 use Rattle.index.specs.Index.{bucket_of, bucket_count, look_from, slot_of, Rising, Indexed, Indexable, trees_with, VacantAt, LookEnds}
 use Rattle.index.proofs.States.{same_refl, same_left}
@@ -113,7 +112,7 @@ pub to_place : {P L R trees₀ trees : List ℕ} {count n i : ℕ} → Indexable
 to_place {count = count} {i = i} A I l r is_row = subst (λ x. x.packet < count) (sym is_row) (A.small i l)
 
 module _ {P L R trees₀ trees : List ℕ} {count n i : ℕ} (A : Indexable P count n trees₀) (T : IndexedTo P L R count n i trees₀ trees) (l : i < n) (r : Row) (is_row : r ≡ row_at P L R i)
-    {answer : Lookup} (p : LookEnds (row_at P L R) count i trees r answer) where
+    {answer : Result ℕ ℕ} (p : LookEnds (row_at P L R) count i trees r answer) where
   within : i < length P
   within = omega (arith, A.within)
 
@@ -121,7 +120,7 @@ module _ {P L R trees₀ trees : List ℕ} {count n i : ℕ} (A : Indexable P co
   place = subst (λ m. i < m / 3) (sym T.long) (omega (arith, A.room))
 
   -- the row is listed already
-  pub to_repeat : (j : ℕ) → answer ≡ Listed j → IndexedTo P L R count n (i + 1) trees₀ trees
+  pub to_repeat : (j : ℕ) → answer ≡ Ok j → IndexedTo P L R count n (i + 1) trees₀ trees
   to_repeat j e =
       let again : listed_below (row_at P L R) i (row_at P L R i) ≡ true = subst (λ x. listed_below (row_at P L R) i x ≡ true) is_row (p.listed j e).listed in
       record {
@@ -139,7 +138,7 @@ module _ {P L R trees₀ trees : List ℕ} {count n i : ℕ} (A : Indexable P co
         long = T.long;
       }
 
-  module _ (slot : ℕ) (e : answer ≡ Vacant slot) where
+  module _ (slot : ℕ) (e : answer ≡ Err slot) where
     pub to_attach : (slot < length trees) × (i < 65535)
     to_attach = attach_ready T.indexed within (p.vacant slot e)
 

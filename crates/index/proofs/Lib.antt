@@ -6,3 +6,4 @@ pub mod Looking
 pub mod Adding
 pub mod Entries
 pub mod Starting
+pub mod Lent

@@ -1,5 +1,5 @@
 -- The loop of a look for a row.
-use mathlib.Core.Path.{◌≡◌, sym, ◌∙◌, ap, ap₂, subst}
+use mathlib.Core.Path.{◌≡◌, refl, sym, ◌∙◌, ap, ap₂, subst}
 use mathlib.Core.Bool.{Bool, true, false}
 use mathlib.Core.List.{List}
 use Prim.Native.Nat.{ℕ, suc, ◌+◌, ◌-◌, ◌*◌, ◌≤◌, ◌<◌}
@@ -9,25 +9,30 @@ use lib.Dec.{ltb}
 use lib.ListN.{length, get_or}
 use borrow.Author.Tests.{lt-ltb}
 use Rattle.index.specs.declared.Row.{Row}
-use Rattle.index.specs.declared.Lookup.TheVariants.{Listed, Vacant}
-use Rattle.index.specs.Columns.{row_at, rows_agree}
+use Rattle.std.specs.Prelude.{Result, Ok, Err}
+use Rattle.std.specs.Result.{is_ok}
+use Rattle.index.specs.Columns.{row_at, rows_agree, listed_below}
 use Rattle.index.specs.Index.{bucket_of, bucket_count, child_slot, side_at, look_from, slot_of, Indexed, ListedAt, VacantAt, LookEnds}
 use Rattle.index.proofs.Trees.{ends_none, ends_row, ends_not, look_ends, look_on, side_below, Reached, reached_root, reached_child}
 
 module _ {f : ℕ → Row} {count n : ℕ} {trees : List ℕ} {r : Row} where
-  pub at_row : {i : ℕ} → ListedAt f n r i → LookEnds f count n trees r (Listed i)
+  pub at_row : {i : ℕ} → ListedAt f n r i → LookEnds f count n trees r (Ok i)
   at_row {i} a =
       record {
         listed = λ j e. let here : i ≡ j = cc in subst (ListedAt f n r) here a;
         vacant = λ s e. let z : ◌≡◌ {A = ℕ} 0 1 = cc in absurd (omega arith);
       }
 
-  pub at_slot : {slot : ℕ} → VacantAt f count n trees r slot → LookEnds f count n trees r (Vacant slot)
+  pub at_slot : {slot : ℕ} → VacantAt f count n trees r slot → LookEnds f count n trees r (Err slot)
   at_slot {slot} a =
       record {
         listed = λ i e. let z : ◌≡◌ {A = ℕ} 0 1 = cc in absurd (omega arith);
         vacant = λ s e. let here : slot ≡ s = cc in subst (VacantAt f count n trees r) here a;
       }
+
+  pub found : (answer : Result ℕ ℕ) → LookEnds f count n trees r answer → is_ok answer ≡ listed_below f n r
+  found (Ok i) p = sym (p.listed i refl).listed
+  found (Err slot) p = sym (p.vacant slot refl).unlisted
 
 -- a look for the row r among the first n of the columns has come to a slot
 pub record Looking (P L R : List ℕ) (count n : ℕ) (trees : List ℕ) (r : Row) (slot depth : ℕ) : Type 0 where

@@ -1,16 +1,16 @@
 -- Two rows' states, policy by policy.
 use mathlib.Core.Path.{◌≡◌, refl, sym, ◌∙◌, ap, ap₂, subst}
-use mathlib.Core.Bool.{true, false, ◌&&◌, and-false}
-use mathlib.Core.List.{List}
+use mathlib.Core.Bool.{Bool, true, false, ◌&&◌}
+use mathlib.Core.List.{List, [], ◌∷◌}
 use mathlib.Core.Logic.{◌⊎◌, inl, inr}
 use Prim.Native.Nat.{ℕ, zero, suc, ◌+◌, ◌*◌, ◌/◌, ◌%◌, ◌^◌, ◌≤◌, ◌<◌}
-use native.Mathlib.Nat.{not-suc-le-zero, le_antisymm, mod-lt, mod-eq_of_lt}
-use native.Mathlib.Numerals.{add-one}
+use native.Mathlib.Nat.{not-suc-le-zero, mod-lt, mod-eq_of_lt}
 use native.Mathlib.Omega.{arith}
 use lib.Arith.{digits_div, digits_mod}
 use lib.Dec.{eqb}
-use lib.ListN.{get_or}
-use borrow.Author.Tests.{eqb-true, eq-eqb, ne_eqb}
+use lib.ListN.{length, get_or}
+use lib.Pointwise.{pointwise}
+use borrow.Author.Tests.{eqb-true, eq-eqb}
 use Rattle.system.proofs.Basics.{and_true, last_or_before}
 use Rattle.packet_set.specs.Bits.{mask_bits, bit}
 use Rattle.packet_set.proofs.Digits.{bits_same}
@@ -18,26 +18,21 @@ use Rattle.index.specs.declared.Row.{Row}
 use Rattle.index.specs.Columns.{policy_count, masks_agree, rows_agree}
 use Rattle.index.specs.Index.{side_at}
 
+and_yes : (b : Bool) → (b && true) ≡ b
+and_yes true = refl
+and_yes false = refl
+
+two : (a : List ℕ) → length a ≡ policy_count → a ≡ get_or a 0 0 ∷ get_or a 1 0 ∷ []
+two [] e = absurd (omega arith)
+two (x ∷ []) e = absurd (omega arith)
+two (x ∷ y ∷ []) e = refl
+two (x ∷ y ∷ z ∷ l) e = absurd (omega arith)
+
 module _ (a b : List ℕ) where
-  pub states_none : masks_agree 0 a b ≡ true
+  -- what `==` says of two lists of states
+  pub states_equal : length a ≡ policy_count → length b ≡ policy_count → pointwise eqb a b ≡ masks_agree policy_count a b
   unfolding masks_agree
-  states_none = refl
-
-  pub states_more : (k : ℕ) → masks_agree k a b ≡ true → get_or a k 0 ≡ get_or b k 0 → masks_agree (k + 1) a b ≡ true
-  unfolding masks_agree
-  states_more k s e = subst (λ n. masks_agree n a b ≡ true) (sym (add-one k)) (ap₂ ◌&&◌ s (eq-eqb _ _ e))
-
-  pub states_differ : (k n : ℕ) → k < n → (get_or a k 0 ≡ get_or b k 0 → ⊥) → masks_agree n a b ≡ false
-  unfolding masks_agree
-  states_differ k zero l e = absurd (not-suc-le-zero l)
-  states_differ k (suc n) l e = go (states_differ k n) (last_or_before l)
-    where
-      go : (k < n → (get_or a k 0 ≡ get_or b k 0 → ⊥) → masks_agree n a b ≡ false) → (k < n) ⊎ (k ≡ n) → masks_agree (suc n) a b ≡ false
-      go ih (inl h) = ap (λ t. t && eqb (get_or a n 0) (get_or b n 0)) (ih h e)
-      go ih (inr p) = subst (λ m. (masks_agree n a b && eqb (get_or a m 0) (get_or b m 0)) ≡ false) p (ap (λ t. masks_agree n a b && t) (ne_eqb (get_or a k 0) (get_or b k 0) e) ∙ and-false (masks_agree n a b))
-
-  pub states_all : (k n : ℕ) → k ≤ n → n ≤ k → masks_agree k a b ≡ true → masks_agree n a b ≡ true
-  states_all k n l g s = subst (λ m. masks_agree m a b ≡ true) (le_antisymm l g) s
+  states_equal la lb = ap₂ (pointwise eqb) (two a la) (two b lb) ∙ ap (λ t. eqb (get_or a 0 0) (get_or b 0 0) && t) (and_yes (eqb (get_or a 1 0) (get_or b 1 0)))
 
 states_refl : (k : ℕ) (a : List ℕ) → masks_agree k a a ≡ true
 unfolding masks_agree
@@ -48,14 +43,10 @@ pub same_refl : (a : Row) → rows_agree a a ≡ true
 unfolding rows_agree
 same_refl a = ap₂ ◌&&◌ (eq-eqb a.packet a.packet refl) (states_refl _ a.states)
 
-module _ (a b : Row) where
-  pub packets_differ : (a.packet ≡ b.packet → ⊥) → rows_agree a b ≡ false
-  unfolding rows_agree
-  packets_differ e = ap (λ t. t && masks_agree policy_count a.states b.states) (ne_eqb a.packet b.packet e)
-
-  pub packets_same : a.packet ≡ b.packet → rows_agree a b ≡ masks_agree policy_count a.states b.states
-  unfolding rows_agree
-  packets_same e = ap (λ t. t && masks_agree policy_count a.states b.states) (eq-eqb a.packet b.packet e)
+-- what `==` says of two rows
+pub rows_equal : (a b : Row) → length a.states ≡ policy_count → length b.states ≡ policy_count → (eqb a.packet b.packet && pointwise eqb a.states b.states) ≡ rows_agree a b
+unfolding rows_agree
+rows_equal a b la lb = ap (λ t. eqb a.packet b.packet && t) (states_equal a.states b.states la lb)
 
 -- states that are the same are one by one
 states_at : (k i : ℕ) (a b : List ℕ) → i < k → masks_agree k a b ≡ true → get_or a i 0 ≡ get_or b i 0

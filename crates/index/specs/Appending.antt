@@ -1,12 +1,7 @@
 -- A row is appended to the lent columns "unless both states are 0 or the row is listed already"; full when it must be appended and there is no room.
-use Rattle.std.specs.Prelude.{◌≡◌, Bool, true, false, ◌&&◌, ◌||◌, not, List, ℕ, suc, ltb, length, get_or, set}
-use Rattle.std.specs.Borrow.{MutBor}
-use denote.Triple.Both.{Both}
+use Rattle.std.specs.Prelude.{◌≡◌, Bool, true, false, ◌&&◌, ◌||◌, not, List, ℕ, suc, Option, Some, None, ltb, length, get_or, set}
 use Rattle.index.specs.declared.Row.{Row}
-use Rattle.index.specs.declared.Vacancy.{Vacancy}
-use Rattle.index.specs.declared.Vacancy.TheVariants.{At, Nowhere}
-use Rattle.index.specs.declared.Appended.{Appended}
-use Rattle.index.specs.declared.Appended.TheVariants.{Rows, Full}
+use Rattle.index.specs.declared.RowLists.{RowLists}
 use Rattle.index.specs.Columns.{row_at, all_zero, listed_below}
 use Rattle.index.specs.Index.{VacantAt, Indexed, trees_with}
 
@@ -15,9 +10,9 @@ unfoldable pub is_new : (ℕ → Row) → ℕ → Row → Bool
 is_new f n r = not (all_zero r.states || listed_below f n r)
 
 -- where the row must be attached, if it must
-pub record NewPlaced (f : ℕ → Row) (count n : ℕ) (trees : List ℕ) (r : Row) (answer : Vacancy) : Type 0 where
-  pub at : (slot : ℕ) → answer ≡ At slot → (is_new f n r ≡ true) × VacantAt f count n trees r slot
-  pub nowhere : answer ≡ Nowhere → is_new f n r ≡ false
+pub record NewPlaced (f : ℕ → Row) (count n : ℕ) (trees : List ℕ) (r : Row) (answer : Option ℕ) : Type 0 where
+  pub at : (slot : ℕ) → answer ≡ Some slot → (is_new f n r ≡ true) × VacantAt f count n trees r slot
+  pub nowhere : answer ≡ None → is_new f n r ≡ false
 
 -- The lent columns and the index.
 pub record Lists : Type 0 where
@@ -30,21 +25,19 @@ pub record Lists : Type 0 where
 abbrev pub lists : List ℕ → List ℕ → List ℕ → List ℕ → List ℕ → Lists
 lists P L R Q trees = record { packets = P; left = L; right = R; parents = Q; trees = trees }
 
--- a lent list in an `ensures`: the reference at entry and at exit
-abbrev pub LentList : Type 0
-LentList = Both (MutBor (List ℕ)) (MutBor (List ℕ))
+-- what the lent row lists and the index contain
+abbrev pub lists_in : RowLists → List ℕ → Lists
+lists_in rows trees = lists rows.packets.now rows.left.now rows.right.now rows.parents.now trees
 
-abbrev pub lists_at_entry : LentList → LentList → LentList → LentList → LentList → Lists
-lists_at_entry P L R Q trees = lists P.entry.now L.entry.now R.entry.now Q.entry.now trees.entry.now
+-- the first n rows are indexed
+abbrev pub IndexedIn : Lists → ℕ → ℕ → Type 0
+IndexedIn x count n = Indexed x.packets x.left x.right count n x.trees
 
-abbrev pub lists_at_exit : LentList → LentList → LentList → LentList → LentList → Lists
-lists_at_exit P L R Q trees = lists P.exit.now L.exit.now R.exit.now Q.exit.now trees.exit.now
-
--- the answer: how many rows are listed now, or full
-unfoldable pub append_answer : Bool → Bool → ℕ → Appended
-append_answer true true n = Rows (suc n)
-append_answer true false n = Full
-append_answer false room n = Rows n
+-- the answer: how many rows are listed now, or none where there is no room
+unfoldable pub append_answer : Bool → Bool → ℕ → Option ℕ
+append_answer true true n = Some (suc n)
+append_answer true false n = None
+append_answer false room n = Some n
 
 -- how many rows are listed after the answer
 unfoldable pub rows_after : Bool → ℕ → ℕ
@@ -61,7 +54,7 @@ unfoldable pub is_added : Lists → ℕ → Row → Bool
 is_added x n r = is_new (row_at x.packets x.left x.right) n r && ltb n (length x.packets)
 
 -- Row r with its parent, appended to the n rows of x, which become those of y.
-pub record Appending (x y : Lists) (count n : ℕ) (r : Row) (parent : ℕ) (answer : Appended) : Type 0 where
+pub record Appending (x y : Lists) (count n : ℕ) (r : Row) (parent : ℕ) (answer : Option ℕ) : Type 0 where
   pub answers : answer ≡ append_answer (is_new (row_at x.packets x.left x.right) n r) (ltb n (length x.packets)) n
   pub packets : y.packets ≡ new_if (is_added x n r) (set x.packets n r.packet) x.packets
   pub left : y.left ≡ new_if (is_added x n r) (set x.left n (get_or r.states 0 0)) x.left

@@ -1,10 +1,8 @@
 -- The index: hashed buckets, each a digital search tree of rows, in one list. An entry is 1 + a row's number, 0 is none: of `size` buckets slot b holds
 -- the root of bucket b, and the two slots from size + 2 i hold the children of row i.
-use Rattle.std.specs.Prelude.{◌≡◌, Bool, true, false, cond, ◌||◌, List, ℕ, zero, suc, ◌+◌, ◌-◌, ◌*◌, ◌/◌, ◌%◌, ◌^◌, ◌≤◌, ◌<◌, eqb, ltb, length, get_or, set}
+use Rattle.std.specs.Prelude.{◌≡◌, Bool, true, false, cond, ◌||◌, List, ℕ, zero, suc, ◌+◌, ◌-◌, ◌*◌, ◌/◌, ◌%◌, ◌^◌, ◌≤◌, ◌<◌, eqb, ltb, length, get_or, set, Result, Ok, Err}
 use Rattle.packet_set.specs.Bits.{mask_bits}
 use Rattle.index.specs.declared.Row.{Row}
-use Rattle.index.specs.declared.Lookup.{Lookup}
-use Rattle.index.specs.declared.Lookup.TheVariants.{Listed, Vacant}
 use Rattle.index.specs.Columns.{policy_count, EvenColumns, row_at, rows_agree, listed_below}
 
 -- any odd number and prime would serve: the hash decides how deep the trees are and nothing else
@@ -100,6 +98,6 @@ pub record VacantAt (f : ℕ → Row) (count n : ℕ) (trees : List ℕ) (r : Ro
   pub unlisted : listed_below f n r ≡ false
 
 -- where a look for the row ends
-pub record LookEnds (f : ℕ → Row) (count n : ℕ) (trees : List ℕ) (r : Row) (answer : Lookup) : Type 0 where
-  pub listed : (i : ℕ) → answer ≡ Listed i → ListedAt f n r i
-  pub vacant : (slot : ℕ) → answer ≡ Vacant slot → VacantAt f count n trees r slot
+pub record LookEnds (f : ℕ → Row) (count n : ℕ) (trees : List ℕ) (r : Row) (answer : Result ℕ ℕ) : Type 0 where
+  pub listed : (i : ℕ) → answer ≡ Ok i → ListedAt f n r i
+  pub vacant : (slot : ℕ) → answer ≡ Err slot → VacantAt f count n trees r slot

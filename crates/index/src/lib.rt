@@ -2,9 +2,10 @@
 #![tactic(auto)]
 
 ghost use Rattle.std.specs.Prelude.{◌≡◌, ◌+◌, ◌<◌, ◌≤◌, length, get_or, set};
-ghost use Rattle.index.specs.Columns.{policy_count, EvenColumns, row_at, masks_agree, rows_agree, listed_below};
-ghost use Rattle.index.specs.Index.{hash_prime, mixed, mixed_upper, hash_of, bucket_of, side_at, Indexed, Indexable, RoomFor, LookEnds};
-ghost use Rattle.index.specs.Appending.{NewPlaced, lists_at_entry, lists_at_exit, Appending};
+ghost use Rattle.index.specs.Columns.{policy_count, EvenColumns, row_at, listed_below};
+ghost use Rattle.index.specs.Lent.{rows_of, IndexedRows, SameLists};
+ghost use Rattle.index.specs.Index.{hash_prime, mixed, mixed_upper, hash_of, bucket_of, side_at, Indexable, RoomFor, LookEnds};
+ghost use Rattle.index.specs.Appending.{NewPlaced, lists_in, IndexedIn, Appending};
 
 use packet_set::Mask;
 
@@ -12,73 +13,73 @@ use packet_set::Mask;
 pub const POLICIES: usize = 2;
 
 // A row: a packet and a state of each policy.
-#[derive(Clone, Copy)]
+#[derive(Clone, Copy, PartialEq, Eq)]
 pub struct Row {
     pub packet: u16,
     pub states: [Mask; POLICIES],
 }
 
-// Inner: a number of 16 bits as an index.
-pub fn wide(x: u16) -> usize
-    ensures { result ≡ x }
-{
-    x as usize
+// Inner: lent columns that are read. `row` and `RowLists::put` alone know which column is whose.
+#[derive(Clone, Copy)]
+pub struct Columns<'a> {
+    pub packets: &'a [u16],
+    pub left: &'a [Mask],
+    pub right: &'a [Mask],
 }
 
-fn wide_mask(x: Mask) -> usize
-    ensures { (result ≡ x) × (result < 18446744073709551616) }
-{
-    x as usize
-}
-
-// Inner: row i of the columns. This function and `put_row` alone know which column is whose.
-pub fn row_at(packets: &[u16], left: &[Mask], right: &[Mask], i: usize) -> Row
-    requires even_columns { EvenColumns packets.now left.now right.now }
-    requires i_in_bounds { i < length packets.now }
-    ensures { result ≡ row_at packets.now left.now right.now i }
-{
-    Row {
-        packet: packets[i],
-        states: [left[i], right[i]],
-    }
-}
-
-// Inner: writes row i of the columns.
-pub fn put_row(packets: &mut [u16], left: &mut [Mask], right: &mut [Mask], i: usize, row: Row)
-    requires even_columns { EvenColumns packets.old left.old right.old }
-    requires i_in_bounds { i < length packets.old }
-    ensures packets_after { packets.new ≡ set packets.old i row.packet }
-    ensures left_after { left.new ≡ set left.old i (get_or row.states 0 0) }
-    ensures right_after { right.new ≡ set right.old i (get_or row.states 1 0) }
-{
-    let states = row.states;
-    packets[i] = row.packet;
-    left[i] = states[0];
-    right[i] = states[1];
-}
-
-fn same_states(a: [Mask; POLICIES], b: [Mask; POLICIES]) -> bool
-    ensures { result ≡ masks_agree policy_count a b }
-{
-    let mut k = 0;
-    while k < POLICIES {
-        if a[k] != b[k] {
-            return false;
+impl<'a> Columns<'a> {
+    // Inner: row i of the columns.
+    pub fn row(self, i: usize) -> Row
+        requires even_columns { EvenColumns self.packets.now self.left.now self.right.now }
+        requires i_in_bounds { i < length self.packets.now }
+        ensures { result ≡ rows_of self.entry i }
+    {
+        Row {
+            packet: self.packets[i],
+            states: [self.left[i], self.right[i]],
         }
-        k += 1;
     }
-    true
 }
 
-fn same_row(a: Row, b: Row) -> bool
-    ensures { result ≡ rows_agree a b }
-{
-    if a.packet != b.packet {
-        return false;
+// Inner: the lent row lists that are written, the columns and the parents.
+#[derive(Drop)]
+pub struct RowLists<'a> {
+    pub packets: &'a mut [u16],
+    pub left: &'a mut [Mask],
+    pub right: &'a mut [Mask],
+    pub parents: &'a mut [u16],
+}
+
+impl<'a> RowLists<'a> {
+    // Inner: the columns, to be read.
+    pub fn columns(&self) -> Columns<'_>
+        ensures packets { result.packets.now ≡ self.now.packets.now }
+        ensures left { result.left.now ≡ self.now.left.now }
+        ensures right { result.right.now ≡ self.now.right.now }
+    {
+        Columns {
+            packets: self.packets,
+            left: self.left,
+            right: self.right,
+        }
     }
-    let x = a.states;
-    let y = b.states;
-    same_states(x, y)
+
+    // Inner: writes row i with its parent.
+    pub fn put(&mut self, i: usize, row: Row, parent: u16)
+        requires even_columns { EvenColumns self.old.packets.now self.old.left.now self.old.right.now }
+        requires i_in_bounds { i < length self.old.packets.now }
+        requires parents_len { length self.old.parents.now ≡ length self.old.packets.now }
+        ensures same_lists { SameLists self.old self.new }
+        ensures packets_after { self.new.packets.now ≡ set self.old.packets.now i row.packet }
+        ensures left_after { self.new.left.now ≡ set self.old.left.now i (get_or row.states 0 0) }
+        ensures right_after { self.new.right.now ≡ set self.old.right.now i (get_or row.states 1 0) }
+        ensures parents_after { self.new.parents.now ≡ set self.old.parents.now i parent }
+    {
+        self.packets[i] = row.packet;
+        self.left[i] = row.states[0];
+        self.right[i] = row.states[1];
+        self.parents[i] = parent;
+    }
 }
 
 // A prime modulus makes every bit of every mask count, also where the number of buckets is a power of 2.
@@ -99,21 +100,16 @@ fn mix_upper(h: usize, upper: usize) -> usize
     requires { (h < hash_prime) × (upper < 4294967296) }
     ensures { result ≡ mixed_upper h upper }
 {
-    if upper == 0 {
-        return h;
-    }
-    mix(h, upper)
+    if upper == 0 { h } else { mix(h, upper) }
 }
 
 fn hash(states: [Mask; POLICIES]) -> usize
     ensures { result ≡ hash_of policy_count states }
 {
     let mut h = 0;
-    let mut k = 0;
-    while k < POLICIES {
-        let state = wide_mask(states[k]);
+    for mask in states {
+        let state = mask as usize;
         h = mix_upper(mix(h, state % 4294967296), state / 4294967296);
-        k += 1;
     }
     h
 }
@@ -124,9 +120,8 @@ fn bucket(size: usize, count: u16, row: Row) -> usize
     requires count_le_size { count ≤ size }
     ensures { (result ≡ bucket_of size count row) × (result < size) }
 {
-    let width = size / wide(count);
-    let states = row.states;
-    wide(row.packet) * width + hash(states) % width
+    let width = size / usize::from(count);
+    usize::from(row.packet) * width + hash(row.states) % width
 }
 
 // Which child a look goes on to: a bit of a state, the policies in turn. The rows of a bucket have one packet, and those that agree in all
@@ -134,66 +129,46 @@ fn bucket(size: usize, count: u16, row: Row) -> usize
 fn side_at(states: [Mask; POLICIES], depth: usize) -> usize
     ensures { (result ≡ side_at depth states) × (result < 2) }
 {
-    wide_mask(states[depth % POLICIES] >> (depth / POLICIES % 64)) % 2
+    (states[depth % POLICIES] >> (depth / POLICIES % 64)) as usize % 2
 }
 
-// Where a look for a row ends: at the row, listed with this number, or at a slot of the trees where it would be attached. Inner.
-#[derive(Drop)]
-pub enum Lookup {
-    Listed(usize),
-    Vacant(usize),
-}
-
-// Inner: looks for the row among the first n.
+// Inner: looks for the row among the first n. It ends at the row, listed with this number, or, as an error, at a slot of the trees where it
+// would be attached.
 pub fn place(
-    packets: &[u16],
-    left: &[Mask],
-    right: &[Mask],
+    columns: Columns,
     n: usize,
     count: u16,
     trees: &[u16],
     row: Row,
-) -> Lookup
-    requires indexed { Indexed packets.now left.now right.now count n trees.now }
+) -> Result<usize, usize>
+    requires indexed { IndexedRows columns count n trees.now }
     requires packet_lt_count { row.packet < count }
-    ensures { LookEnds (row_at packets.now left.now right.now) count n trees.now row result }
+    ensures { LookEnds (rows_of columns.entry) count n trees.now row result }
 {
     let size = trees.len() / 3;
-    let states = row.states;
     let mut slot = bucket(size, count, row);
     let mut depth = 0;
     loop {
-        let entry = wide(trees[slot]);
+        let entry = usize::from(trees[slot]);
         if entry == 0 {
-            return Lookup::Vacant(slot);
+            return Err(slot);
         }
         let i = entry - 1;
-        if same_row(row_at(packets, left, right, i), row) {
-            return Lookup::Listed(i);
+        if columns.row(i) == row {
+            return Ok(i);
         }
-        slot = size + 2 * i + side_at(states, depth);
+        slot = size + 2 * i + side_at(row.states, depth);
         depth += 1;
     }
 }
 
 // Inner: is the row one of the first n?
-pub fn find(
-    packets: &[u16],
-    left: &[Mask],
-    right: &[Mask],
-    n: usize,
-    count: u16,
-    trees: &[u16],
-    row: Row,
-) -> bool
-    requires indexed { Indexed packets.now left.now right.now count n trees.now }
+pub fn find(columns: Columns, n: usize, count: u16, trees: &[u16], row: Row) -> bool
+    requires indexed { IndexedRows columns count n trees.now }
     requires packet_lt_count { row.packet < count }
-    ensures { result ≡ listed_below (row_at packets.now left.now right.now) n row }
+    ensures { result ≡ listed_below (rows_of columns.entry) n row }
 {
-    match place(packets, left, right, n, count, trees, row) {
-        Lookup::Listed(_) => true,
-        Lookup::Vacant(_) => false,
-    }
+    place(columns, n, count, trees, row).is_ok()
 }
 
 // Attaches row n at a slot.
@@ -206,101 +181,54 @@ fn attach(trees: &mut [u16], slot: usize, n: usize)
 }
 
 // Inner: indexes the first n rows of the columns. A row that is listed already is not attached again.
-pub fn index_rows(
-    packets: &[u16],
-    left: &[Mask],
-    right: &[Mask],
-    n: usize,
-    count: u16,
-    trees: &mut [u16],
-)
-    requires indexed { Indexed packets.now left.now right.now count 0 trees.old }
-    requires indexable { Indexable packets.now count n trees.old }
-    ensures { Indexed packets.now left.now right.now count n trees.new }
+pub fn index_rows(columns: Columns, n: usize, count: u16, trees: &mut [u16])
+    requires indexed { IndexedRows columns count 0 trees.old }
+    requires indexable { Indexable columns.packets.now count n trees.old }
+    ensures { IndexedRows columns.entry count n trees.new }
 {
-    let mut i = 0;
-    while i < n {
-        match place(
-            packets,
-            left,
-            right,
-            i,
-            count,
-            trees,
-            row_at(packets, left, right, i),
-        ) {
-            Lookup::Listed(_) => i += 1,
-            Lookup::Vacant(slot) => {
-                attach(trees, slot, i);
-                i += 1;
-            }
+    for i in 0..n {
+        if let Err(slot) = place(columns, i, count, trees, columns.row(i)) {
+            attach(trees, slot, i);
         }
     }
 }
 
-// How many rows are listed after an append; or a row must be appended and the columns are full.
-#[derive(Drop)]
-pub enum Appended {
-    Rows(usize),
-    Full,
-}
-
-// Where the row must be attached; or nothing must be appended, since all its states are 0 or it is listed already. Inner.
-#[derive(Drop)]
-pub enum Vacancy {
-    At(usize),
-    Nowhere,
-}
-
-fn place_new(
-    packets: &[u16],
-    left: &[Mask],
-    right: &[Mask],
-    n: usize,
-    count: u16,
-    trees: &[u16],
-    row: Row,
-) -> Vacancy
-    requires indexed { Indexed packets.now left.now right.now count n trees.now }
+// The slot where the row must be attached; none if nothing must be appended, since all its states are 0 or it is listed already.
+fn place_new(columns: Columns, n: usize, count: u16, trees: &[u16], row: Row) -> Option<usize>
+    requires indexed { IndexedRows columns count n trees.now }
     requires packet_lt_count { row.packet < count }
-    ensures { NewPlaced (row_at packets.now left.now right.now) count n trees.now row result }
+    ensures { NewPlaced (rows_of columns.entry) count n trees.now row result }
 {
-    let states = row.states;
-    if same_states(states, [0; POLICIES]) {
-        return Vacancy::Nowhere;
+    if row.states == [0; POLICIES] {
+        return None;
     }
-    match place(packets, left, right, n, count, trees, row) {
-        Lookup::Listed(_) => Vacancy::Nowhere,
-        Lookup::Vacant(slot) => Vacancy::At(slot),
-    }
+    place(columns, n, count, trees, row).err()
 }
 
-// Inner: appends the row with its parent as row n, unless all its states are 0 or it is listed already.
+// Inner: appends the row with its parent as row n, unless all its states are 0 or it is listed already. It answers how many rows are listed
+// then, or nothing where the row must be appended and the columns are full.
 pub fn append(
-    packets: &mut [u16],
-    left: &mut [Mask],
-    right: &mut [Mask],
-    parents: &mut [u16],
+    rows: &mut RowLists,
     n: usize,
     count: u16,
     trees: &mut [u16],
     row: Row,
     parent: u16,
-) -> Appended
-    requires indexed { Indexed packets.old left.old right.old count n trees.old }
-    requires parents_len { length parents.old ≡ length packets.old }
-    requires room_for { RoomFor packets.old n 1 trees.old }
+) -> Option<usize>
+    requires indexed { IndexedIn (lists_in rows.old trees.old) count n }
+    requires parents_len { length rows.old.parents.now ≡ length rows.old.packets.now }
+    requires room_for { RoomFor rows.old.packets.now n 1 trees.old }
     requires packet_lt_count { row.packet < count }
-    ensures { Appending (lists_at_entry packets left right parents trees) (lists_at_exit packets left right parents trees) count n row parent result }
+    ensures same_lists { SameLists rows.old rows.new }
+    ensures appends { Appending (lists_in rows.old trees.old) (lists_in rows.new trees.new) count n row parent result }
 {
-    let Vacancy::At(slot) = place_new(packets, left, right, n, count, trees, row) else {
-        return Appended::Rows(n);
+    let Some(slot) = place_new(rows.columns(), n, count, trees, row) else {
+        return Some(n);
     };
-    if packets.len() <= n {
-        return Appended::Full;
+    if rows.packets.len() <= n {
+        return None;
     }
-    put_row(packets, left, right, n, row);
-    parents[n] = parent;
+    rows.put(n, row, parent);
     attach(trees, slot, n);
-    Appended::Rows(n + 1)
+    Some(n + 1)
 }

@@ -1,14 +1,16 @@
 -- Cells that hold names: what lies in them, and that a table has the names of its entries.
-use Prim.Native.Nat.{ℕ, suc, min, ◌+◌, ◌-◌, ◌*◌, ◌/◌, ◌≤◌, ◌<◌}
-use native.Mathlib.Numerals.{add-one}
+use Prim.Native.Nat.{ℕ, zero, suc, min, ◌*◌, ◌/◌, ◌≤◌, ◌<◌}
 use native.Mathlib.Omega.{arith}
 use mathlib.Core.Bool.{Bool, true, false, cond}
-use mathlib.Core.List.{List, [], ◌∷◌, ◌++◌, map}
+use mathlib.Core.List.{List, [], ◌∷◌, ◌++◌, append-nil, map}
 use mathlib.Core.Path.{◌≡◌, refl, sym, ◌∙◌, ap, ap₂}
 use lib.Dec.{leb}
-use lib.ListN.{length, get_or, take, set, replicate, length-set, length-append, length-replicate, get_or-append, get_or-replicate}
-use lib.Seq.{length-take-le, get_or-take, take-take, take-append_seam, take_at, drop_at, get_or-append-add, paste, paste-zero, paste-suc}
+use lib.ListN.{length, take, drop, drop_of_length-le, replicate, length-append, length-replicate}
+use lib.Seq.{length-take-le, take-take, take-append_seam, take_at, drop_at, take_all, paste}
+use Rattle.std.proofs.lemmas.List.{take-append-le}
 use borrow.Author.Tests.{leb-true, leb-false}
+use borrow.Rule.Slice.PartMut.{put_mid}
+use Rattle.std.proofs.lemmas.Slice.{put_mid-paste}
 use Rattle.fields.specs.Names.{cell_name, names_from, names_in}
 use Rattle.input.specs.Input.{entry_name, entries_of, cell_of, cells_of, table_of}
 
@@ -21,56 +23,39 @@ pub cell_length : (w : List ℕ) → length (cell_of w) ≡ 16
 unfolding cell_of
 cell_length w = ap suc (length-take-le 15 (w ++ replicate 15 0) (long_enough w))
 
-pub cell_first : (w : List ℕ) (i n : ℕ) → i ≡ 0 → n ≡ min (length w) 16 → n ≡ get_or (cell_of w) i 0
+-- a word, and zeros behind it
+zeros : (k n : ℕ) → k ≤ n → replicate {A = ℕ} k 0 ≡ take k (replicate n 0)
+zeros zero n h = refl
+zeros (suc k) zero h = absurd (omega arith)
+zeros (suc k) (suc n) h = ap (λ (l : List ℕ). 0 ∷ l) (zeros k n (omega arith))
+
+padded : (w : List ℕ) (k n : ℕ) → length w ≤ k → k ≤ n → w ++ drop (length w) (replicate k 0) ≡ take k (w ++ replicate n 0)
+padded [] k n h l = zeros k n l
+padded (b ∷ w) zero n h l = absurd (omega arith)
+padded (b ∷ w) (suc k) n h l = ap (λ (x : List ℕ). b ∷ x) (padded w k n (omega arith) (omega arith))
+
+-- the bytes behind the length
+filled : (w : List ℕ) (n : ℕ) → n ≡ min (length w) 15 → take n w ++ drop n (replicate 15 0) ≡ take 15 (w ++ replicate 15 0)
+filled w n e = go (leb (length w) 15) refl
+  where
+    go : (b : Bool) → leb (length w) 15 ≡ b → take n w ++ drop n (replicate 15 0) ≡ take 15 (w ++ replicate 15 0)
+    go true q =
+        let h : length w ≤ 15 = leb-true (length w) 15 q in
+        let m : n ≡ length w = omega arith in
+        rw (m, take_all (length w) w (omega arith)) (padded w 15 15 h (omega arith))
+    go false q =
+        let h : 15 < length w = leb-false (length w) 15 q in
+        let m : n ≡ 15 = omega arith in
+        rw (m, drop_of_length-le (replicate {A = ℕ} 15 0) {i = 15} (omega (arith, length-replicate {A = ℕ} 15 0))) (append-nil (take 15 w) ∙ sym (take-append-le 15 w (replicate 15 0) (omega arith)))
+
+-- the cell as it is built: its length in an array of zeros, then the name's bytes over the front of the others
+pub cell_built : (w : List ℕ) {m n k : ℕ} {ys : List ℕ} → m ≡ min (length w) 16 → n ≡ min (length w) 15 → k ≡ n → ys ≡ take n w → put_mid 1 k (m ∷ replicate 15 0) ys ≡ cell_of w
 unfolding cell_of
-cell_first w i n e q = q ∙ rw e
+cell_built w {m} {n} e f g h = ap₂ (λ (k : ℕ) (ys : List ℕ). put_mid 1 k (m ∷ replicate 15 0) ys) g h ∙ ap₂ (λ (x : ℕ) (l : List ℕ). x ∷ l) e (filled w n f)
 
--- a byte of the name, or one after it
-later : (w : List ℕ) (i : ℕ) → i < 15 → get_or (cell_of w) (suc i) 0 ≡ get_or (w ++ replicate 15 0) i 0
-unfolding cell_of
-later w i h = get_or-take 15 (w ++ replicate 15 0) i 0 h
-
-pub cell_name_lem : (w : List ℕ) (i : ℕ) → i < 16 → (i ≡ 0 → ⊥) → i ≤ length w → get_or w (i - 1) 0 ≡ get_or (cell_of w) i 0
-cell_name_lem w i h n k =
-    let e : i ≡ suc (i - 1) = omega arith in
-    sym (ap (λ (j : ℕ). get_or (cell_of w) j 0) e ∙ later w (i - 1) (omega arith) ∙ get_or-append w (replicate 15 0) 0 (i - 1) (omega arith))
-
-pub cell_rest : (w : List ℕ) (i : ℕ) → i < 16 → (i ≡ 0 → ⊥) → length w < i → 0 ≡ get_or (cell_of w) i 0
-cell_rest w i h n k =
-    let e : i ≡ suc (i - 1) = omega arith in
-    let f : i - 1 ≡ length w + (i - 1 - length w) = omega arith in
-    sym
-    (ap (λ (j : ℕ). get_or (cell_of w) j 0) e
-    ∙ later w (i - 1) (omega arith)
-    ∙ ap (λ (j : ℕ). get_or (w ++ replicate 15 0) j 0) f
-    ∙ get_or-append-add w (replicate 15 0) (i - 1 - length w) 0
-    ∙ get_or-replicate 15 (i - 1 - length w) 0 0 (omega arith))
-
--- ---- a cell as it is written
-
--- the first i bytes of the cell have been written
-pub record CellUpTo (w cells : List ℕ) (at i : ℕ) (cells' : List ℕ) : Type 0 where
-  pub few : i ≤ 16
-  pub holds : cells' ≡ paste cells at (cell_of w) i
-  pub kept : length cells' ≡ length cells
-
-pub cell_none : (w cells : List ℕ) (at : ℕ) → CellUpTo w cells at 0 cells
-cell_none w cells at = record { few = omega arith; holds = paste-zero cells at (cell_of w); kept = refl }
-
-pub cell_more : {w cells : List ℕ} {at i b : ℕ} {cells' : List ℕ} → CellUpTo w cells at i cells' → at + 16 ≤ length cells → i < 16 → b ≡ get_or (cell_of w) i 0 → CellUpTo w cells at (i + 1) (set cells' (at + i) b)
-cell_more {w} {cells} {at} {i} {b} {cells'} u room h e =
-    let n : length (cell_of w) ≡ 16 = cell_length w in
-    record {
-      few = omega arith;
-      holds =
-          ap₂ (λ (l : List ℕ) (x : ℕ). set l (at + i) x) u.holds e
-          ∙ paste-suc cells at (cell_of w) i 0 (omega arith) (omega arith)
-          ∙ ap (paste cells at (cell_of w)) (sym (add-one i));
-      kept = length-set cells' (at + i) b ∙ u.kept;
-    }
-
-pub cell_whole : {w cells : List ℕ} {at i : ℕ} {cells' : List ℕ} → CellUpTo w cells at i cells' → 16 ≤ i → cells' ≡ paste cells at (cell_of w) 16
-cell_whole {w} {cells} {at} {i} u h = let e : i ≡ 16 = omega (arith, u.few) in u.holds ∙ ap (paste cells at (cell_of w)) e
+-- and as it is written
+pub cell_written : (w cells : List ℕ) (at k : ℕ) {c : List ℕ} → k ≡ 16 → c ≡ cell_of w → put_mid at k cells c ≡ paste cells at (cell_of w) 16
+cell_written w cells at k {c} e f = put_mid-paste at k cells c (cell_of w) 16 f (sym e) (sym (cell_length w))
 
 -- ---- the name in a cell
 

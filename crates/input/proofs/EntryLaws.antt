@@ -4,7 +4,7 @@ use native.Mathlib.Numerals.{add-one}
 use native.Mathlib.Omega.{arith}
 use mathlib.Core.Bool.{Bool, true, false}
 use mathlib.Core.List.{List, [], ◌∷◌}
-use mathlib.Core.Path.{◌≡◌, refl, sym, ◌∙◌, ap, subst}
+use mathlib.Core.Path.{◌≡◌, refl, sym, ◌∙◌, ap}
 use lib.Dec.{eqb}
 use lib.ListN.{length, get_or, take, drop, set}
 use lib.Seq.{paste}
@@ -12,28 +12,18 @@ use Rattle.packet.proofs.Tests.{clash}
 use Rattle.grammar.specs.Tokens.{decimal}
 use Rattle.input.specs.Lines.{onto}
 use Rattle.input.specs.Input.{split_by, is_size, is_name_and_size, is_entry, entry_name, entry_size, cell_of}
-use Rattle.input.specs.Inner.{part, PartFrom, size_of, EntryOf, EntryStored}
-use Rattle.input.specs.declared.tables.Entry.{Entry}
-use Rattle.input.proofs.SizeLaws.{size_not, size_is}
+use Rattle.std.specs.Prelude.{Some, None}
+use Rattle.input.specs.Inner.{part, PartFrom, size_of, EntryStored}
+use Rattle.input.proofs.SizeLaws.{size_none, size_some}
 use Rattle.input.proofs.PartLaws.{split_some}
 
 -- ---- from the places of `=`
 
-none : (w : List ℕ) → is_entry w ≡ false → EntryOf w (record { name_end = 0; size = 65536 })
-none w e =
-    record {
-      within = omega arith;
-      not = λ _. e;
-      is = λ h. absurd (omega arith);
-      name = λ h. absurd (omega arith);
-      size = λ h. absurd (omega arith);
-    }
-
 module _ {w : List ℕ} {equals : ℕ} (p : PartFrom 61 w 0 equals) where
   -- no `=`
-  pub no_equals : equals ≡ length w → EntryOf w (record { name_end = 0; size = 65536 })
+  pub no_equals : equals ≡ length w → is_entry w ≡ false
   unfolding is_entry is_name_and_size
-  no_equals e = none w (ap is_name_and_size (p.last (omega arith)))
+  no_equals e = ap is_name_and_size (p.last (omega arith))
 
   module _ (first : equals < length w) {end : ℕ} (q : PartFrom 61 w (equals + 1) end) where
     parts : (ps : List (List ℕ)) → split_by 61 (drop (equals + 1) w) ≡ ps → split_by 61 w ≡ take equals w ∷ ps
@@ -45,27 +35,30 @@ module _ {w : List ℕ} {equals : ℕ} (p : PartFrom 61 w 0 equals) where
         ∙ ap (λ (l : List (List ℕ)). take equals w ∷ l) e
 
     -- more than one
-    pub more_equals : end < length w → EntryOf w (record { name_end = 0; size = 65536 })
+    pub more_equals : end < length w → is_entry w ≡ false
     unfolding is_entry is_name_and_size
-    more_equals h = none w (ap is_name_and_size (parts _ (q.more h)) ∙ many (split_by 61 (drop (suc end) w)) (split_some 61 (drop (suc end) w)))
+    more_equals h = ap is_name_and_size (parts _ (q.more h)) ∙ many (split_by 61 (drop (suc end) w)) (split_some 61 (drop (suc end) w))
       where
         many : (ps : List (List ℕ)) → 0 < length ps → is_name_and_size (take equals w ∷ part w (equals + 1) end ∷ ps) ≡ false
         many [] k = absurd (omega arith)
         many (a ∷ ps) k = refl
 
     -- just one
-    pub one_equals : {n : ℕ} → length w ≤ end → n ≡ size_of (part w (equals + 1) end) → EntryOf w (record { name_end = equals; size = n })
+    two : length w ≤ end → split_by 61 w ≡ take equals w ∷ part w (equals + 1) (length w) ∷ []
+    two h = let e : end ≡ length w = omega (arith, q.within) in parts _ (q.last h ∙ ap (λ (k : ℕ). part w (equals + 1) k ∷ []) e)
+
+    pub no_size : length w ≤ end → size_of (part w (equals + 1) (length w)) ≡ None → is_entry w ≡ false
+    unfolding is_entry is_name_and_size
+    no_size h e = ap is_name_and_size (two h) ∙ size_none _ e
+
+    pub one_equals : {n : ℕ} → length w ≤ end → size_of (part w (equals + 1) (length w)) ≡ Some n → (is_entry w ≡ true) × (take equals w ≡ entry_name w) × (n ≡ entry_size w)
     unfolding is_entry is_name_and_size entry_name entry_size
     one_equals {n} h e =
-        let two = parts _ (q.last h) in
-        let small : n ≤ 65535 → size_of (part w (equals + 1) end) ≤ 65535 = subst (λ (k : ℕ). k ≤ 65535) e in
-        record {
-          within = p.within;
-          not = λ l. ap is_name_and_size two ∙ size_not (part w (equals + 1) end) (subst (λ (k : ℕ). 65535 < k) e l);
-          is = λ l. ap is_name_and_size two ∙ (size_is (part w (equals + 1) end) (small l)).0;
-          name = λ l. ap (λ (ps : List (List ℕ)). get_or ps 0 []) (sym two);
-          size = λ l. e ∙ (size_is (part w (equals + 1) end) (small l)).1 ∙ ap (λ (ps : List (List ℕ)). decimal 0 (get_or ps 1 [])) (sym two);
-        }
+        let s = size_some _ e in (
+          ap is_name_and_size (two h) ∙ s.0,
+          ap (λ (ps : List (List ℕ)). get_or ps 0 []) (sym (two h)),
+          s.1 ∙ ap (λ (ps : List (List ℕ)). decimal 0 (get_or ps 1 [])) (sym (two h)),
+        )
 
 -- `=` and a digit
 pub entry_long : (w : List ℕ) → is_entry w ≡ true → 2 ≤ length w
@@ -80,14 +73,14 @@ entry_long (a ∷ b ∷ w) e = omega arith
 
 -- ---- an entry stored
 
-module _ {w : List ℕ} {r : Entry} (E : EntryOf w r) where
-  pub store_none : (n : ℕ) (cells sizes cells' sizes' : List ℕ) → 65535 < r.size → EntryStored w n false cells sizes cells' sizes'
-  store_none n cells sizes cells' sizes' h = record { answer = sym (E.not h); cell = λ x. clash x refl; size = λ x. clash x refl }
+pub store_none : {w : List ℕ} (n : ℕ) (cells sizes cells' sizes' : List ℕ) → is_entry w ≡ false → EntryStored w n false cells sizes cells' sizes'
+store_none n cells sizes cells' sizes' e = record { answer = sym e; cell = λ x. clash x refl; size = λ x. clash x refl }
 
-  pub store_one : {n : ℕ} {cells cells' : List ℕ} (sizes : List ℕ) → r.size ≤ 65535 → cells' ≡ paste cells (n * 16) (cell_of (take r.name_end w)) 16 → EntryStored w n true cells sizes cells' (set sizes n r.size)
-  store_one {n} {cells} sizes h e =
-      record {
-        answer = sym (E.is h);
-        cell = λ _. e ∙ ap (λ (name : List ℕ). paste cells (n * 16) (cell_of name) 16) (E.name h);
-        size = λ _. ap (set sizes n) (E.size h);
-      }
+pub store_one : {w name : List ℕ} {n size : ℕ} {cells cells' : List ℕ} (sizes : List ℕ) → (is_entry w ≡ true) × (name ≡ entry_name w) × (size ≡ entry_size w) → cells' ≡ paste cells (n * 16) (cell_of name) 16
+    → EntryStored w n true cells sizes cells' (set sizes n size)
+store_one {n = n} {cells = cells} sizes E e =
+    record {
+      answer = sym E.0;
+      cell = λ _. e ∙ ap (λ (name : List ℕ). paste cells (n * 16) (cell_of name) 16) E.1;
+      size = λ _. ap (set sizes n) E.2;
+    }

@@ -2,17 +2,16 @@
 use Prim.Native.Nat.{ℕ, suc, ◌+◌, ◌-◌, ◌≤◌, ◌<◌}
 use native.Mathlib.Omega.{arith}
 use mathlib.Core.Bool.{Bool, true, false, true≢false, ◌&&◌}
-use mathlib.Core.List.{List, [], ◌∷◌, ◌++◌, append-nil}
+use mathlib.Core.List.{List, [], ◌∷◌}
 use mathlib.Core.Path.{◌≡◌, refl, sym, ◌∙◌, ap, ap₂, subst}
 use lib.Dec.{eqb, ltb}
-use lib.ListN.{length, get_or, take, drop, drop_of_length-le}
-use lib.Seq.{drop-cons, append_snoc}
+use lib.ListN.{length, get_or, take, drop, length-drop, drop_of_length-le}
+use lib.Seq.{drop-cons, take_all}
 use borrow.Author.Tests.{eq-eqb, ne_eqb, ltb-true, ltb-false}
 use Rattle.packet.proofs.Tests.{and_true}
 use Rattle.input.specs.Lines.{begins_lf, is_cr, onto, lines_of}
 use Rattle.input.specs.Input.{malformed, asked_by_lines}
-use Rattle.input.specs.Inner.{part, first_line, after_line, LineFrom, not_four, FourLines}
-use Rattle.input.specs.declared.lines.Four.{Four}
+use Rattle.input.specs.Inner.{part}
 
 pub and_false : (a : Bool) → a && false ≡ false
 and_false true = refl
@@ -33,6 +32,28 @@ unfolding is_cr begins_lf
 cr_end xs at b h = rw (drop_of_length-le xs {i = suc at} (omega arith)) (sym (and_false (eqb b 13)))
 
 -- ---- a line
+
+-- the first line of the bytes, without its end
+unfoldable pub first_line : List ℕ → List ℕ
+first_line [] = []
+first_line (b ∷ bs) =
+    elim (eqb b 10) [
+      | true ↦ []
+      | false ↦ elim (is_cr b bs) [ true ↦ [] | false ↦ b ∷ first_line bs ]
+    ]
+
+-- the bytes after the first line and its end
+unfoldable pub after_line : List ℕ → List ℕ
+after_line [] = []
+after_line (b ∷ bs) = elim (eqb b 10) [ true ↦ bs | false ↦ after_line bs ]
+
+-- the line that starts at a byte, and where the next one starts
+pub record LineFrom (input : List ℕ) (from end next : ℕ) : Type 0 where
+  pub low : from ≤ end
+  pub within : end ≤ length input
+  pub bounded : next ≤ length input
+  pub line : first_line (drop from input) ≡ part input from end
+  pub rest : after_line (drop from input) ≡ drop next input
 
 pub part_none : (xs : List ℕ) (at : ℕ) → part xs at at ≡ []
 part_none xs at = let e : at - at ≡ 0 = omega arith in rw e
@@ -124,7 +145,7 @@ passed_more input from at p h n e =
     let l : from ≤ at = p.low in
     record { low = omega arith; within = omega arith; line = λ end next q. p.line end next (line_more input at h end next n e q) }
 
--- ---- four lines
+-- ---- the lines
 
 -- the byte after a CR that belongs to a line end is LF
 cr_then : (b c : ℕ) (cs : List ℕ) → is_cr b (c ∷ cs) ≡ true → eqb c 10 ≡ true
@@ -150,94 +171,50 @@ lines_first b (c ∷ cs) = go (eqb b 10) refl (is_cr b (c ∷ cs)) refl (lines_f
     go false p true q e = rw (p, q, cr_then b c cs q, lines_of, first_line, after_line)
     go false p false q e = rw (p, q, lines_of, first_line, after_line) (ap (onto b) e)
 
--- these lines stand before a byte, and the others from it on
-pub record Before (input : List ℕ) (ls : List (List ℕ)) (next : ℕ) : Type 0 where
-  pub lines : lines_of input ≡ ls ++ lines_of (drop next input)
+-- the first line of some bytes, and the lines behind its end
+pub lines_at : (input : List ℕ) {end next : ℕ} → 0 < length input → LineFrom input 0 end next → lines_of input ≡ take end input ∷ lines_of (take (length input - next) (drop next input))
+lines_at [] h l = absurd (omega arith)
+lines_at (b ∷ bs) {end} {next} h l =
+    let front : end - 0 ≡ end = omega arith in
+    lines_first b bs
+    ∙ ap₂ (λ (x y : List ℕ). x ∷ lines_of y) l.line (l.rest ∙ sym (take_all (length (b ∷ bs) - next) (drop next (b ∷ bs)) (omega (arith, length-drop next (b ∷ bs)))))
+    ∙ ap (λ (n : ℕ). take n (b ∷ bs) ∷ lines_of (take (length (b ∷ bs) - next) (drop next (b ∷ bs)))) front
 
-module _ (input : List ℕ) where
-  lines_at : {from end next : ℕ} → from < length input → LineFrom input from end next → lines_of (drop from input) ≡ part input from end ∷ lines_of (drop next input)
-  lines_at {from} {end} {next} h l =
-      ap lines_of (drop-cons input from 0 h)
-      ∙ lines_first (get_or input from 0) (drop (suc from) input)
-      ∙ sym (ap (λ (xs : List ℕ). first_line xs ∷ lines_of (after_line xs)) (drop-cons input from 0 h))
-      ∙ ap₂ (λ (a b : List ℕ). a ∷ lines_of b) l.line l.rest
+-- a last line that nothing ends
+pub lines_end : (input : List ℕ) {end : ℕ} → 0 < length input → length input ≤ end → LineFrom input 0 end end → lines_of input ≡ input ∷ lines_of []
+lines_end input {end} h e l =
+    let none : length input - end ≡ 0 = omega arith in
+    lines_at input h l
+    ∙ ap₂ (λ (x : List ℕ) (n : ℕ). x ∷ lines_of (take n (drop end input))) (take_all end input e) none
 
-  lines_none : {from : ℕ} → length input ≤ from → lines_of (drop from input) ≡ []
-  unfolding lines_of
-  lines_none h = ap lines_of (drop_of_length-le input h)
+pub lines_none : (input : List ℕ) → length input ≡ 0 → lines_of input ≡ []
+unfolding lines_of
+lines_none [] h = refl
+lines_none (b ∷ bs) h = absurd (omega arith)
 
-  pub before_none : Before input [] 0
-  before_none = record { lines = refl }
+-- four lines and further bytes are not four
+pub five_lines : (a b c d rest : List ℕ) → 0 < length rest → asked_by_lines (a ∷ b ∷ c ∷ d ∷ lines_of rest) ≡ malformed
+unfolding asked_by_lines
+five_lines a b c d [] h = absurd (omega arith)
+five_lines a b c d (x ∷ xs) h = rw (lines_first x xs, asked_by_lines)
 
-  pub before_more : {ls : List (List ℕ)} {from end next : ℕ} → Before input ls from → from < length input → LineFrom input from end next → Before input (ls ++ (part input from end ∷ [])) next
-  before_more {ls} {from} {end} {next} q h l =
-      record {
-        lines = q.lines ∙ ap (λ (rest : List (List ℕ)). ls ++ rest) (lines_at h l) ∙ sym (append_snoc ls (part input from end) (lines_of (drop next input)));
-      }
+-- how many bytes the lines have
+abbrev pub bytes_in : List (List ℕ) → ℕ
+bytes_in [] = 0
+bytes_in (l ∷ ls) = length l + bytes_in ls
 
-  lines_are : {ls : List (List ℕ)} {next : ℕ} → Before input ls next → length input ≤ next → lines_of input ≡ ls
-  lines_are {ls} q h = q.lines ∙ ap (λ (rest : List (List ℕ)). ls ++ rest) (lines_none h) ∙ append-nil ls
+onto_more : (b : ℕ) (ls : List (List ℕ)) → bytes_in (onto b ls) ≡ suc (bytes_in ls)
+unfolding onto
+onto_more b [] = refl
+onto_more b (l ∷ ls) = omega arith
 
-  nothing : {r : Four} → r ≡ not_four → asked_by_lines (lines_of input) ≡ malformed → FourLines input r
-  nothing {r} is e =
-      subst (FourLines input) (sym is)
-      (record {
-        read = λ x. absurd (true≢false (sym x));
-        first_within = omega arith;
-        second_low = omega arith;
-        second_within = omega arith;
-        third_low = omega arith;
-        third_within = omega arith;
-        fourth_low = omega arith;
-        fourth_within = omega arith;
-        not = λ _. e;
-      })
-
-  fewer : (ls : List (List ℕ)) → length ls < 4 → asked_by_lines ls ≡ malformed
-  unfolding asked_by_lines
-  fewer [] h = refl
-  fewer (a ∷ []) h = refl
-  fewer (a ∷ b ∷ []) h = refl
-  fewer (a ∷ b ∷ c ∷ []) h = refl
-  fewer (a ∷ b ∷ c ∷ d ∷ ls) h = absurd (omega arith)
-
-  -- the input ends after fewer than four lines
-  pub four_fewer : {ls : List (List ℕ)} {next : ℕ} {r : Four} → Before input ls next → length input ≤ next → length ls < 4 → r ≡ not_four → FourLines input r
-  four_fewer {ls} q h few is = nothing is (ap asked_by_lines (lines_are q h) ∙ fewer ls few)
-
-  module _
-      {e₁ n₁ e₂ n₂ e₃ n₃ e₄ n₄ : ℕ}
-      (h₁ : 0 < length input)
-      (a : LineFrom input 0 e₁ n₁)
-      (h₂ : n₁ < length input)
-      (b : LineFrom input n₁ e₂ n₂)
-      (h₃ : n₂ < length input)
-      (c : LineFrom input n₂ e₃ n₃)
-      (h₄ : n₃ < length input)
-      (d : LineFrom input n₃ e₄ n₄)
-    where
-      four : Before input (part input 0 e₁ ∷ part input n₁ e₂ ∷ part input n₂ e₃ ∷ part input n₃ e₄ ∷ []) n₄
-      four = before_more (before_more (before_more (before_more before_none h₁ a) h₂ b) h₃ c) h₄ d
-
-      -- it goes on after the fourth
-      pub four_more : {r : Four} → n₄ < length input → r ≡ not_four → FourLines input r
-      unfolding asked_by_lines
-      four_more h is =
-          nothing is
-          (ap asked_by_lines
-          (four.lines
-          ∙ ap (λ (ls : List (List ℕ)). (part input 0 e₁ ∷ part input n₁ e₂ ∷ part input n₂ e₃ ∷ part input n₃ e₄ ∷ []) ++ ls) (ap lines_of (drop-cons input n₄ 0 h) ∙ lines_first (get_or input n₄ 0) (drop (suc n₄) input))))
-
-      pub four_are : length input ≤ n₄ → FourLines input (record { ok = true; first_end = e₁; second = n₁; second_end = e₂; third = n₂; third_end = e₃; fourth = n₃; fourth_end = e₄ })
-      four_are h =
-          record {
-            read = λ _. lines_are four h;
-            first_within = a.within;
-            second_low = b.low;
-            second_within = b.within;
-            third_low = c.low;
-            third_within = c.within;
-            fourth_low = d.low;
-            fourth_within = d.within;
-            not = λ x. absurd (true≢false x);
-          }
+-- no more than the input has
+pub lines_short : (input : List ℕ) → bytes_in (lines_of input) ≤ length input
+unfolding lines_of
+lines_short [] = omega arith
+lines_short (b ∷ bs) = go (eqb b 10) refl (is_cr b bs) refl (lines_short bs)
+  where
+    go : (x : Bool) → eqb b 10 ≡ x → (y : Bool) → is_cr b bs ≡ y → bytes_in (lines_of bs) ≤ length bs → bytes_in (lines_of (b ∷ bs)) ≤ suc (length bs)
+    go true p y q h = rw (p, lines_of) (omega arith)
+    go false p true q h = rw (p, q, lines_of) (omega arith)
+    go false p false q h = rw (p, q, lines_of) (omega (arith, onto_more b (lines_of bs)))

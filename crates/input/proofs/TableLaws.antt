@@ -12,7 +12,7 @@ use borrow.Author.Tests.{ltb-true, ltb-false}
 use Rattle.packet.proofs.Tests.{clash, and_true}
 use Rattle.input.specs.Input.{split_by, is_entry, entry_name, entry_size, entries_of, all_entries, is_table, cell_of, cells_of, sizes_of, table_of}
 use Rattle.input.specs.Inner.{part, PartFrom, EntryStored, read_as, TableRead}
-use Rattle.input.specs.declared.tables.Entries.TheVariants.{Read, Malformed}
+use Rattle.std.specs.Prelude.{Some, None}
 use Rattle.input.proofs.LineLaws.{and_false}
 use Rattle.input.proofs.CellLaws.{cell_length}
 use Rattle.input.proofs.EntryLaws.{entry_long}
@@ -92,7 +92,7 @@ none_read line cells sizes h =
     split (b ∷ bs) k = refl
 
 -- an empty line
-pub no_entries : (line cells sizes : List ℕ) → length line ≡ 0 → TableRead line (Read 0) cells sizes
+pub no_entries : (line cells sizes : List ℕ) → length line ≡ 0 → TableRead line (Some 0) cells sizes
 unfolding read_as is_table entries_of all_entries table_of cells_of sizes_of
 no_entries [] cells sizes h = record { answer = refl; few = λ _. omega arith; names = λ _. refl; values = λ _. refl }
 no_entries (b ∷ bs) cells sizes h = absurd (omega arith)
@@ -103,17 +103,17 @@ module _ {line cells sizes : List ℕ} {count at : ℕ} (s : SoFar line cells si
 
   module _ {end : ℕ} (p : PartFrom 44 line at end) {ok : Bool} {cells' sizes' : List ℕ} (r : EntryStored (part line at end) count ok cells sizes cells' sizes') where
     -- the part that starts here is no entry
-    pub not_entry : ok ≡ false → TableRead line Malformed cells' sizes'
+    pub not_entry : ok ≡ false → TableRead line None cells' sizes'
     unfolding read_as is_table
     not_entry h = go (ltb end (length line)) refl
       where
         bad : (ws : List (List ℕ)) → split_by 44 (drop at line) ≡ part line at end ∷ ws → all_entries (entries_of line) ≡ false
         bad ws e = ap all_entries (s.entries ∙ ap (λ (l : List (List ℕ)). s.before ++ l) e) ∙ all_refused s.before ws (part line at end) (sym r.answer ∙ h)
 
-        made : all_entries (entries_of line) ≡ false → TableRead line Malformed cells' sizes'
+        made : all_entries (entries_of line) ≡ false → TableRead line None cells' sizes'
         made e = record { answer = rw e; few = λ x. clash x e; names = λ x. clash x e; values = λ x. clash x e }
 
-        go : (b : Bool) → ltb end (length line) ≡ b → TableRead line Malformed cells' sizes'
+        go : (b : Bool) → ltb end (length line) ≡ b → TableRead line None cells' sizes'
         go true q = made (bad _ (p.more (ltb-true end (length line) q)))
         go false q = made (bad _ (p.last (ltb-false end (length line) q)))
 
@@ -145,7 +145,7 @@ module _ {line cells sizes : List ℕ} {count at : ℕ} (s : SoFar line cells si
             }
 
         -- the line ends after it
-        pub read_last : end ≡ length line → TableRead line (Read (count + 1)) cells' sizes'
+        pub read_last : end ≡ length line → TableRead line (Some (count + 1)) cells' sizes'
         unfolding read_as is_table table_of
         read_last l =
             let es : entries_of line ≡ s.before ++ (part line at end ∷ []) = s.entries ∙ ap (λ (x : List (List ℕ)). s.before ++ x) (p.last (omega arith)) in

@@ -2,55 +2,50 @@
 use Prim.Native.Nat.{ℕ, pred, ◌<◌, ◌≤◌}
 use mathlib.Core.Bool.{Bool}
 use mathlib.Core.List.{List, [], ◌∷◌, map}
-use mathlib.Core.Option.{Option, none, some}
-use mathlib.Core.Path.{◌≡◌, refl, sym, ap, ap₂, ◌∙◌}
+use Rattle.std.specs.Prelude.{Option, None, Some}
+use mathlib.Core.Path.{◌≡◌, refl, sym, ap, ap₂, subst, ◌∙◌}
 use native.Mathlib.Omega.{arith}
-use lib.ListN.{length, take, replicate, length-replicate}
+use lib.ListN.{length, take}
 use lib.Seq.{length-take-le}
-use borrow.Author.Tests.{ne_eqb, lt-ltb, le-ltb}
-use Rattle.packet.specs.Lowest.{or_at, lowest, option_of}
+use borrow.Author.Tests.{lt-ltb, le-ltb}
+use Rattle.packet.specs.Lowest.{or_at, lowest}
 use Rattle.packet.specs.Refusals.{refusal, refused_at, at_place, at_zero, first_refused}
-use Rattle.packet.specs.Sizes.{product, fields_stage, product_stage, CountOf, LegalSizes}
-use Rattle.packet.specs.declared.Counted.{Counted}
+use Rattle.packet.specs.Sizes.{product, fields_stage, product_stage, counted, packet_count, LegalSizes}
 use Rattle.packet.specs.declared.Refusal.{Refusal}
-use Rattle.packet.specs.declared.Tested.{Tested}
-use Rattle.packet.specs.declared.Tested.TheVariants.{Passed, Refused}
+use Rattle.packet.specs.Refusals.{Tested}
+use Rattle.std.specs.Prelude.{Result, Ok, Err}
 use Rattle.packet.proofs.Legal.{fields_legal, sizes_legal}
 use Rattle.packet.proofs.Lowest.{lowest_none}
 use Rattle.packet.proofs.Stages.{first_refused_last, first_refused_refused, first_refused_next, first_refused_nested, first_refused_append, first_refused_passed, refused_at_passed, at_place_none, refused≢passed}
-use Rattle.fields.specs.declared.Joint.{Joint}
 use Rattle.fields.specs.Tables.{Table, joint_sizes, tables_stage}
+use Rattle.fields.specs.declared.JointFields.{JointFields}
 use Rattle.fields.specs.Inner.{JointOf}
-use Rattle.legality.specs.declared.PolicyAnswer.TheVariants.{Legal as LegalPolicy, Refused as PolicyRefused}
-use Rattle.legality.specs.declared.PairAnswer.TheVariants.{Legal as LegalPair, Refused as PairRefused}
-use Rattle.legality.specs.declared.PolicyTested.{PolicyTested}
-use Rattle.legality.specs.declared.CallTested.{CallTested}
-use Rattle.tree_causes.specs.declared.DupCount.{DupCount}
-use Rattle.policy.specs.AsLists.{as_lists}
+use Rattle.legality.specs.declared.LegalCall.{LegalCall}
+use Rattle.mentions.specs.Noting.{CoreSizesOf}
+use Rattle.packet.proofs.Sizes.{counted_refused, counted_passed}
 use Rattle.policy.specs.InnerEach.{Each}
 use Rattle.policy.specs.NodeLists.{NodeLists, node_count, node_of, node_at, children, one, is_dup, dups_below}
 use Rattle.policy.specs.Legality.{bad_lengths, bad_kind, used, wrong_entries, bad_entries, some_not_below, bad_child, not_once, negates_other, bad_negation, too_many_dups, Legal}
 use Rattle.policy.specs.Mentions.{is_of_field, mentioned_below, mentioned, core_sizes}
-use Rattle.policy.specs.Order.{in_order, Cause, causes, Sided, sided, cause, policies_stage, pair_core, stages_of, policy_tests, pair_tests, one_or, place_among, cause_place}
+use Rattle.policy.specs.Order.{order, in_order, Cause, causes, Sided, sided, cause, policies_stage, pair_core, stages_of, policy_tests, pair_tests, one_or, place_among, cause_place}
 use Rattle.node_causes.specs.Lengths.{SameLengths}
-use Rattle.tree_causes.specs.Counting.{CountableChildren, DupCountOf}
-use Rattle.legality.specs.Answers.{policy_answer, pair_answer, policy_legality, pair_legality, nodes_stage, tree_stage, TestedAs, PolicyTestedAs, earlier_if, earlier, earlier_of, drop_nodes, FrontOf, CoreWherePassed}
+use Rattle.tree_causes.specs.Counting.{CountableChildren}
+use Rattle.legality.specs.Answers.{pair_answer, policy_legality, pair_legality, nodes_stage, tree_stage, earlier_if, earlier, earlier_of, both_legal, drop_nodes, front_tests, Told, FrontOf}
 use Rattle.policy.proofs.LegalityLaws.{Lengths, lengths, stage_passes}
 use Rattle.policy.proofs.MentionLaws.{core_same}
-use Rattle.mentions.specs.Noting.{CoreSizesOf}
-use Rattle.policy.proofs.OrderLaws.{Passing, passing, after_tables}
+use Rattle.policy.proofs.OrderLaws.{all_passing, tables_refused}
 
 -- ---- orders of tests within orders
 
 -- the first of two tests
 and_then : Tested → Tested → Tested
-and_then Passed u = u
-and_then (Refused r) u = Refused r
+and_then (Ok _) u = u
+and_then (Err r) u = Err r
 
 first_refused_more : (t : Tested) (ts : List Tested) → first_refused (t ∷ ts) ≡ and_then t (first_refused ts)
 unfolding first_refused and_then
-first_refused_more Passed ts = refl
-first_refused_more (Refused r) ts = refl
+first_refused_more (Ok _) ts = refl
+first_refused_more (Err r) ts = refl
 
 first_refused_two : (t u : Tested) → first_refused (t ∷ u ∷ []) ≡ and_then t u
 first_refused_two t u = first_refused_more t (u ∷ []) ∙ ap (and_then t) (first_refused_last u)
@@ -78,39 +73,39 @@ Rising n [] = Unit
 Rising n (c ∷ cs) = (n < cause_place c.0) × Rising (cause_place c.0) cs
 
 number_of : Tested → ℕ
-number_of Passed = 0
-number_of (Refused r) = r.number
+number_of (Ok _) = 0
+number_of (Err r) = r.number
 
 zero≢one : ◌≡◌ {A = ℕ} 0 1 → ⊥
 zero≢one z = omega arith
 
 -- a refusal comes from one of the causes
-later : (n : ℕ) (cs : List Cause) (side : ℕ) (L : NodeLists) → Rising n cs → (r : Refusal) → first_refused (alone side L cs) ≡ Refused r → n < cause_place r.number
+later : (n : ℕ) (cs : List Cause) (side : ℕ) (L : NodeLists) → Rising n cs → (r : Refusal) → first_refused (alone side L cs) ≡ Err r → n < cause_place r.number
 unfolding alone Rising first_refused refused_at refusal number_of
 later n [] side L h r e = absurd (refused≢passed (sym e))
 later n (c ∷ cs) side L h r e = go (c.1 L) e (later (cause_place c.0) cs side L h.1 r)
   where
-    go : (o : Option ℕ) → first_refused (refused_at c.0 side o ∷ alone side L cs) ≡ Refused r → (first_refused (alone side L cs) ≡ Refused r → cause_place c.0 < cause_place r.number)
+    go : (o : Option ℕ) → first_refused (refused_at c.0 side o ∷ alone side L cs) ≡ Err r → (first_refused (alone side L cs) ≡ Err r → cause_place c.0 < cause_place r.number)
         → n < cause_place r.number
-    go none f rec = omega (arith, rec f, h.0)
-    go (some i) f rec = let same : cause_place c.0 ≡ cause_place r.number = ap (λ (t : Tested). cause_place (number_of t)) f in omega (arith, same, h.0)
+    go None f rec = omega (arith, rec f, h.0)
+    go (Some i) f rec = let same : cause_place c.0 ≡ cause_place r.number = ap (λ (t : Tested). cause_place (number_of t)) f in omega (arith, same, h.0)
 
 module _ (n a b : ℕ) where
   -- it refuses after the cause n or not at all
   After : Tested → Type 0
-  After t = (r : Refusal) → t ≡ Refused r → cause_place n < cause_place r.number
+  After t = (r : Refusal) → t ≡ Err r → cause_place n < cause_place r.number
 
-  left_first : (i : ℕ) (v : Tested) → After v → Refused (refusal n a i) ≡ earlier_of (Refused (refusal n a i)) v
+  left_first : (i : ℕ) (v : Tested) → After v → Err (refusal n a i) ≡ earlier_of (Err (refusal n a i)) v
   unfolding earlier_of earlier earlier_if refusal After
-  left_first i Passed h = refl
-  left_first i (Refused q) h = rw (le-ltb (cause_place q.number) (cause_place n) (omega (arith, h q refl)))
+  left_first i (Ok _) h = refl
+  left_first i (Err q) h = rw (le-ltb (cause_place q.number) (cause_place n) (omega (arith, h q refl)))
 
-  right_first : (j : ℕ) (u : Tested) → After u → Refused (refusal n b j) ≡ earlier_of u (Refused (refusal n b j))
+  right_first : (j : ℕ) (u : Tested) → After u → Err (refusal n b j) ≡ earlier_of u (Err (refusal n b j))
   unfolding earlier_of earlier earlier_if refusal After
-  right_first j Passed h = refl
-  right_first j (Refused p) h = rw (lt-ltb (cause_place n) (cause_place p.number) (h p refl))
+  right_first j (Ok _) h = refl
+  right_first j (Err p) h = rw (lt-ltb (cause_place n) (cause_place p.number) (h p refl))
 
-  same_cause : (i j : ℕ) → Refused (refusal n a i) ≡ earlier_of (Refused (refusal n a i)) (Refused (refusal n b j))
+  same_cause : (i j : ℕ) → Err (refusal n a i) ≡ earlier_of (Err (refusal n a i)) (Err (refusal n b j))
   unfolding earlier_of earlier earlier_if refusal
   same_cause i j = rw (le-ltb (cause_place n) (cause_place n) (omega arith))
 
@@ -118,10 +113,10 @@ module _ (n a b : ℕ) where
   step : (x y : Option ℕ) (u v : Tested) → After u → After v
       → and_then (and_then (refused_at n a x) (refused_at n b y)) (earlier_of u v) ≡ earlier_of (and_then (refused_at n a x) u) (and_then (refused_at n b y) v)
   unfolding and_then refused_at earlier_of
-  step none none u v h k = refl
-  step none (some j) u v h k = right_first j u h
-  step (some i) none u v h k = left_first i v k
-  step (some i) (some j) u v h k = same_cause i j
+  step None None u v h k = refl
+  step None (Some j) u v h k = right_first j u h
+  step (Some i) None u v h k = left_first i v k
+  step (Some i) (Some j) u v h k = same_cause i j
 
 two_policies : (n a b : ℕ) (L R : NodeLists) (cs : List Cause) → Rising n cs
     → first_refused (together (sided a L ∷ sided b R ∷ []) cs) ≡ earlier_of (first_refused (alone a L cs)) (first_refused (alone b R cs))
@@ -152,47 +147,16 @@ stage_two sizes a b L R =
     ∙ two_policies 0 a b L R (causes sizes) (rising sizes)
     ∙ sym (ap₂ earlier_of (stage_together sizes _ ∙ one_policy a L (causes sizes)) (stage_together sizes _ ∙ one_policy b R (causes sizes)))
 
-pub left_passed : {l r : Tested} → l ≡ Passed → r ≡ earlier_of l r
-unfolding earlier_of
-left_passed {r = r} e = sym (ap (λ (t : Tested). earlier_of t r) e)
-
-module _ {l r : Tested} (p q : Refusal) (e : l ≡ Refused p) (f : r ≡ Refused q) where
-  -- m and n are the places of the causes
-  pub right_earlier : {m n : ℕ} → m ≡ cause_place q.number → n ≡ cause_place p.number → m < n → Refused q ≡ earlier_of l r
-  unfolding earlier_of earlier earlier_if
-  right_earlier a b h =
-      sym (ap₂ earlier_of e f ∙ ap (λ (x : Bool). Refused (earlier_if x p q)) (lt-ltb (cause_place q.number) (cause_place p.number) (omega (arith, a, b, h))))
-
-  pub left_earlier : {m n : ℕ} → m ≡ cause_place q.number → n ≡ cause_place p.number → n ≤ m → Refused p ≡ earlier_of l r
-  unfolding earlier_of earlier earlier_if
-  left_earlier a b h =
-      sym (ap₂ earlier_of e f ∙ ap (λ (x : Bool). Refused (earlier_if x p q)) (le-ltb (cause_place q.number) (cause_place p.number) (omega (arith, a, b, h))))
-
-both_passed : (t u : Tested) → earlier_of t u ≡ Passed → (t ≡ Passed) × (u ≡ Passed)
-unfolding earlier_of
-both_passed Passed u e = (refl, e)
-both_passed (Refused p) Passed e = absurd (refused≢passed e)
-both_passed (Refused p) (Refused q) e = absurd (refused≢passed e)
-
-pub place_of : (k n : ℕ) → n ≡ k → cause_place k ≡ cause_place n
-place_of k n e = sym (ap cause_place e)
-
--- a number that is none of the list's
-pub no_place : (n : ℕ) → (((((((Unit {0} × (n ≡ 4 → ⊥)) × (n ≡ 5 → ⊥)) × (n ≡ 6 → ⊥)) × (n ≡ 7 → ⊥)) × (n ≡ 8 → ⊥)) × (n ≡ 19 → ⊥)) × (n ≡ 9 → ⊥)) → 8 ≡ cause_place n
-unfolding cause_place causes place_among one_or
-no_place n h =
-    rw (ne_eqb n 4 h.0.0.0.0.0.0.1, ne_eqb n 5 h.0.0.0.0.0.1, ne_eqb n 6 h.0.0.0.0.1, ne_eqb n 7 h.0.0.0.1, ne_eqb n 8 h.0.0.1, ne_eqb n 19 h.0.1, ne_eqb n 9 h.1) refl
-
 -- ---- one policy, by causes that need the ones before
 
 module _ (side : ℕ) (L : NodeLists) where
   abbrev lengths_test : Tested
   lengths_test = refused_at 4 side (at_zero (bad_lengths L))
 
-  lengths_known : lengths_test ≡ Passed → Lengths L
+  lengths_known : lengths_test ≡ Ok tt → Lengths L
   lengths_known e = (lengths L).0 (at_place_none 0 (bad_lengths L) (refused_at_passed 4 side _ e))
 
-  pub same_lengths : lengths_test ≡ Passed → SameLengths L
+  pub same_lengths : lengths_test ≡ Ok tt → SameLengths L
   same_lengths e = let n = lengths_known e in record { firsts = n.first; seconds = n.second }
 
   -- cause 4 as it was tested
@@ -207,16 +171,16 @@ module _ (sizes : List ℕ) (side : ℕ) (L : NodeLists) where
       ∙ one_policy side L (causes sizes)
       ∙ sym (first_refused_nested _ _ ∙ first_refused_more _ _ ∙ ap (and_then (lengths_test side L)) (first_refused_nested _ _ ∙ sym (first_refused_append _ _)) ∙ sym (first_refused_more _ _))
 
-  pub lengths_refused : (r : Refusal) → lengths_test side L ≡ Refused r → policies_stage sizes (sided side L ∷ []) ≡ Refused r
+  pub lengths_refused : (r : Refusal) → lengths_test side L ≡ Err r → policies_stage sizes (sided side L ∷ []) ≡ Err r
   lengths_refused r e = stage_parts ∙ first_refused_refused _ _ r e
 
-  pub nodes_refused : (r : Refusal) → lengths_test side L ≡ Passed → nodes_stage sizes side L ≡ Refused r → policies_stage sizes (sided side L ∷ []) ≡ Refused r
+  pub nodes_refused : (r : Refusal) → lengths_test side L ≡ Ok tt → nodes_stage sizes side L ≡ Err r → policies_stage sizes (sided side L ∷ []) ≡ Err r
   nodes_refused r e f = stage_parts ∙ first_refused_next _ _ e ∙ first_refused_last _ ∙ first_refused_refused _ _ r f
 
-  pub nodes_passed : lengths_test side L ≡ Passed → nodes_stage sizes side L ≡ Passed → policies_stage sizes (sided side L ∷ []) ≡ tree_stage side L
+  pub nodes_passed : lengths_test side L ≡ Ok tt → nodes_stage sizes side L ≡ Ok tt → policies_stage sizes (sided side L ∷ []) ≡ tree_stage side L
   nodes_passed e f = stage_parts ∙ first_refused_next _ _ e ∙ first_refused_last _ ∙ first_refused_next _ _ f ∙ first_refused_last _
 
-  pub countable_children : lengths_test side L ≡ Passed → nodes_stage sizes side L ≡ Passed → CountableChildren L
+  pub countable_children : lengths_test side L ≡ Ok tt → nodes_stage sizes side L ≡ Ok tt → CountableChildren L
   unfolding nodes_stage
   countable_children e f = record {
     firsts = (lengths_known side L e).first;
@@ -226,147 +190,149 @@ module _ (sizes : List ℕ) (side : ℕ) (L : NodeLists) where
         (refused_at_passed 7 side _ (first_refused_passed _ _ (first_refused_passed _ _ (first_refused_passed _ _ f).1).1).0);
   }
 
-  -- the dups count only where the causes pass
-  refused_as : (r : Refusal) (n : ℕ) → policies_stage sizes (sided side L ∷ []) ≡ Refused r → PolicyTestedAs sizes side L (record { tested = Refused r; dups = n })
-  refused_as r n e = record { tested = sym e; counts = λ p. absurd (refused≢passed (sym e ∙ p)) }
+-- the refusal that comes first
+pub right_earlier : (p q : Refusal) {m n : ℕ} → m ≡ cause_place q.number → n ≡ cause_place p.number → m < n → q ≡ earlier p q
+unfolding earlier earlier_if
+right_earlier p q a b h = sym (ap (λ (x : Bool). earlier_if x p q) (lt-ltb (cause_place q.number) (cause_place p.number) (omega (arith, a, b, h))))
 
-  pub lengths_answer : (r : Refusal) (n : ℕ) → lengths_test side L ≡ Refused r → PolicyTestedAs sizes side L (record { tested = Refused r; dups = n })
-  lengths_answer r n e = refused_as r n (lengths_refused r e)
+pub left_earlier : (p q : Refusal) {m n : ℕ} → m ≡ cause_place q.number → n ≡ cause_place p.number → n ≤ m → p ≡ earlier p q
+unfolding earlier earlier_if
+left_earlier p q a b h = sym (ap (λ (x : Bool). earlier_if x p q) (le-ltb (cause_place q.number) (cause_place p.number) (omega (arith, a, b, h))))
 
-  pub nodes_answer : (r : Refusal) (n : ℕ) → lengths_test side L ≡ Passed → nodes_stage sizes side L ≡ Refused r → PolicyTestedAs sizes side L (record { tested = Refused r; dups = n })
-  nodes_answer r n e f = refused_as r n (nodes_refused r e f)
+-- ---- causes 8, 19 and 9, where 8 and 19 pass
 
-  pub tree_answer : {q : PolicyTested} → lengths_test side L ≡ Passed → nodes_stage sizes side L ≡ Passed → TestedAs (tree_stage side L) (dups_below L (node_count L)) q
-      → PolicyTestedAs sizes side L q
-  tree_answer e f g = let same = nodes_passed e f in record { tested = g.tested ∙ sym same; counts = λ p. g.counts (sym same ∙ p) }
+module _ (side : ℕ) (L : NodeLists) (once : refused_at 8 side (lowest (not_once L) (pred (node_count L))) ≡ Ok tt) (negation : refused_at 19 side (lowest (bad_negation L) (node_count L)) ≡ Ok tt) where
+  tree_nine : tree_stage side L ≡ refused_at 9 side (lowest (too_many_dups L) (node_count L))
+  unfolding tree_stage
+  tree_nine = first_refused_next _ _ once ∙ first_refused_next _ _ negation ∙ first_refused_last _
 
--- causes 5 to 7, cause by cause
-pub nodes_joined : (sizes kind first second : List ℕ) (side : ℕ) {k e b i r : Tested} {x y z : Option ℕ}
-    → k ≡ refused_at 5 side x → x ≡ lowest (bad_kind (as_lists kind [] [])) (length kind)
-    → e ≡ refused_at 6 side y → y ≡ lowest (bad_entries sizes (as_lists kind first second)) (length kind)
-    → b ≡ refused_at 7 side z → z ≡ lowest (bad_child (as_lists kind first second)) (length kind)
-    → i ≡ first_refused (e ∷ b ∷ []) → r ≡ first_refused (k ∷ i ∷ []) → r ≡ nodes_stage sizes side (as_lists kind first second)
-unfolding nodes_stage bad_kind node_count
-nodes_joined sizes kind first second side {k} {e} {b} kinds kind_at entries entry_at below below_at inner outer =
-    outer
-    ∙ ap (λ (i : Tested). first_refused (k ∷ i ∷ [])) inner
-    ∙ first_refused_nested k (e ∷ b ∷ [])
-    ∙ ap (λ (k : Tested). first_refused (k ∷ e ∷ b ∷ [])) (kinds ∙ ap (refused_at 5 side) kind_at)
-    ∙ ap₂ (λ (e b : Tested). first_refused (refused_at 5 side (lowest (bad_kind (as_lists kind first second)) (length kind)) ∷ e ∷ b ∷ []))
-    (entries ∙ ap (refused_at 6 side) entry_at) (below ∙ ap (refused_at 7 side) below_at)
+  pub tree_passes : {n : ℕ} → lowest (too_many_dups L) (node_count L) ≡ None → n ≡ dups_below L (node_count L) → Ok n ≡ counted (tree_stage side L) (dups_below L (node_count L))
+  unfolding counted refused_at
+  tree_passes e f = ap Ok f ∙ sym (ap (λ (t : Tested). counted t (dups_below L (node_count L))) (tree_nine ∙ ap (refused_at 9 side) e))
 
--- causes 8, 19 and 9, with the number of dups
-module _ (kind first second : List ℕ) (side : ℕ) {o g n i t : Tested} {x y : Option ℕ} (d : DupCount)
-    (once : o ≡ refused_at 8 side x) (once-at : x ≡ lowest (not_once (as_lists kind first second)) (pred (length kind)))
-    (negation : g ≡ refused_at 19 side y) (negation-at : y ≡ lowest (bad_negation (as_lists kind first second)) (length kind))
-    (counted : DupCountOf kind d) (extra : n ≡ refused_at 9 side (option_of d.extra)) (inner : i ≡ first_refused (g ∷ n ∷ [])) (outer : t ≡ first_refused (o ∷ i ∷ [])) where
-  joined : t ≡ first_refused (o ∷ g ∷ n ∷ [])
-  joined = outer ∙ ap (λ (i : Tested). first_refused (o ∷ i ∷ [])) inner ∙ first_refused_nested o (g ∷ n ∷ [])
+  pub tree_refused : {i : ℕ} → lowest (too_many_dups L) (node_count L) ≡ Some i → Err (refusal 9 side i) ≡ counted (tree_stage side L) (dups_below L (node_count L))
+  unfolding counted refused_at
+  tree_refused e = sym (ap (λ (t : Tested). counted t (dups_below L (node_count L))) (tree_nine ∙ ap (refused_at 9 side) e))
 
-  tree_joined : t ≡ tree_stage side (as_lists kind first second)
-  unfolding tree_stage node_count
-  tree_joined =
-      joined
-      ∙ ap (λ (o : Tested). first_refused (o ∷ g ∷ n ∷ [])) (once ∙ ap (refused_at 8 side) once-at)
-      ∙ ap₂ (λ (g n : Tested). first_refused (refused_at 8 side (lowest (not_once (as_lists kind first second)) (pred (length kind))) ∷ g ∷ n ∷ [])) (negation ∙ ap (refused_at 19 side) negation-at) (extra ∙ ap (refused_at 9 side) (counted.place first second))
+-- ---- what both policies say
 
-  pub tree_as : TestedAs (tree_stage side (as_lists kind first second)) (dups_below (as_lists kind first second) (length kind)) (record { tested = t; dups = d.count })
-  tree_as = record {
-    tested = tree_joined;
-    counts = λ p.
-        let passed = first_refused_passed _ _ (sym joined ∙ tree_joined ∙ p) in
-        counted.count (refused_at_passed 9 side _ (sym extra ∙ (first_refused_passed _ _ (first_refused_passed _ _ passed.1).1).0)) first second;
-  }
+-- what two policies' tests say together, with so many dups each
+abbrev pub BothSay : Tested → Tested → ℕ → ℕ → Result (ℕ × ℕ) Refusal → Type 0
+BothSay t u m n (Ok d) = (earlier_of t u ≡ Ok tt) × ((d.0 ≡ m) × (d.1 ≡ n))
+BothSay t u m n (Err q) = earlier_of t u ≡ Err q
+
+both_say : (t u : Tested) (m n : ℕ) → BothSay t u m n (both_legal (counted t m) (counted u n))
+unfolding both_legal counted earlier_of
+both_say (Ok _) (Ok _) m n = (refl, (refl, refl))
+both_say (Ok _) (Err q) m n = refl
+both_say (Err p) (Ok _) m n = refl
+both_say (Err p) (Err q) m n = refl
+
+pub both_said : (t u : Tested) (m n : ℕ) {l r : Result ℕ Refusal} {p : Result (ℕ × ℕ) Refusal} → l ≡ counted t m → r ≡ counted u n → p ≡ both_legal l r → (v : Result (ℕ × ℕ) Refusal) → p ≡ v → BothSay t u m n v
+both_said t u m n e f g v h = subst (BothSay t u m n) (sym (ap₂ both_legal e f) ∙ sym g ∙ h) (both_say t u m n)
 
 -- ---- the calls
 
--- the sizes of the joint fields, as they were joined
-pub few_taken : (ts : List Table) (J : Joint) → JointOf ts J → length (take J.count J.sizes) ≤ 8
-few_taken ts J joint = omega (arith, length-take-le J.count J.sizes (omega (arith, joint.few, joint.space)), joint.few)
-
-legal_lengths : {sizes : List ℕ} {L : NodeLists} → Legal sizes L → SameLengths L
-legal_lengths g = record { firsts = g.well_formed.firsts; seconds = g.well_formed.seconds }
-
--- the policies as they were tested, over any sizes
-module _ (sizes : List ℕ) (side : ℕ) (L R : NodeLists) {a b : PolicyTested} (left : PolicyTestedAs sizes side L a) (right : PolicyTestedAs sizes 2 R b) {p : Tested} (both : p ≡ earlier_of a.tested b.tested) where
-  two_tested : p ≡ policies_stage sizes (sided side L ∷ sided 2 R ∷ [])
-  two_tested = both ∙ ap₂ earlier_of left.tested right.tested ∙ sym (stage_two sizes side 2 L R)
-
-  pub both_lengths : p ≡ Passed → SameLengths L × SameLengths R
-  unfolding Each
-  both_lengths e = let g = (stage_passes sizes _).0 (sym two_tested ∙ e) in (legal_lengths g.0, legal_lengths g.1.0)
-
--- the core sizes where the policies pass
-pub core_passed : (policies : Tested) (sizes leftKind leftFirst leftSecond rightKind rightFirst rightSecond core : List ℕ) → CoreSizesOf sizes leftKind leftFirst rightKind rightFirst core
-    → CoreWherePassed policies (as_lists leftKind leftFirst leftSecond) (as_lists rightKind rightFirst rightSecond) sizes core
-core_passed policies sizes leftKind leftFirst leftSecond rightKind rightFirst rightSecond core h = record { room = h.room; sizes_of_core = λ _. h.sizes_of_core leftSecond rightSecond }
-
-pub core_refused : (policies : Tested) {r : Refusal} (L R : NodeLists) (sizes : List ℕ) → policies ≡ Refused r → CoreWherePassed policies L R sizes (replicate 8 1)
-core_refused policies L R sizes e = record { room = length-replicate {A = ℕ} 8 1; sizes_of_core = λ p. absurd (refused≢passed (sym e ∙ p)) }
-
--- the tests as they were made
-module _ (ts : List Table) (side : ℕ) (L R : NodeLists) (lists : Tested) {J : Joint} (joint : JointOf ts J)
-    {a b : PolicyTested} (left : PolicyTestedAs (take J.count J.sizes) side L a) (right : PolicyTestedAs (take J.count J.sizes) 2 R b)
-    {p t : Tested} (both : p ≡ earlier_of a.tested b.tested) (core : List ℕ) (where-passed : CoreWherePassed p L R (take J.count J.sizes) core) {c : Counted} (counted : CountOf (take J.count core) c)
-    (made : t ≡ in_order (record { fields = J.tested; texts = Passed; policies = p; product = c.tested; lists = lists; packets = Passed })) where
+-- the tests of a call, stage by stage
+module _ (ts : List Table) (side : ℕ) (L R : NodeLists) (lists : Tested) where
   abbrev policies : List Sided
   policies = sided side L ∷ sided 2 R ∷ []
 
-  long : length (take J.count J.sizes) ≡ J.count
-  long = length-take-le J.count J.sizes (omega (arith, joint.few, joint.space))
+  -- both policies' causes over the joint sizes
+  pub joined_stage : {sizes : List ℕ} → sizes ≡ joint_sizes ts → earlier_of (policies_stage sizes (sided side L ∷ [])) (policies_stage sizes (sided 2 R ∷ [])) ≡ policies_stage (joint_sizes ts) (sided side L ∷ sided 2 R ∷ [])
+  joined_stage e = ap (λ (s : List ℕ). earlier_of (policies_stage s (sided side L ∷ [])) (policies_stage s (sided 2 R ∷ []))) e ∙ sym (stage_two (joint_sizes ts) side 2 L R)
 
-  core_is : J.tested ≡ Passed → p ≡ Passed → take J.count core ≡ pair_core ts L R
-  core_is e f =
-      ap (λ n. take n core) (sym long)
-      ∙ where-passed.sizes_of_core f
-      ∙ ap (core_sizes (L ∷ R ∷ [])) (joint.sized e)
+  pub fields_refused : {r : Refusal} → tables_stage ts ≡ Err r → front_tests ts side L R lists ≡ Err r
+  fields_refused e = tables_refused ts (Ok tt) policies lists (Ok tt) e
 
-  front_made : t ≡ in_order (stages_of ts Passed policies lists Passed)
-  front_made =
-      made
-      ∙ after_tables ts Passed policies lists Passed joint.tested (λ e. two_tested _ side L R left right both ∙ ap (λ (s : List ℕ). policies_stage s policies) (joint.sized e))
-      (λ e f. counted.says ∙ ap product_stage (core_is e f))
+  module _ (e : tables_stage ts ≡ Ok tt) where
+    pub policies_refused : {r : Refusal} → policies_stage (joint_sizes ts) (sided side L ∷ sided 2 R ∷ []) ≡ Err r → front_tests ts side L R lists ≡ Err r
+    unfolding in_order order stages_of
+    policies_refused f = first_refused_next _ _ e ∙ first_refused_next _ _ refl ∙ first_refused_refused _ _ _ f
 
-  module _ (e : t ≡ Passed) where
-    all_pass : Passing ts Passed policies lists Passed
-    all_pass = passing _ _ _ _ _ (sym front_made ∙ e)
+    module _ (f : policies_stage (joint_sizes ts) (sided side L ∷ sided 2 R ∷ []) ≡ Ok tt) where
+      pub product_refused : {r : Refusal} → product_stage (pair_core ts L R) ≡ Err r → front_tests ts side L R lists ≡ Err r
+      unfolding in_order order stages_of
+      product_refused g = first_refused_next _ _ e ∙ first_refused_next _ _ refl ∙ first_refused_next _ _ f ∙ first_refused_refused _ _ _ g
 
-    tables_pass : J.tested ≡ Passed
-    tables_pass = joint.tested ∙ all_pass.fields
+      module _ (g : product_stage (pair_core ts L R) ≡ Ok tt) where
+        pub lists_refused : {r : Refusal} → lists ≡ Err r → front_tests ts side L R lists ≡ Err r
+        unfolding in_order order stages_of
+        lists_refused h = first_refused_next _ _ e ∙ first_refused_next _ _ refl ∙ first_refused_next _ _ f ∙ first_refused_next _ _ g ∙ first_refused_refused _ _ _ h
 
-    sizes_are : take J.count J.sizes ≡ joint_sizes ts
-    sizes_are = joint.sized tables_pass
+        pub none_refuses : lists ≡ Ok tt → front_tests ts side L R lists ≡ Ok tt
+        none_refuses h =
+            all_passing ts (Ok tt) policies lists (Ok tt) (record { fields = e; texts_pass = refl; policies_pass = f; product = g; lists_pass = h; packets_pass = refl })
 
-    policies_pass : p ≡ Passed
-    policies_pass = two_tested _ side L R left right both ∙ ap (λ (s : List ℕ). policies_stage s policies) sizes_are ∙ all_pass.policies_pass
+-- the front as it is worked out: the joint fields, what each policy's causes say over them, and the core sizes
+module _ (ts : List Table) (side : ℕ) (L R : NodeLists) (lists : Tested) (J : JointFields) (joint : JointOf ts (Ok J)) {l r : Result ℕ Refusal} {p : Result (ℕ × ℕ) Refusal}
+    (left : l ≡ counted (policies_stage (take J.count J.sizes) (sided side L ∷ [])) (dups_below L (node_count L)))
+    (right : r ≡ counted (policies_stage (take J.count J.sizes) (sided 2 R ∷ [])) (dups_below R (node_count R)))
+    (both : p ≡ both_legal l r) where
+  pub few_taken : length (take J.count J.sizes) ≤ 8
+  few_taken = omega (arith, length-take-le J.count J.sizes (omega (arith, joint.1.few, joint.1.space)), joint.1.few)
 
-    sizes_of_core_are : take J.count core ≡ pair_core ts L R
-    sizes_of_core_are = core_is tables_pass policies_pass
+  pub front_policies : {q : Refusal} → p ≡ Err q → front_tests ts side L R lists ≡ Err q
+  front_policies {q} e =
+      policies_refused ts side L R lists joint.0
+      (sym (joined_stage ts side L R lists joint.1.sized) ∙ both_said _ _ (dups_below L (node_count L)) (dups_below R (node_count R)) left right both (Err q) e)
 
-    each_passed : (policies_stage (take J.count J.sizes) (sided side L ∷ []) ≡ Passed) × (policies_stage (take J.count J.sizes) (sided 2 R ∷ []) ≡ Passed)
-    each_passed = both_passed _ _ (sym (ap₂ earlier_of left.tested right.tested) ∙ sym both ∙ policies_pass)
+  module _ (d : ℕ × ℕ) (e : p ≡ Ok d) where
+    said : (earlier_of (policies_stage (take J.count J.sizes) (sided side L ∷ [])) (policies_stage (take J.count J.sizes) (sided 2 R ∷ [])) ≡ Ok tt)
+        × ((d.0 ≡ dups_below L (node_count L)) × (d.1 ≡ dups_below R (node_count R)))
+    said = both_said _ _ _ _ left right both (Ok d) e
 
-  pub is_front : FrontOf ts side L R lists (record { tested = t; count = J.count; sizes = J.sizes; core = core; packets = c.packets; left_dups = a.dups; right_dups = b.dups })
-  is_front = record {
-    tested = front_made;
-    few = (omega (arith, joint.few, joint.space), omega (arith, joint.few, where-passed.room));
-    joint = sizes_are;
-    core = sizes_of_core_are;
-    packets = λ e. counted.counts (ap product_stage (sizes_of_core_are e) ∙ (all_pass e).product) ∙ ap product (sizes_of_core_are e);
-    left_dups_lem = λ e. left.counts (each_passed e).0;
-    right_dups_lem = λ e. right.counts (each_passed e).1;
-  }
+    passed : policies_stage (joint_sizes ts) (sided side L ∷ sided 2 R ∷ []) ≡ Ok tt
+    passed = sym (joined_stage ts side L R lists joint.1.sized) ∙ said.0
+
+    module _ {core : List ℕ} (worked : CoreSizesOf (take J.count J.sizes) L R core) where
+      core_is : take J.count core ≡ pair_core ts L R
+      unfolding Each node_count
+      core_is =
+          let g = (stage_passes (joint_sizes ts) (sided side L ∷ sided 2 R ∷ [])).0 passed in
+          let long : length (take J.count J.sizes) ≡ J.count = length-take-le J.count J.sizes (omega (arith, joint.1.few, joint.1.space)) in
+          ap (λ n. take n core) (sym long) ∙ worked.sizes_of_core g.0.well_formed.firsts g.1.0.well_formed.firsts L.second R.second ∙ ap (core_sizes (L ∷ R ∷ [])) joint.1.sized
+
+      module _ {n : Result ℕ Refusal} (counts : n ≡ packet_count (take J.count core)) where
+        pub front_product : {q : Refusal} → n ≡ Err q → front_tests ts side L R lists ≡ Err q
+        unfolding packet_count
+        front_product f = product_refused ts side L R lists joint.0 passed (ap product_stage (sym core_is) ∙ counted_refused _ _ (sym counts ∙ f))
+
+        module _ (N : ℕ) (f : n ≡ Ok N) where
+          product_passes : (product_stage (take J.count core) ≡ Ok tt) × (N ≡ product (take J.count core))
+          unfolding packet_count
+          product_passes = counted_passed _ (sym counts ∙ f)
+
+          pub front_lists : {q : Refusal} → lists ≡ Err q → front_tests ts side L R lists ≡ Err q
+          front_lists g = lists_refused ts side L R lists joint.0 passed (ap product_stage (sym core_is) ∙ product_passes.0) g
+
+          pub front_told : lists ≡ Ok tt → (front_tests ts side L R lists ≡ Ok tt) × Told ts L R (record { count = J.count; sizes = J.sizes; core = core; packets = N; left_dups = d.0; right_dups = d.1 })
+          front_told g = (
+            none_refuses ts side L R lists joint.0 passed (ap product_stage (sym core_is) ∙ product_passes.0) g,
+            record {
+              few = (omega (arith, joint.1.few, joint.1.space), omega (arith, joint.1.few, worked.room));
+              joint = joint.1.sized;
+              core = core_is;
+              packets = product_passes.1 ∙ ap product core_is;
+              left_dups = said.1.0;
+              right_dups = said.1.1;
+            },
+          )
+
+-- an answer that refuses
+pub front_refused : (ts : List Table) (side : ℕ) (L R : NodeLists) (lists : Tested) {q : Refusal} (a : Result LegalCall Refusal) → a ≡ Err q → front_tests ts side L R lists ≡ Err q → FrontOf ts side L R lists a
+front_refused ts side L R lists a e f = subst (FrontOf ts side L R lists) (sym e) f
 
 -- ---- drop for a policy that a call lacks
 
-drop_passes : (sizes : List ℕ) (side : ℕ) → policies_stage sizes (sided side drop_nodes ∷ []) ≡ Passed
+drop_passes : (sizes : List ℕ) (side : ℕ) → policies_stage sizes (sided side drop_nodes ∷ []) ≡ Ok tt
 unfolding policies_stage causes cause first_refused refused_at at_place lowest bad_lengths bad_kind bad_entries wrong_entries used bad_child some_not_below children node_at node_of node_count not_once bad_negation too_many_dups or_at negates_other dups_below one is_dup
 drop_passes sizes side = refl
 
-earlier_passed : (t : Tested) → earlier_of t Passed ≡ t
+earlier_passed : (t : Tested) → earlier_of t (Ok tt) ≡ t
 unfolding earlier_of
-earlier_passed Passed = refl
-earlier_passed (Refused r) = refl
+earlier_passed (Ok _) = refl
+earlier_passed (Err r) = refl
 
 with_drop : (sizes : List ℕ) (side : ℕ) (L : NodeLists) → policies_stage sizes (sided side L ∷ sided 2 drop_nodes ∷ []) ≡ policies_stage sizes (sided side L ∷ [])
 with_drop sizes side L = stage_two sizes side 2 L drop_nodes ∙ ap (earlier_of (policies_stage sizes (sided side L ∷ []))) (drop_passes sizes 2) ∙ earlier_passed _
@@ -384,41 +350,31 @@ one_policy_only ts texts lists packets side L =
 
 -- ---- the answers
 
-module _ (ts : List Table) (L : NodeLists) {q : CallTested} (f : FrontOf ts 0 L drop_nodes Passed q) {t : Tested} (is : t ≡ q.tested) where
-  policy_tests_lem : t ≡ policy_tests ts L
+module _ (ts : List Table) (L : NodeLists) where
+  policy_as : {t : Tested} → front_tests ts 0 L drop_nodes (Ok tt) ≡ t → policy_tests ts L ≡ t
   unfolding policy_tests
-  policy_tests_lem = is ∙ f.tested ∙ one_policy_only ts Passed Passed Passed 0 L
+  policy_as e = sym (one_policy_only ts (Ok tt) (Ok tt) (Ok tt) 0 L) ∙ e
 
-  pub policy_refused : (r : Refusal) → t ≡ Refused r → PolicyRefused r ≡ policy_legality ts L
-  unfolding policy_legality policy_answer
-  policy_refused r e = sym (ap (λ (u : Tested). policy_answer u (dups_below L (node_count L))) (sym policy_tests_lem ∙ e))
+  pub policy_refused : {r : Refusal} → front_tests ts 0 L drop_nodes (Ok tt) ≡ Err r → Err r ≡ policy_legality ts L
+  unfolding policy_legality counted
+  policy_refused e = sym (ap (λ (u : Tested). counted u (dups_below L (node_count L))) (policy_as e))
 
-  pub policy_passed : t ≡ Passed → LegalPolicy q.left_dups ≡ policy_legality ts L
-  unfolding policy_legality policy_answer
-  policy_passed e = ap LegalPolicy (f.left_dups_lem (sym is ∙ e)) ∙ sym (ap (λ (u : Tested). policy_answer u (dups_below L (node_count L))) (sym policy_tests_lem ∙ e))
+  pub policy_passed : {n : ℕ} → front_tests ts 0 L drop_nodes (Ok tt) ≡ Ok tt → n ≡ dups_below L (node_count L) → Ok n ≡ policy_legality ts L
+  unfolding policy_legality counted
+  policy_passed e f = ap Ok f ∙ sym (ap (λ (u : Tested). counted u (dups_below L (node_count L))) (policy_as e))
 
-module _ (ts : List Table) (L R : NodeLists) {q : CallTested} (f : FrontOf ts 1 L R Passed q) {t : Tested} (is : t ≡ q.tested) where
-  tests_are : t ≡ pair_tests ts L R
-  unfolding pair_tests
-  tests_are = is ∙ f.tested
+module _ (ts : List Table) (L R : NodeLists) where
+  pub pair_refused : {r : Refusal} → front_tests ts 1 L R (Ok tt) ≡ Err r → Err r ≡ pair_legality ts L R
+  unfolding pair_legality pair_answer pair_tests
+  pair_refused e = sym (ap (λ (u : Tested). pair_answer u (dups_below L (node_count L)) (dups_below R (node_count R))) e)
 
-  pub pair_refused : (r : Refusal) → t ≡ Refused r → PairRefused r ≡ pair_legality ts L R
-  unfolding pair_legality pair_answer
-  pair_refused r e = sym (ap (λ (u : Tested). pair_answer u (dups_below L (node_count L)) (dups_below R (node_count R))) (sym tests_are ∙ e))
-
-  pub pair_passed : t ≡ Passed → LegalPair q.left_dups q.right_dups ≡ pair_legality ts L R
-  unfolding pair_legality pair_answer
-  pair_passed e =
-      ap₂ LegalPair (f.left_dups_lem (sym is ∙ e)) (f.right_dups_lem (sym is ∙ e))
-      ∙ sym (ap (λ (u : Tested). pair_answer u (dups_below L (node_count L)) (dups_below R (node_count R))) (sym tests_are ∙ e))
+  pub pair_passed : {m n : ℕ} → front_tests ts 1 L R (Ok tt) ≡ Ok tt → m ≡ dups_below L (node_count L) → n ≡ dups_below R (node_count R) → Ok (m, n) ≡ pair_legality ts L R
+  unfolding pair_legality pair_answer pair_tests
+  pair_passed e f g =
+      ap₂ (λ (m n : ℕ). Ok (m, n)) f g ∙ sym (ap (λ (u : Tested). pair_answer u (dups_below L (node_count L)) (dups_below R (node_count R))) e)
 
 -- ---- sizes and one policy over them, without tables
 
-pub stages_legal : (sizes : List ℕ) (side : ℕ) (L : NodeLists) {r u p q : Tested} → q ≡ product_stage sizes → p ≡ policies_stage sizes (sided side L ∷ []) → u ≡ first_refused (q ∷ p ∷ []) → r ≡ first_refused (fields_stage sizes ∷ u ∷ [])
-    → r ≡ Passed → LegalSizes sizes × Legal sizes L × (product_stage sizes ≡ Passed)
+pub stages_legal : (sizes : List ℕ) (side : ℕ) (L : NodeLists) → fields_stage sizes ≡ Ok tt → product_stage sizes ≡ Ok tt → policies_stage sizes (sided side L ∷ []) ≡ Ok tt → LegalSizes sizes × Legal sizes L
 unfolding Each
-stages_legal sizes side L c a b e h =
-    let f = first_refused_passed _ _ (sym e ∙ h) in
-    let g = first_refused_passed _ _ (sym b ∙ (first_refused_passed _ _ f.1).0) in
-    let product = sym c ∙ g.0 in
-    (sizes_legal sizes (fields_legal sizes f.0) product, ((stage_passes sizes _).0 (sym a ∙ (first_refused_passed _ _ g.1).0)).0, product)
+stages_legal sizes side L fields product policies = (sizes_legal sizes (fields_legal sizes fields) product, ((stage_passes sizes _).0 policies).0)

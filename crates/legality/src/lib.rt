@@ -1,44 +1,23 @@
 // Which node lists are legal: the causes of a policy in their order, the front of all calls but the reader, and the public calls that say so.
 #![tactic(auto)]
 
-ghost use Rattle.std.specs.Prelude.{◌≤◌, ◌≡◌, length};
-ghost use Rattle.packet.specs.declared.Tested.TheVariants.{Passed};
-ghost use Rattle.fields.specs.Tables.{tables_at_entry};
-ghost use Rattle.policy.specs.AsLists.{as_lists, policy_at_entry};
-ghost use Rattle.policy.specs.NodeLists.{dups_below};
-ghost use Rattle.policy.specs.Order.{cause_place};
+ghost use Rattle.std.specs.Prelude.{◌≡◌, [], ◌∷◌};
+ghost use Rattle.packet.specs.Sizes.{counted};
+ghost use Rattle.fields.specs.Tables.{lent_tables};
+ghost use Rattle.policy.specs.AsLists.{lists_of};
+ghost use Rattle.policy.specs.NodeLists.{node_count, dups_below};
+ghost use Rattle.policy.specs.Order.{sided, policies_stage, cause_place};
 ghost use Rattle.node_causes.specs.Lengths.{SameLengths};
 ghost use Rattle.tree_causes.specs.Counting.{CountableChildren};
-ghost use Rattle.legality.specs.Answers.{nodes_stage, tree_stage, TestedAs, PolicyTestedAs, earlier_of, FrontOf, CoreWherePassed, policy_legality, pair_legality};
+ghost use Rattle.legality.specs.Answers.{nodes_stage, tree_stage, both_legal, FrontOf, policy_legality, pair_legality};
 
+use fields::Tables;
 use packet::{Refusal, Tested};
-use policy::order::Stages;
+use policy::lent::PolicyLists;
 
-// The answer on one policy: legal, with so many dups, or the first cause that refuses it.
-#[derive(Drop)]
-pub enum PolicyAnswer {
-    Legal(u8),
-    Refused(Refusal),
-}
-
-// The answer on two policies: both legal, with so many dups each, or the first cause that refuses one.
-#[derive(Drop)]
-pub enum PairAnswer {
-    Legal(u8, u8),
-    Refused(Refusal),
-}
-
-// What the causes of one policy say, beside its number of dups, which counts where they pass.
-#[derive(Drop)]
-pub struct PolicyTested {
-    pub tested: Tested,
-    pub dups: u8,
-}
-
-// What the causes of a call say, beside the joint sizes, the core sizes, N and the dups of each policy, which count where they pass.
-#[derive(Drop)]
-pub struct CallTested {
-    pub tested: Tested,
+// What a call is told where its causes pass: the joint sizes, the core sizes, N and the dups of each policy.
+#[derive(Clone, Copy)]
+pub struct LegalCall {
     pub count: usize,
     pub sizes: [u16; 8],
     pub core: [u16; 8],
@@ -48,61 +27,43 @@ pub struct CallTested {
 }
 
 // Causes 5 to 7 of one policy, which look at one node at a time.
-fn nodes_tested(sizes: &[u16], side: u8, kind: &[u8], first: &[u16], second: &[u16]) -> Tested
-    requires { SameLengths (as_lists kind.now first.now second.now) }
-    ensures { result ≡ nodes_stage sizes.now side (policy_at_entry kind first second) }
+fn nodes_tested(sizes: &[u16], side: u8, policy: PolicyLists) -> Tested
+    requires { SameLengths (lists_of policy) }
+    ensures { result ≡ nodes_stage sizes.now side (lists_of policy.entry) }
 {
-    let kinds = packet::refused_at(5, side, node_causes::bad_kind(kind));
-    let entries = packet::refused_at(
-        6,
-        side,
-        node_causes::bad_entries(sizes, kind, first, second),
-    );
-    let below = packet::refused_at(7, side, node_causes::bad_child(kind, first, second));
-    packet::first_of(kinds, packet::first_of(entries, below))
+    packet::refused_at(5, side, node_causes::bad_kind(policy.kind))?;
+    packet::refused_at(6, side, node_causes::bad_entries(sizes, policy))?;
+    packet::refused_at(7, side, node_causes::bad_child(policy))
 }
 
-// Causes 8, 19 and 9 of one policy, which look at the tree; with the number of dups.
-fn tree_tested(side: u8, kind: &[u8], first: &[u16], second: &[u16]) -> PolicyTested
-    requires { CountableChildren (as_lists kind.now first.now second.now) }
-    ensures { TestedAs (tree_stage side (policy_at_entry kind first second)) (dups_below (policy_at_entry kind first second) (length kind.now)) result }
+// Causes 8, 19 and 9 of one policy, which look at the tree; the number of dups where they pass.
+fn tree_tested(side: u8, policy: PolicyLists) -> Result<u8, Refusal>
+    requires { CountableChildren (lists_of policy) }
+    ensures { result ≡ counted (tree_stage side (lists_of policy.entry)) (dups_below (lists_of policy.entry) (node_count (lists_of policy.entry))) }
 {
-    let once = packet::refused_at(8, side, tree_causes::not_once(kind, first, second));
-    let negations = packet::refused_at(19, side, tree_causes::bad_negation(kind, first, second));
-    let counted = tree_causes::dups(kind);
-    let dups = counted.count;
-    let extra = counted.extra;
-    let rest = packet::first_of(negations, packet::refused_at(9, side, extra));
-    let tested = packet::first_of(once, rest);
-    PolicyTested { tested, dups }
-}
-
-// Inner: stage "policies" of one policy.
-pub fn policy_stage(
-    sizes: &[u16],
-    side: u8,
-    kind: &[u8],
-    first: &[u16],
-    second: &[u16],
-) -> PolicyTested
-    ensures { PolicyTestedAs sizes.now side (policy_at_entry kind first second) result }
-{
-    match packet::refused_at(4, side, node_causes::bad_lengths(kind, first, second)) {
-        Tested::Refused(r) => PolicyTested {
-            tested: Tested::Refused(r),
-            dups: 0,
-        },
-        Tested::Passed => match nodes_tested(sizes, side, kind, first, second) {
-            Tested::Refused(r) => PolicyTested {
-                tested: Tested::Refused(r),
-                dups: 0,
-            },
-            Tested::Passed => tree_tested(side, kind, first, second),
-        },
+    packet::refused_at(8, side, tree_causes::not_once(policy))?;
+    packet::refused_at(19, side, tree_causes::bad_negation(policy))?;
+    match tree_causes::dups(policy.kind) {
+        Ok(dups) => Ok(dups),
+        Err(place) => Err(Refusal {
+            number: 9,
+            side,
+            place: place as u64,
+        }),
     }
 }
 
+// Inner: stage "policies" of one policy, with its number of dups where it passes.
+pub fn policy_stage(sizes: &[u16], side: u8, policy: PolicyLists) -> Result<u8, Refusal>
+    ensures { result ≡ counted (policies_stage sizes.now (sided side (lists_of policy.entry) ∷ [])) (dups_below (lists_of policy.entry) (node_count (lists_of policy.entry))) }
+{
+    packet::refused_at(4, side, node_causes::bad_lengths(policy))?;
+    nodes_tested(sizes, side, policy)?;
+    tree_tested(side, policy)
+}
+
 // The place of a policy's cause in the list, from 1 on.
+#[tactic(auto, unfolding(policy::specs::Order::cause_place, policy::specs::Order::causes, policy::specs::Order::place_among, policy::specs::Order::one_or))]
 fn cause_place(number: u8) -> u8
     ensures { result ≡ cause_place number }
 {
@@ -118,176 +79,78 @@ fn cause_place(number: u8) -> u8
     }
 }
 
-// Of what the two policies' causes say the one that comes first in the list, of the same cause the left.
-fn earlier(left: Tested, right: Tested) -> Tested
-    ensures { result ≡ earlier_of left right }
+// Of what the two policies' causes say the one that comes first in the list, of the same cause the left; the dups of both where neither refuses.
+#[tactic(auto, unfolding(crate::specs::Answers::both_legal))]
+fn both_legal(left: Result<u8, Refusal>, right: Result<u8, Refusal>) -> Result<(u8, u8), Refusal>
+    ensures { result ≡ both_legal left right }
 {
-    match left {
-        Tested::Passed => right,
-        Tested::Refused(p) => match right {
-            Tested::Passed => Tested::Refused(p),
-            Tested::Refused(q) => {
-                if cause_place(q.number) < cause_place(p.number) {
-                    return Tested::Refused(q);
-                }
-                Tested::Refused(p)
+    match (left, right) {
+        (Ok(l), Ok(r)) => Ok((l, r)),
+        (Ok(_), Err(q)) => Err(q),
+        (Err(p), Ok(_)) => Err(p),
+        (Err(p), Err(q)) => {
+            if cause_place(q.number) < cause_place(p.number) {
+                return Err(q);
             }
-        },
-    }
-}
-
-// The core sizes where the policies pass; elsewhere 3 is not reached, and any sizes serve.
-fn core_where_passed(
-    policies: Tested,
-    sizes: &[u16],
-    left_kind: &[u8],
-    left_first: &[u16],
-    left_second: &[u16],
-    right_kind: &[u8],
-    right_first: &[u16],
-    right_second: &[u16],
-) -> [u16; 8]
-    requires sizes_len_bound { length sizes.now ≤ 8 }
-    requires same_lengths { policies ≡ Passed → SameLengths (as_lists left_kind.now left_first.now left_second.now) × SameLengths (as_lists right_kind.now right_first.now right_second.now) }
-    ensures { CoreWherePassed policies (policy_at_entry left_kind left_first left_second) (policy_at_entry right_kind right_first right_second) sizes.now result }
-{
-    match policies {
-        Tested::Refused(_) => [1; 8],
-        Tested::Passed => mentions::core_sizes(
-            sizes,
-            left_kind,
-            left_first,
-            right_kind,
-            right_first,
-        ),
+            Err(p)
+        }
     }
 }
 
 // Inner: the causes of a call in their order, `side` being what the left policy's refusals name and `lists` what stage "lists" says. Every call
 // but the reader goes through here: one with fewer policies hands over drop, which is legal, and one with packets tests them after.
 pub fn front(
-    left_names: &[u8],
-    left_sizes: &[u16],
-    right_names: &[u8],
-    right_sizes: &[u16],
+    tables: Tables,
     side: u8,
-    left_kind: &[u8],
-    left_first: &[u16],
-    left_second: &[u16],
-    right_kind: &[u8],
-    right_first: &[u16],
-    right_second: &[u16],
+    left: PolicyLists,
+    right: PolicyLists,
     lists: Tested,
-) -> CallTested
-    ensures { FrontOf (tables_at_entry left_names left_sizes right_names right_sizes) side (policy_at_entry left_kind left_first left_second) (policy_at_entry right_kind right_first right_second) lists result }
+) -> Result<LegalCall, Refusal>
+    ensures { FrontOf (lent_tables tables.entry) side (lists_of left.entry) (lists_of right.entry) lists result }
 {
-    let joint = fields::join(left_names, left_sizes, right_names, right_sizes);
+    let joint = fields::join(tables)?;
     let count = joint.count;
-    let sizes = joint.sizes;
-    let left = policy_stage(&sizes[..count], side, left_kind, left_first, left_second);
-    let right = policy_stage(&sizes[..count], 2, right_kind, right_first, right_second);
-    let fields = joint.tested;
-    let left_says = left.tested;
-    let right_says = right.tested;
-    let policies = earlier(left_says, right_says);
-    let core = core_where_passed(
-        policies,
-        &sizes[..count],
-        left_kind,
-        left_first,
-        left_second,
-        right_kind,
-        right_first,
-        right_second,
+    let sizes = &joint.sizes[..count];
+    let policies = both_legal(
+        policy_stage(sizes, side, left),
+        policy_stage(sizes, 2, right),
     );
-    let counted = packet::packet_count(&core[..count]);
-    let product = counted.tested;
-    let tested = policy::order::in_order(Stages {
-        fields,
-        texts: Tested::Passed,
-        policies,
-        product,
-        lists,
-        packets: Tested::Passed,
-    });
-    CallTested {
-        tested,
+    let (left_dups, right_dups) = policies?;
+    let core = mentions::core_sizes(sizes, left, right);
+    let packets = packet::packet_count(&core[..count])?;
+    lists?;
+    Ok(LegalCall {
         count,
-        sizes,
+        sizes: joint.sizes,
         core,
-        packets: counted.packets,
-        left_dups: left.dups,
-        right_dups: right.dups,
-    }
+        packets,
+        left_dups,
+        right_dups,
+    })
 }
 
-// Whether the lists are a legal policy over the joint fields of the tables, side 0.
-pub fn policy_legality(
-    left_names: &[u8],
-    left_sizes: &[u16],
-    right_names: &[u8],
-    right_sizes: &[u16],
-    kind: &[u8],
-    first: &[u16],
-    second: &[u16],
-) -> PolicyAnswer
-    ensures { result ≡ policy_legality (tables_at_entry left_names left_sizes right_names right_sizes) (policy_at_entry kind first second) }
+// Whether the lists are a legal policy over the joint fields of the tables, side 0: its number of dups, or the first cause that refuses it.
+pub fn policy_legality(tables: Tables, policy: PolicyLists) -> Result<u8, Refusal>
+    ensures { result ≡ policy_legality (lent_tables tables.entry) (lists_of policy.entry) }
 {
-    let drop = [0u8; 1];
-    let unused = [0u16; 1];
-    let found = front(
-        left_names,
-        left_sizes,
-        right_names,
-        right_sizes,
-        0,
-        kind,
-        first,
-        second,
-        &drop,
-        &unused,
-        &unused,
-        Tested::Passed,
-    );
-    let tested = found.tested;
-    match tested {
-        Tested::Refused(r) => PolicyAnswer::Refused(r),
-        Tested::Passed => PolicyAnswer::Legal(found.left_dups),
-    }
+    let drop = PolicyLists {
+        kind: &[0],
+        first: &[0],
+        second: &[0],
+    };
+    let found = front(tables, 0, policy, drop, Ok(()))?;
+    Ok(found.left_dups)
 }
 
-// Whether the lists are two legal policies over the joint fields of the tables, sides 1 and 2.
+// Whether the lists are two legal policies over the joint fields of the tables, sides 1 and 2: the number of dups of each, or the first cause
+// that refuses one.
 pub fn pair_legality(
-    left_names: &[u8],
-    left_sizes: &[u16],
-    right_names: &[u8],
-    right_sizes: &[u16],
-    left_kind: &[u8],
-    left_first: &[u16],
-    left_second: &[u16],
-    right_kind: &[u8],
-    right_first: &[u16],
-    right_second: &[u16],
-) -> PairAnswer
-    ensures { result ≡ pair_legality (tables_at_entry left_names left_sizes right_names right_sizes) (policy_at_entry left_kind left_first left_second) (policy_at_entry right_kind right_first right_second) }
+    tables: Tables,
+    left: PolicyLists,
+    right: PolicyLists,
+) -> Result<(u8, u8), Refusal>
+    ensures { result ≡ pair_legality (lent_tables tables.entry) (lists_of left.entry) (lists_of right.entry) }
 {
-    let found = front(
-        left_names,
-        left_sizes,
-        right_names,
-        right_sizes,
-        1,
-        left_kind,
-        left_first,
-        left_second,
-        right_kind,
-        right_first,
-        right_second,
-        Tested::Passed,
-    );
-    let tested = found.tested;
-    match tested {
-        Tested::Refused(r) => PairAnswer::Refused(r),
-        Tested::Passed => PairAnswer::Legal(found.left_dups, found.right_dups),
-    }
+    let found = front(tables, 1, left, right, Ok(()))?;
+    Ok((found.left_dups, found.right_dups))
 }

@@ -1,22 +1,24 @@
 -- The causes up to 10: the tests as they were made, and what holds where they pass. Assumes nothing.
-use Prim.Native.Nat.{ℕ, ◌≤◌}
-use mathlib.Core.Bool.{Bool, false, ◌||◌, not}
+use Prim.Native.Nat.{ℕ, suc, ◌<◌, ◌≤◌}
+use native.Mathlib.Omega.{arith}
+use mathlib.Core.Bool.{Bool, true, false, ◌||◌, not}
 use mathlib.Core.List.{List, [], ◌∷◌}
 use mathlib.Core.Path.{◌≡◌, refl, ap, ◌∙◌}
-use lib.Dec.{eqb, ltb}
-use borrow.Author.Tests.{ltb-false, le-ltb, eqb-true, not-false}
-use Rattle.packet.specs.declared.Tested.{Tested}
-use Rattle.packet.specs.declared.Tested.TheVariants.{Passed}
-use Rattle.packet.specs.Refusals.{refused_at, at_place, at_zero}
+use lib.Dec.{ltb}
+use borrow.Author.Tests.{ltb-false, lt-ltb, le-ltb, eqb-true, eq-eqb, ne_eqb, not-false}
+use lib.ListN.{length, get_or, drop, drop_of_length-le}
+use lib.Seq.{drop-cons}
+use Rattle.packet.specs.Refusals.{Tested}
+use Rattle.std.specs.Prelude.{Ok, Err}
+use Rattle.packet.specs.Refusals.{refusal, refused_at, at_place, at_zero}
 use Rattle.packet.specs.Sizes.{LegalSizes}
 use Rattle.packet.proofs.Stages.{refused_at_passed, at_place_none}
 use Rattle.packet.proofs.Tests.{or_false}
 use Rattle.fields.specs.Tables.{Table}
-use Rattle.policy.specs.Order.{in_order, stages_of, pair_of, pair_tests, pair_core}
+use Rattle.policy.specs.Order.{pair_of, pair_tests, pair_core}
 use Rattle.classes.proofs.Pairs.{LegalPair, passing_pair, OnClasses, left_named, right_named}
 use Rattle.pair.specs.Sides.{Side, left, right, at, policies}
-use Rattle.legality.specs.declared.CallTested.{CallTested}
-use Rattle.legality.specs.Answers.{FrontOf}
+use Rattle.legality.specs.Answers.{front_tests}
 use Rattle.policy.specs.InnerEach.{Each}
 use Rattle.policy.specs.Legality.{Legal}
 use Rattle.policy.specs.NodeLists.{NodeLists}
@@ -25,12 +27,37 @@ use Rattle.lent_lists.specs.LentLists.{misfit, rows_misfit, lists_stage, lent_te
 
 -- ---- cause 10
 
--- one more row list looked at
-pub another_list : {r b c : Bool} (n first : ℕ) → r ≡ (not (eqb n first) || b) → b ≡ c → r ≡ (not (eqb n first) || c)
-another_list n first e f = e ∙ ap (λ (x : Bool). not (eqb n first) || x) f
+module _ (n : ℕ) (ms : List ℕ) where
+  -- the lists from the i-th on decide
+  pub misfit_here : (i : ℕ) → i < length ms → (get_or ms i 0 ≡ n → ⊥) → misfit n (drop i ms) ≡ true
+  unfolding misfit
+  misfit_here i h d = ap (misfit n) (drop-cons ms i 0 h) ∙ ap (λ (b : Bool). not b || misfit n (drop (suc i) ms)) (ne_eqb (get_or ms i 0) n d)
 
-pub lists_stage_lem : {t : Tested} {wrong b : Bool} (work : ℕ) → wrong ≡ b → t ≡ refused_at 10 0 (at_zero (wrong || ltb work 16384)) → t ≡ refused_at 10 0 (at_zero (b || ltb work 16384))
-lists_stage_lem work e t = t ∙ ap (λ (w : Bool). refused_at 10 0 (at_zero (w || ltb work 16384))) e
+  pub misfit_on : (i : ℕ) → i < length ms → get_or ms i 0 ≡ n → misfit n (drop i ms) ≡ misfit n (drop (suc i) ms)
+  unfolding misfit
+  misfit_on i h e = ap (misfit n) (drop-cons ms i 0 h) ∙ ap (λ (b : Bool). not b || misfit n (drop (suc i) ms)) (eq-eqb (get_or ms i 0) n e)
+
+  pub misfit_end : (i : ℕ) → length ms ≤ i → misfit n (drop i ms) ≡ ltb 65535 n
+  unfolding misfit
+  misfit_end i h = ap (misfit n) (drop_of_length-le ms h)
+
+pub no_rows : (rows : List ℕ) → length rows ≡ 0 → false ≡ rows_misfit rows
+unfolding rows_misfit
+no_rows [] e = refl
+no_rows (n ∷ ms) e = absurd (omega arith)
+
+module _ (rows : List ℕ) (work : ℕ) where
+  pub stage_misfit : rows_misfit rows ≡ true → lists_stage rows work ≡ Err (refusal 10 0 0)
+  unfolding lists_stage refused_at at_place
+  stage_misfit e = rw e refl
+
+  pub stage_short : rows_misfit rows ≡ false → work < 16384 → lists_stage rows work ≡ Err (refusal 10 0 0)
+  unfolding lists_stage refused_at at_place
+  stage_short e h = rw (e, lt-ltb work 16384 h) refl
+
+  pub stage_passes : rows_misfit rows ≡ false → 16384 ≤ work → lists_stage rows work ≡ Ok tt
+  unfolding lists_stage refused_at at_place
+  stage_passes e h = rw (e, le-ltb work 16384 h) refl
 
 -- ---- the causes up to 10
 
@@ -41,10 +68,10 @@ side_named ts L R g left = left_named ts L R g
 side_named ts L R g right = right_named ts L R g
 
 module _ (ts : List Table) (L R : NodeLists) (lists : Tested) where
-  -- the tests as they were made
-  pub front_tests : {said : Tested} {q : CallTested} → said ≡ lists → FrontOf ts 1 L R said q → q.tested ≡ lent_tests ts L R lists
+  -- the front's tests are those of the call
+  pub front_as : front_tests ts 1 L R lists ≡ lent_tests ts L R lists
   unfolding lent_tests
-  front_tests e f = f.tested ∙ ap (λ (l : Tested). in_order (stages_of ts Passed (pair_of L R) l Passed)) e
+  front_as = refl
 
   -- what holds where the causes before 10 pass
   pub record LegalCall : Type 0 where
@@ -52,9 +79,9 @@ module _ (ts : List Table) (L R : NodeLists) (lists : Tested) where
     pub left_legal : Legal (pair_core ts L R) L
     pub right_legal : Legal (pair_core ts L R) R
     pub pair : LegalPair ts L R
-    pub passed : lists ≡ Passed
+    pub passed : lists ≡ Ok tt
 
-  pub tests_passed : lent_tests ts L R lists ≡ Passed → LegalCall
+  pub tests_passed : lent_tests ts L R lists ≡ Ok tt → LegalCall
   unfolding lent_tests Each
   tests_passed e =
       let h = passing _ _ _ _ _ e in
@@ -62,18 +89,18 @@ module _ (ts : List Table) (L R : NodeLists) (lists : Tested) where
       record { legal_sizes = sizes_legal _ _ _ _ _ h; left_legal = g.0; right_legal = g.1.0; pair = passing_pair ts L R _ _ _ h; passed = h.lists_pass }
 
   -- two policies that the causes before 10 let pass, and lists that 10 lets pass
-  pub pair_lent : pair_tests ts L R ≡ Passed → lists ≡ Passed → lent_tests ts L R lists ≡ Passed
+  pub pair_lent : pair_tests ts L R ≡ Ok tt → lists ≡ Ok tt → lent_tests ts L R lists ≡ Ok tt
   unfolding pair_tests lent_tests
   pair_lent e h = still_passing ts (pair_of L R) _ _ _ e refl h refl
 
-  pub lent_pair : lent_tests ts L R lists ≡ Passed → pair_tests ts L R ≡ Passed
+  pub lent_pair : lent_tests ts L R lists ≡ Ok tt → pair_tests ts L R ≡ Ok tt
   unfolding pair_tests lent_tests
   lent_pair e = still_passing ts (pair_of L R) _ _ _ e refl refl refl
 
 -- ---- stage "lists"
 
 -- the work list is long enough, and nothing is wrong with the row lists
-pub lists_passed : (rows : List ℕ) (work : ℕ) → lists_stage rows work ≡ Passed → (rows_misfit rows ≡ false) × (16384 ≤ work)
+pub lists_passed : (rows : List ℕ) (work : ℕ) → lists_stage rows work ≡ Ok tt → (rows_misfit rows ≡ false) × (16384 ≤ work)
 unfolding lists_stage
 lists_passed rows work e =
     let h = or_false _ _ (at_place_none 0 _ (refused_at_passed 10 0 _ e)) in
@@ -89,6 +116,6 @@ unfolding misfit
 rows_few n e = ltb-false 65535 n e
 
 -- with no row list the length of the work list decides
-pub work_passes : (work : ℕ) → 16384 ≤ work → lists_stage [] work ≡ Passed
+pub work_passes : (work : ℕ) → 16384 ≤ work → lists_stage [] work ≡ Ok tt
 unfolding lists_stage rows_misfit refused_at at_place
 work_passes work h = ap (λ (b : Bool). refused_at 10 0 (at_zero b)) (le-ltb work 16384 h)

@@ -2,85 +2,39 @@
 // here are inner.
 #![tactic(auto)]
 
-ghost use Rattle.std.specs.Prelude.{◌≡◌, ◌||◌, not, [], ◌∷◌, eqb, ltb, length, replicate};
-ghost use Rattle.packet.specs.Refusals.{refused_at, at_zero};
-ghost use Rattle.lent_lists.specs.LentLists.{lists_stage};
+ghost use Rattle.std.specs.Prelude.{◌≡◌, length, replicate};
+ghost use Rattle.lent_lists.specs.LentLists.{rows_misfit, lists_stage};
 
-use packet::{Refusal, Tested};
+use packet::{Tested, unsided};
 
-// Has a row list another length than the first, or has one of those looked at before?
-fn unequal(before: bool, length: usize, first: usize) -> bool
-    ensures { result ≡ (not (eqb length first) || before) }
+// Row lists of these lengths don't serve: they are unequal, or over 65,535.
+fn rows_misfit(rows: &[usize]) -> bool
+    ensures { result ≡ rows_misfit rows.now }
 {
-    if length != first {
-        return true;
+    let Some((first, others)) = rows.split_first() else {
+        return false;
+    };
+    for n in others {
+        if n != first {
+            return true;
+        }
     }
-    before
+    65535 < *first
 }
 
-// Cause 10, from the row lists and then the work list.
-fn lists_tested(misfit: bool, work: usize) -> Tested
-    ensures { result ≡ refused_at 10 0 (at_zero (misfit || ltb work 16384)) }
+// Inner: stage "lists", from the lengths of the row lists and of the work list. The trace checker is lent no row list.
+pub fn lists_stage(rows: &[usize], work: usize) -> Tested
+    ensures { result ≡ lists_stage rows.now work }
 {
-    if misfit {
-        return Tested::Refused(Refusal {
-            number: 10,
-            side: 0,
-            place: 0,
-        });
+    if rows_misfit(rows) || work < 16384 {
+        return Err(unsided(10, 0));
     }
-    if work < 16384 {
-        return Tested::Refused(Refusal {
-            number: 10,
-            side: 0,
-            place: 0,
-        });
-    }
-    Tested::Passed
-}
-
-// Inner: stage "lists" of the search, from the lists' lengths.
-pub fn search_lists(
-    packets: usize,
-    left: usize,
-    right: usize,
-    parents: usize,
-    work: usize,
-) -> Tested
-    ensures { result ≡ lists_stage (packets ∷ left ∷ right ∷ parents ∷ []) work }
-{
-    let over = 65535 < packets;
-    let wrong = unequal(
-        unequal(unequal(over, parents, packets), right, packets),
-        left,
-        packets,
-    );
-    lists_tested(wrong, work)
-}
-
-// Inner: stage "lists" of the evidence checker, which is lent no parent list.
-pub fn evidence_lists(packets: usize, left: usize, right: usize, work: usize) -> Tested
-    ensures { result ≡ lists_stage (packets ∷ left ∷ right ∷ []) work }
-{
-    let over = 65535 < packets;
-    let wrong = unequal(unequal(over, right, packets), left, packets);
-    lists_tested(wrong, work)
-}
-
-// Inner: stage "lists" of the trace checker, which is lent the work list alone.
-pub fn work_list(work: usize) -> Tested
-    ensures { result ≡ lists_stage [] work }
-{
-    lists_tested(false, work)
+    Ok(())
 }
 
 // Inner: the work list is all 0, to its last word.
 pub fn clear(work: &mut [u32])
     ensures { work.new ≡ replicate (length work.old) 0 }
 {
-    let mut i = 0;
-    while i < work.len() {
-        work[i] = 0;
-        i += 1;
-    }
+    work.fill(0);
 }

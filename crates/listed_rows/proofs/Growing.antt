@@ -4,7 +4,7 @@ use mathlib.Core.Bool.{Bool, true, false, ◌||◌}
 use mathlib.Core.List.{List, [], ◌∷◌}
 use mathlib.Core.Logic.{⊎_elim}
 use Prim.Native.Nat.{ℕ, zero, suc, ◌+◌, ◌/◌, ◌≤◌, ◌<◌}
-use native.Mathlib.Nat.{le_antisymm, le_of_suc-le-suc, eq-or-lt_of_le}
+use native.Mathlib.Nat.{le_refl, le_antisymm, le_of_suc-le-suc, eq-or-lt_of_le}
 use native.Mathlib.Numerals.{add-one}
 use native.Mathlib.Omega.{arith}
 use lib.Arith.{le-zero}
@@ -19,8 +19,7 @@ use Rattle.system.proofs.Listing.{append_kept}
 use Rattle.pair.specs.Sides.{Pair, at, on_both, NumberedPolicy}
 use Rattle.pair.specs.Pair.{both_zero, pair_system}
 use Rattle.index.specs.declared.Row.{Row}
-use Rattle.index.specs.declared.Appended.{Appended}
-use Rattle.index.specs.declared.Appended.TheVariants.{Rows, Full}
+use Rattle.std.specs.Prelude.{Option, Some, None}
 use Rattle.index.specs.Columns.{masks_agree, all_zero}
 use Rattle.index.specs.Index.{Indexed, RoomFor}
 use Rattle.index.specs.Appending.{Lists, is_added, rows_after, Appending}
@@ -28,6 +27,7 @@ use Rattle.index.specs.Entries.{row_of, entries_of}
 use Rattle.index.proofs.Growth.{length_trees}
 use Rattle.index.proofs.Starting.{append_start}
 use Rattle.index.proofs.Entries.{grown, grows, stays, Outcome, outcome, added, full, known}
+use Rattle.marks.proofs.Touched.{PassedOver, NextMarked}
 use Rattle.listed_rows.specs.Standing.{rows_in, Standing, zero_masks, pair_masks, Nexts, Started, NextAppended}
 use Rattle.listed_rows.proofs.Standing.{stands_none, continues_rows, stands_rows, stands_full}
 
@@ -52,7 +52,7 @@ lengths_then a b =
       trees = b.trees ∙ a.trees;
     }
 
-pub lengths_appended : {x y : Lists} {count n : ℕ} {r : Row} {p : ℕ} {answer : Appended} → Appending x y count n r p answer → SameLengths x y
+pub lengths_appended : {x y : Lists} {count n : ℕ} {r : Row} {p : ℕ} {answer : Option ℕ} → Appending x y count n r p answer → SameLengths x y
 unfolding grown
 lengths_appended {x} {y} {count} {n} {r} {p} A = go (is_added x n r) refl
   where
@@ -81,7 +81,7 @@ going_none : {x : Lists} {count n : ℕ} → Indexed x.packets x.left x.right co
 going_none I l = record { indexed = I; same = lengths_none; long = l }
 
 -- one more row, if there is room and it is new
-going_more : {x y z : Lists} {count n m : ℕ} {r : Row} {p : ℕ} {answer : Appended} → Going x y count n → Appending y z count n r p answer → answer ≡ Rows m → Going x z count m
+going_more : {x y z : Lists} {count n m : ℕ} {r : Row} {p : ℕ} {answer : Option ℕ} → Going x y count n → Appending y z count n r p answer → answer ≡ Some m → Going x z count m
 unfolding rows_after
 going_more {x} {y} {z} {count} {n} {m} {r} {p} {answer} G A e = record { indexed = indexed (outcome A); same = lengths_then G.same (lengths_appended A); long = G.long }
   where
@@ -94,7 +94,7 @@ going_more {x} {y} {z} {count} {n} {m} {r} {p} {answer} G A e = record { indexed
     indexed (full new l notIn a) = let q : ◌≡◌ {A = ℕ} 0 1 = cc in absurd (omega arith)
 
 -- an append lists one row more at most
-few_more : {y z : Lists} {count n m : ℕ} {r : Row} {p : ℕ} {answer : Appended} → Appending y z count n r p answer → answer ≡ Rows m → m ≤ n + 1
+few_more : {y z : Lists} {count n m : ℕ} {r : Row} {p : ℕ} {answer : Option ℕ} → Appending y z count n r p answer → answer ≡ Some m → m ≤ n + 1
 few_more {y} {z} {count} {n} {m} {r} {p} {answer} A e = go (outcome A)
   where
     go : Outcome y n r answer → m ≤ n + 1
@@ -138,8 +138,8 @@ started_none {x} {count} I l = record { going = going_none I l; few = omega arit
 pub starting_room : {x y : Lists} {count n α : ℕ} → StartedTo x y count n α → α < count → RoomFor y.packets n 1 y.trees
 starting_room T small = record { room = λ i l k. omega (arith, T.few, T.going.indexed.buckets) }
 
-module _ {x y : Lists} {count n α : ℕ} (T : StartedTo x y count n α) (small : α < count) {z : Lists} {answer : Appended} (A : Appending y z count n (starting_row α) α answer) where
-  pub started_more : (m : ℕ) → answer ≡ Rows m → StartedTo x z count m (α + 1)
+module _ {x y : Lists} {count n α : ℕ} (T : StartedTo x y count n α) (small : α < count) {z : Lists} {answer : Option ℕ} (A : Appending y z count n (starting_row α) α answer) where
+  pub started_more : (m : ℕ) → answer ≡ Some m → StartedTo x z count m (α + 1)
   started_more m e =
       record {
         going = going_more T.going A e;
@@ -150,7 +150,7 @@ module _ {x y : Lists} {count n α : ℕ} (T : StartedTo x y count n α) (small 
             (stands_rows (pair_system sizes ps) (pair_masks sizes ps) (T.stands sizes ps lawful q) lawful A (going_long T.going) m e);
       }
 
-  pub started_full : answer ≡ Full → Started x z count Full
+  pub started_full : answer ≡ None → Started x z count None
   started_full e =
       record {
         started = λ sizes ps lawful q.
@@ -160,7 +160,7 @@ module _ {x y : Lists} {count n α : ℕ} (T : StartedTo x y count n α) (small 
             (starts_longer (pair_system sizes ps) (suc α) (product sizes) (omega arith)));
       }
 
-pub started_all : {x y : Lists} {count n α : ℕ} → StartedTo x y count n α → α ≤ count → count ≤ α → Started x y count (Rows n)
+pub started_all : {x y : Lists} {count n α : ℕ} → StartedTo x y count n α → α ≤ count → count ≤ α → Started x y count (Some n)
 started_all {x} {y} {count} {n} {α} T l g =
     record {
       started = λ sizes ps lawful q.
@@ -214,18 +214,23 @@ next_room F T small =
 
 -- packets without marks may be skipped
 pub next_skip : {x y : Lists} {count before n γ p : ℕ} {lefts rights : List ℕ} → NextTo x y count before n γ p lefts rights → {δ : ℕ} → γ ≤ δ → δ ≤ count
-    → ((β : ℕ) → γ ≤ β → β < δ → (get_or lefts β 0 ≡ 0) × (get_or rights β 0 ≡ 0)) → NextTo x y count before n δ p lefts rights
+    → PassedOver lefts rights γ δ → NextTo x y count before n δ p lefts rights
 next_skip {x} {y} {count} {before} {n} {γ} {p} {lefts} {rights} T {δ} l h zeros = go δ l h zeros
   where
-    go : (δ : ℕ) → γ ≤ δ → δ ≤ count → ((β : ℕ) → γ ≤ β → β < δ → (get_or lefts β 0 ≡ 0) × (get_or rights β 0 ≡ 0)) → NextTo x y count before n δ p lefts rights
+    go : (δ : ℕ) → γ ≤ δ → δ ≤ count → PassedOver lefts rights γ δ → NextTo x y count before n δ p lefts rights
     go zero l h zeros = subst (λ k. NextTo x y count before n k p lefts rights) (le-zero l) T
     go (suc δ) l h zeros =
         ⊎_elim (λ e. subst (λ k. NextTo x y count before n k p lefts rights) e T)
         (λ q. next_dead (go δ (le_of_suc-le-suc q) (omega arith) (λ β a b. zeros β a (omega arith))) h (zeros δ (le_of_suc-le-suc q) (omega arith)).0 (zeros δ (le_of_suc-le-suc q) (omega arith)).1)
         (eq-or-lt_of_le l)
 
+-- the walk goes on at a packet
+pub next_at : {x y : Lists} {count before n γ p : ℕ} {lefts rights : List ℕ} → NextTo x y count before n γ p lefts rights → {δ : ℕ} → NextMarked count lefts rights γ δ
+    → NextTo x y count before n δ p lefts rights
+next_at T M = next_skip T M.above (omega (arith, M.below)) M.passed
+
 module _ {x y : Lists} {count before n γ p : ℕ} {lefts rights : List ℕ} (T : NextTo x y count before n γ p lefts rights) (small : γ < count)
-    {z : Lists} {answer : Appended} (i : ℕ) (here : i ≡ γ) (appends : Appending y z count n (next_in lefts rights i γ) p answer) where
+    {z : Lists} {answer : Option ℕ} (i : ℕ) (here : i ≡ γ) (appends : Appending y z count n (next_in lefts rights i γ) p answer) where
   A : Appending y z count n (next_in lefts rights γ γ) p answer
   A = subst (λ j. Appending y z count n (next_in lefts rights j γ) p answer) here appends
 
@@ -235,7 +240,7 @@ module _ {x y : Lists} {count before n γ p : ℕ} {lefts rights : List ℕ} (T 
     unfolding append_next
     appending = ap (append (pair_system sizes ps) p (append_next (pair_system sizes ps) γ p r (rows_in (pair_system sizes ps) (pair_masks sizes ps) x before))) (next_row_lem sizes ps r lefts rights N γ (omega arith))
 
-  pub next_more : (m : ℕ) → answer ≡ Rows m → NextTo x z count before m (γ + 1) p lefts rights
+  pub next_more : (m : ℕ) → answer ≡ Some m → NextTo x z count before m (γ + 1) p lefts rights
   next_more m e =
       record {
         going = going_more T.going A e;
@@ -246,7 +251,7 @@ module _ {x y : Lists} {count before n γ p : ℕ} {lefts rights : List ℕ} (T 
             (stands_rows (pair_system sizes ps) (pair_masks sizes ps) (T.stands sizes ps lawful q r N) lawful A (going_long T.going) m e);
       }
 
-  pub next_full : answer ≡ Full → NextAppended x z count before p lefts rights Full
+  pub next_full : answer ≡ None → NextAppended x z count before p lefts rights None
   next_full e =
       record {
         appended = λ sizes ps lawful q r N.
@@ -255,13 +260,15 @@ module _ {x y : Lists} {count before n γ p : ℕ} {lefts rights : List ℕ} (T 
             (append_next_longer (pair_system sizes ps) p r _ (suc γ) (product sizes) (omega arith)));
       }
 
-pub next_all : {x y : Lists} {count before n γ p : ℕ} {lefts rights : List ℕ} → NextTo x y count before n γ p lefts rights → γ ≤ count → count ≤ γ
-    → NextAppended x y count before p lefts rights (Rows n)
-next_all {x} {y} {count} {before} {n} {γ} {p} T l g =
+-- the walk ends: no packet has marks from γ on
+pub next_all : {x y : Lists} {count before n γ p : ℕ} {lefts rights : List ℕ} → NextTo x y count before n γ p lefts rights → γ ≤ count → PassedOver lefts rights γ count
+    → NextAppended x y count before p lefts rights (Some n)
+next_all {x} {y} {count} {before} {n} {γ} {p} {lefts} {rights} T l zeros =
+    let W : NextTo x y count before n count p lefts rights = next_skip T l (le_refl count) zeros in
     record {
       appended = λ sizes ps lawful q r N.
           continues_rows (pair_system sizes ps) (pair_masks sizes ps)
           (subst (λ k. Standing (pair_system sizes ps) (pair_masks sizes ps) x y count n (append_next (pair_system sizes ps) k p r (rows_in (pair_system sizes ps) (pair_masks sizes ps) x before)))
-          (le_antisymm l g ∙ sym q) (T.stands sizes ps lawful q r N))
+          (sym q) (W.stands sizes ps lawful q r N))
           (omega (arith, T.going.indexed.within, T.going.same.packets));
     }

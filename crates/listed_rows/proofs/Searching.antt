@@ -20,7 +20,7 @@ use Rattle.pair.specs.Sides.{Pair, NumberedPolicy}
 use Rattle.pair.specs.Pair.{pair_system}
 use Rattle.pair.specs.Search.{equal, rows_full, reported, side_of, search_answer, columns_of}
 use Rattle.pair.proofs.Verdicts.{search_out, search_finished, search_telling}
-use Rattle.index.specs.declared.Appended.TheVariants.{Rows, Full}
+use Rattle.std.specs.Prelude.{Option, Some, None}
 use Rattle.index.specs.Appending.{Lists}
 use Rattle.index.specs.Entries.{Masks}
 use Rattle.index.proofs.Entries.{column, entries_at}
@@ -49,25 +49,25 @@ module _ (S : System) (M : Masks S) where
 
   module _ {x y : Lists} {count : ℕ} {es : List (Entry S)} where
     -- rows are answered: all of them are listed
-    pub continues_listed : {m : ℕ} → Continues S M x y count es (Rows m) → Standing S M x y count m es
+    pub continues_listed : {m : ℕ} → Continues S M x y count es (Some m) → Standing S M x y count m es
     unfolding answer_for
     continues_listed {m} C = go (ltb (length x.packets) (length es)) refl
       where
         go : (b : Bool) → ltb (length x.packets) (length es) ≡ b → Standing S M x y count m es
-        go true e = let q : Rows m ≡ Full = C.answers ∙ ap (λ t. cond t Full (Rows (length es))) e in let z : ◌≡◌ {A = ℕ} 0 1 = cc in absurd (omega arith)
+        go true e = let q : ◌≡◌ {A = Option ℕ} (Some m) None = C.answers ∙ ap (λ t. cond t None (Some (length es))) e in let z : ◌≡◌ {A = ℕ} 0 1 = cc in absurd (omega arith)
         go false e =
-            let q : Rows m ≡ Rows (length es) = C.answers ∙ ap (λ t. cond t Full (Rows (length es))) e in
+            let q : ◌≡◌ {A = Option ℕ} (Some m) (Some (length es)) = C.answers ∙ ap (λ t. cond t None (Some (length es))) e in
             let long : length es ≡ m = cc in
             subst (λ k. Standing S M x y count k es) long
             (subst (λ l. Standing S M x y count (length l) l) (take_all (length x.packets) es (ltb-false (length x.packets) (length es) e)) C.standing)
 
     -- full is answered: there are more rows than were lent
-    pub continues_over : Continues S M x y count es Full → (length x.packets < length es) × Standing S M x y count (length x.packets) (take (length x.packets) es)
+    pub continues_over : Continues S M x y count es None → (length x.packets < length es) × Standing S M x y count (length x.packets) (take (length x.packets) es)
     unfolding answer_for
     continues_over C = go (ltb (length x.packets) (length es)) refl
       where
         go : (b : Bool) → ltb (length x.packets) (length es) ≡ b → (length x.packets < length es) × Standing S M x y count (length x.packets) (take (length x.packets) es)
-        go false e = let q : Full ≡ Rows (length es) = C.answers ∙ ap (λ t. cond t Full (Rows (length es))) e in let z : ◌≡◌ {A = ℕ} 0 1 = cc in absurd (omega arith)
+        go false e = let q : ◌≡◌ {A = Option ℕ} None (Some (length es)) = C.answers ∙ ap (λ t. cond t None (Some (length es))) e in let z : ◌≡◌ {A = ℕ} 0 1 = cc in absurd (omega arith)
         go true e =
             let over = ltb-true (length x.packets) (length es) e in
             (over, subst (λ k. Standing S M x y count k (take (length x.packets) es)) (length-take-le (length x.packets) es (omega arith)) C.standing)
@@ -147,14 +147,14 @@ module _ (sizes : List ℕ) (ps : Pair NumberedPolicy) where
       }
 
   module _ (lawful : Lawful S) {count : ℕ} (small : product sizes ≡ count) where
-    pub search_begins : {x y : Lists} {m : ℕ} → Started x y count (Rows m) → Running x y count m 0 0
+    pub search_begins : {x y : Lists} {m : ℕ} → Started x y count (Some m) → Running x y count m 0 0
     search_begins {x} {y} {m} T =
         record {
           standing = subst (λ z. Standing S M x y count m z.rows) (sym (run_begin S)) (continues_listed S M (T.started sizes ps lawful small));
           handled = ap (λ z. z.handled) (run_begin S);
         }
 
-    pub start_full : {x y : Lists} → Started x y count Full → IsFull x y count 0
+    pub start_full : {x y : Lists} → Started x y count None → IsFull x y count 0
     start_full {x} {y} T =
         let o = continues_over S M (T.started sizes ps lawful small) in
         let over = subst (λ z. length x.packets < length z.rows) (sym (run_begin S)) o.0 in

@@ -11,8 +11,7 @@ use Rattle.system.specs.System.{System, Lawful}
 use Rattle.system.specs.RowOrder.{Entry, append}
 use Rattle.system.proofs.Basics.{Prefix, prefix_length, prefix_take, length_snoc}
 use Rattle.index.specs.declared.Row.{Row}
-use Rattle.index.specs.declared.Appended.{Appended}
-use Rattle.index.specs.declared.Appended.TheVariants.{Rows, Full}
+use Rattle.std.specs.Prelude.{Option, Some, None}
 use Rattle.index.specs.Index.{Indexed}
 use Rattle.index.specs.Appending.{Lists, Appending}
 use Rattle.index.specs.Entries.{Masks, row_of}
@@ -35,35 +34,35 @@ module _ (S : System) (M : Masks S) where
     stands_length = ap length (sym T.entries) ∙ length_entries S M _ _ n
 
     -- every row is listed
-    pub continues_rows : n ≤ length x.packets → Continues S M x y count es (Rows n)
+    pub continues_rows : n ≤ length x.packets → Continues S M x y count es (Some n)
     unfolding answer_for
     continues_rows l =
         record {
           answers =
-              ap Rows (sym stands_length)
-              ∙ sym (ap (λ b. cond b Full (Rows (length es))) (le-ltb (length x.packets) (length es) (omega (arith, stands_length))));
+              ap Some (sym stands_length)
+              ∙ sym (ap (λ b. cond b None (Some (length es))) (le-ltb (length x.packets) (length es) (omega (arith, stands_length))));
           standing =
               let whole : take (length x.packets) es ≡ es = take_all (length x.packets) es (omega (arith, stands_length)) in
               subst (λ l. Standing S M x y count (length l) l) (sym whole) (subst (λ m. Standing S M x y count m es) (sym stands_length) T);
         }
 
     -- the lists are full, and the rows go on
-    pub continues_full : (e : Entry S) (fs : List (Entry S)) → n ≡ length x.packets → Prefix (es ++ (e ∷ [])) fs → Continues S M x y count fs Full
+    pub continues_full : (e : Entry S) (fs : List (Entry S)) → n ≡ length x.packets → Prefix (es ++ (e ∷ [])) fs → Continues S M x y count fs None
     unfolding answer_for
     continues_full e fs full p =
         record {
           answers =
-              sym (ap (λ b. cond b Full (Rows (length fs))) (lt-ltb (length x.packets) (length fs) (omega (arith, prefix_length p, length_snoc es e, stands_length))));
+              sym (ap (λ b. cond b None (Some (length fs))) (lt-ltb (length x.packets) (length fs) (omega (arith, prefix_length p, length_snoc es e, stands_length))));
           standing =
               let first : take (length x.packets) fs ≡ es =
               prefix_take p (length x.packets) (omega (arith, length_snoc es e, stands_length)) ∙ take_at es (e ∷ []) (length x.packets) (stands_length ∙ full) in
               subst (λ l. Standing S M x y count (length l) l) (sym first) (subst (λ m. Standing S M x y count m es) (sym stands_length) T);
         }
 
-    module _ (lawful : Lawful S) {z : Lists} {r : Row} {p : ℕ} {answer : Appended} (A : Appending y z count n r p answer)
+    module _ (lawful : Lawful S) {z : Lists} {r : Row} {p : ℕ} {answer : Option ℕ} (A : Appending y z count n r p answer)
         (long : length y.parents ≡ length y.packets) where
       -- a row appended, or listed already
-      pub stands_rows : (m : ℕ) → answer ≡ Rows m → Standing S M x z count m (append S p es (row_of S M r))
+      pub stands_rows : (m : ℕ) → answer ≡ Some m → Standing S M x z count m (append S p es (row_of S M r))
       stands_rows m e =
           let g : Grew S M y z count n m r p = appended_rows S M lawful A T.indexed long m e in
           record {
@@ -76,9 +75,9 @@ module _ (S : System) (M : Masks S) where
           }
 
       -- no room for the row: any list that goes on from the append is cut where the room ends
-      pub stands_full : answer ≡ Full → length y.packets ≡ length x.packets → (fs : List (Entry S)) → Prefix (append S p es (row_of S M r)) fs → Continues S M x z count fs Full
+      pub stands_full : answer ≡ None → length y.packets ≡ length x.packets → (fs : List (Entry S)) → Prefix (append S p es (row_of S M r)) fs → Continues S M x z count fs None
       stands_full e same fs pre =
           let s : Stuck S M y z n r p = appended_full S M lawful A T.indexed long e in
-          subst (λ w. Continues S M x w count fs Full) (sym s.same)
+          subst (λ w. Continues S M x w count fs None) (sym s.same)
           (continues_full (record { row = row_of S M r; parent = p }) fs (s.room ∙ same)
           (subst (λ l. Prefix l fs) (ap (λ l. append S p l (row_of S M r)) (sym T.entries) ∙ s.needed ∙ ap (λ l. l ++ (record { row = row_of S M r; parent = p } ∷ [])) T.entries) pre))

@@ -1,5 +1,5 @@
 -- What the lent row lists stand for: the first rows are a list of the system's entries, and the lists keep their contents beyond.
-use Rattle.std.specs.Prelude.{◌≡◌, cond, List, ℕ, ◌<◌, ltb, length, get_or, take, drop}
+use Rattle.std.specs.Prelude.{◌≡◌, cond, List, ℕ, Option, Some, None, ◌<◌, ltb, length, get_or, take, drop}
 use Rattle.std.proofs.Math.Path.{refl}
 use Rattle.packet.specs.Sizes.{product}
 use Rattle.system.specs.System.{System, Lawful, Row}
@@ -7,16 +7,14 @@ use Rattle.system.specs.RowOrder.{Entry, starts, append_next}
 use Rattle.pair.specs.Sides.{left, right, Pair, at, on_both, NumberedPolicy}
 use Rattle.pair.specs.Pair as pair
 use Rattle.pair.specs.Pair.{next_at, both_zero, pair_system}
-use Rattle.index.specs.declared.Appended.{Appended}
-use Rattle.index.specs.declared.Appended.TheVariants.{Rows, Full}
 use Rattle.index.specs.Columns.{policy_count, masks_agree, all_zero}
 use Rattle.index.specs.Index.{Indexed}
 use Rattle.index.specs.Appending.{Lists}
 use Rattle.index.specs.Entries.{Masks, entries}
 
--- the rows answered: full when there are more than were lent
-unfoldable pub answer_for : ℕ → ℕ → Appended
-answer_for lent n = cond (ltb lent n) Full (Rows n)
+-- the rows answered: none when there are more than were lent
+unfoldable pub answer_for : ℕ → ℕ → Option ℕ
+answer_for lent n = cond (ltb lent n) None (Some n)
 
 module _ (S : System) (M : Masks S) where
   -- the entries that the first n rows are
@@ -33,7 +31,7 @@ module _ (S : System) (M : Masks S) where
     pub parents : drop n y.parents ≡ drop n x.parents
 
   -- The rows es are listed, as many of them as were lent.
-  pub record Continues (x y : Lists) (count : ℕ) (es : List (Entry S)) (answer : Appended) : Type 0 where
+  pub record Continues (x y : Lists) (count : ℕ) (es : List (Entry S)) (answer : Option ℕ) : Type 0 where
     pub answers : answer ≡ answer_for (length x.packets) (length es)
     pub standing : Standing x y count (length (take (length x.packets) es)) (take (length x.packets) es)
 
@@ -60,12 +58,12 @@ module _ (sizes : List ℕ) (ps : Pair NumberedPolicy) where
     pub right_next : (γ : ℕ) → γ < product sizes → get_or rights γ 0 ≡ next_at sizes ps right r.packet r.state γ
 
 -- The starting rows are listed, whatever policies of so many packets the masks belong to.
-pub record Started (x y : Lists) (count : ℕ) (answer : Appended) : Type 0 where
+pub record Started (x y : Lists) (count : ℕ) (answer : Option ℕ) : Type 0 where
   pub started : (sizes : List ℕ) (ps : Pair NumberedPolicy) → Lawful (pair_system sizes ps) → product sizes ≡ count
       → Continues (pair_system sizes ps) (pair_masks sizes ps) x y count (starts (pair_system sizes ps) (product sizes)) answer
 
 -- Row p has been handled: the rows next of it, whose masks the two lists hold, are appended to the first n.
-pub record NextAppended (x y : Lists) (count n p : ℕ) (lefts rights : List ℕ) (answer : Appended) : Type 0 where
+pub record NextAppended (x y : Lists) (count n p : ℕ) (lefts rights : List ℕ) (answer : Option ℕ) : Type 0 where
   pub appended : (sizes : List ℕ) (ps : Pair NumberedPolicy) → Lawful (pair_system sizes ps) → product sizes ≡ count
       → (r : Row (pair_system sizes ps)) → Nexts sizes ps r lefts rights
       → Continues (pair_system sizes ps) (pair_masks sizes ps) x y count (append_next (pair_system sizes ps) (product sizes) p r (rows_in (pair_system sizes ps) (pair_masks sizes ps) x n)) answer

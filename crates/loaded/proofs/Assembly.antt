@@ -141,8 +141,7 @@ module _ (L : NodeLists) (alone ups labels places : List ℕ) (p : Parts L alone
         way n (rises a b c) = let s = few L f in omega arith
 
     -- ---- a packed node gives its parts back
-    module _ (nodes₀ nodes₁ nodes : List ℕ) (k : PackedAll L guards alone labels ups nodes₀ nodes₁) (j : PlacedAll places nodes₁ nodes)
-        (first_fits : (n : ℕ) → get_or L.first n 0 < 65536) (second_fits : (n : ℕ) → get_or L.second n 0 < 65536) where
+    module _ (nodes₀ nodes₁ nodes : List ℕ) (k : PackedAll L guards alone labels ups nodes₀ nodes₁) (j : PlacedAll places nodes₁ nodes) where
       module _ (n : ℕ) (l : n < node_count L) where
         parts : Packed L guards alone labels ups nodes₁ n
         parts = k.each n l
@@ -189,30 +188,30 @@ module _ (L : NodeLists) (alone ups labels places : List ℕ) (p : Parts L alone
         unfolding read_at node_in node_at
         node_read = fits (λ m. node_in (get_or nodes n 0) ≡ node_at L n) (λ hk hs ht hl hu ho.
             ap node_in here
-            ∙ ap (λ (x : ℕ). node_of x (packed kd fr sn gd al lb up keeps / 16 % 65536) (packed kd fr sn gd al lb up keeps / 1048576 % 65536)) (kind_back kd fr sn gd al lb up keeps hk (first_fits n) (second_fits n) hs ht hl hu ho)
-            ∙ ap₂ (node_of kd) (first_back kd fr sn gd al lb up keeps hk (first_fits n) (second_fits n) hs ht hl hu ho) (second_back kd fr sn gd al lb up keeps hk (first_fits n) (second_fits n) hs ht hl hu ho))
+            ∙ ap (λ (x : ℕ). node_of x (packed kd fr sn gd al lb up keeps / 16 % 65536) (packed kd fr sn gd al lb up keeps / 1048576 % 65536)) (kind_back kd fr sn gd al lb up keeps hk parts.first_small parts.second_small hs ht hl hu ho)
+            ∙ ap₂ (node_of kd) (first_back kd fr sn gd al lb up keeps hk parts.first_small parts.second_small hs ht hl hu ho) (second_back kd fr sn gd al lb up keeps hk parts.first_small parts.second_small hs ht hl hu ho))
 
         set_read : set_in (get_or nodes n 0) ≡ get_or guards n 0
-        set_read = fits (λ m. set_in (get_or nodes n 0) ≡ get_or guards n 0) (λ hk hs ht hl hu ho. ap set_in here ∙ set_back kd fr sn gd al lb up keeps hk (first_fits n) (second_fits n) hs ht hl hu ho)
+        set_read = fits (λ m. set_in (get_or nodes n 0) ≡ get_or guards n 0) (λ hk hs ht hl hu ho. ap set_in here ∙ set_back kd fr sn gd al lb up keeps hk parts.first_small parts.second_small hs ht hl hu ho)
 
         tests_read : tests_at nodes n ≡ is_test (tree_of L n)
         unfolding tests_at tests_in
         tests_read = fits (λ m. tests_at nodes n ≡ is_test (tree_of L n)) (λ hk hs ht hl hu ho.
             ap tests_in here
-            ∙ ap (λ (x : ℕ). eqb x 1) (test_back kd fr sn gd al lb up keeps hk (first_fits n) (second_fits n) hs ht hl hu ho ∙ p.alone_is.flags n l)
+            ∙ ap (λ (x : ℕ). eqb x 1) (test_back kd fr sn gd al lb up keeps hk parts.first_small parts.second_small hs ht hl hu ho ∙ p.alone_is.flags n l)
             ∙ one_back (is_test (tree_of L n)))
 
         label_read : label_in (get_or nodes n 0) ≡ dups_below L (suc n)
-        label_read = fits (λ m. label_in (get_or nodes n 0) ≡ dups_below L (suc n)) (λ hk hs ht hl hu ho. ap label_in here ∙ label_back kd fr sn gd al lb up keeps hk (first_fits n) (second_fits n) hs ht hl hu ho ∙ p.labels_are.labelled n l)
+        label_read = fits (λ m. label_in (get_or nodes n 0) ≡ dups_below L (suc n)) (λ hk hs ht hl hu ho. ap label_in here ∙ label_back kd fr sn gd al lb up keeps hk parts.first_small parts.second_small hs ht hl hu ho ∙ p.labels_are.labelled n l)
 
         up_read : up_at nodes n ≡ get_or ups n 0
         unfolding up_at
-        up_read = fits (λ m. up_in (get_or nodes n 0) ≡ get_or ups n 0) (λ hk hs ht hl hu ho. ap up_in here ∙ up_back kd fr sn gd al lb up keeps hk (first_fits n) (second_fits n) hs ht hl hu ho)
+        up_read = fits (λ m. up_in (get_or nodes n 0) ≡ get_or ups n 0) (λ hk hs ht hl hu ho. ap up_in here ∙ up_back kd fr sn gd al lb up keeps hk parts.first_small parts.second_small hs ht hl hu ho)
 
         star_read : (c : ℕ) → node_at L n ≡ Star c → T (slot_in (get_or nodes n 0))
         unfolding slot_in
         star_read c e = fits (λ m. T (slot_in (get_or nodes n 0))) (λ hk hs ht hl hu ho.
-            true_T (ap slot_in here ∙ ap (λ (x : ℕ). eqb x 1) (slot_back kd fr sn gd al lb up keeps hk (first_fits n) (second_fits n) hs ht hl hu ho ∙ parts.star c e)))
+            true_T (ap slot_in here ∙ ap (λ (x : ℕ). eqb x 1) (slot_back kd fr sn gd al lb up keeps hk parts.first_small parts.second_small hs ht hl hu ho ∙ parts.star c e)))
 
         guard_read : (α : ℕ) → guard_at nodes tests n α ≡ held (get_or guards n 0) α
         unfolding guard_at

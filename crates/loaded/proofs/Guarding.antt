@@ -11,7 +11,7 @@ use Rattle.policy.specs.declared.Node.TheVariants.{Drop, Id, Field, Dup, Sum, Se
 use Rattle.policy.specs.InnerEach.{Each}
 use Rattle.policy.specs.NodeLists.{NodeLists, node_count, node_at, children}
 use Rattle.policy.proofs.EachLaws.{each_map}
-use Rattle.loaded.specs.Loading.{Formed, guard_of, Guards, Flags, seconded}
+use Rattle.loaded.specs.Loading.{Formed, guard_of, Flags, seconded}
 use Rattle.loaded.proofs.Bounds.{replicate_le, set_le}
 use Rattle.loaded.proofs.Trees.{below, small}
 
@@ -24,6 +24,19 @@ guard_flag guards (suc f) k node h = refl
 
 pub guard_is : (guards : List ℕ) (f k : ℕ) (node d : Node) → f ≡ 0 → node ≡ d → guard_of guards 0 k d ≡ guard_of guards f k node
 guard_is guards f k node d z e = sym (ap₂ (λ (f : ℕ) (x : Node). guard_of guards f k x) z e)
+
+-- of a node that is no sequence
+pub guard_none : (guards : List ℕ) (f k : ℕ) (node : Node) → f ≡ 0 → ((l r : ℕ) → node ≡ Seq l r → ⊥) → 0 ≡ guard_of guards f k node
+unfolding guard_of
+guard_none guards (suc f) k node z h = absurd (omega arith)
+guard_none guards zero k Drop z h = refl
+guard_none guards zero k Id z h = refl
+guard_none guards zero k (Field a) z h = refl
+guard_none guards zero k Dup z h = refl
+guard_none guards zero k (Sum x y) z h = refl
+guard_none guards zero k (Seq x y) z h = absurd (h x y refl)
+guard_none guards zero k (Star x) z h = refl
+guard_none guards zero k (Neg x) z h = refl
 
 -- a guard reads no entry but those of children
 guard_kept : (guards : List ℕ) (n v f k : ℕ) (d : Node) → Each (λ c. c < n) (children d) → guard_of (set guards n v) f k d ≡ guard_of guards f k d
@@ -65,13 +78,22 @@ module _ (L : NodeLists) (f : Formed L) (alone sets : List ℕ) where
             (get_or-set_same guards n v 0 (let q = small L f n l in omega (arith, m.long)) ∙ ev ∙ ap (guard_of guards (get_or alone n 0) (get_or sets n 0)) en ∙ sym (kept n (omega arith)))
         split j h (no e) = get_or-set_other guards n j v 0 e ∙ m.done j (omega arith) ∙ sym (kept j (omega arith))
 
-    pub guarding_end : node_count L ≤ n → Guards L alone sets guards
-    guarding_end h = record { guard = λ j l. m.done j (omega arith) }
-
 -- ---- second parts
 
 pub seconded_is : (parts : List ℕ) (node d : Node) → node ≡ d → seconded parts d ≡ seconded parts node
 seconded_is parts node d e = sym (ap (seconded parts) e)
+
+-- a node that is no sequence flags none
+pub seconded_none : (parts : List ℕ) (node : Node) → ((l r : ℕ) → node ≡ Seq l r → ⊥) → parts ≡ seconded parts node
+unfolding seconded
+seconded_none parts Drop h = refl
+seconded_none parts Id h = refl
+seconded_none parts (Field a) h = refl
+seconded_none parts Dup h = refl
+seconded_none parts (Sum x y) h = refl
+seconded_none parts (Seq x y) h = absurd (h x y refl)
+seconded_none parts (Star x) h = refl
+seconded_none parts (Neg x) h = refl
 
 pub no_seconds : (parts : List ℕ) → parts ≡ replicate 512 0 → Flags parts
 unfolding Flags

@@ -13,7 +13,7 @@ use Rattle.policy.specs.declared.Node.{Node}
 use Rattle.policy.specs.declared.Node.TheVariants.{Drop, Id, Field, Dup, Sum, Seq, Star, Neg}
 use Rattle.policy.specs.NodeLists.{NodeLists, node_count, node_at, is_dup, one, dups_below}
 use Rattle.loaded.specs.Loaded.{DupAt}
-use Rattle.loaded.specs.Loading.{Formed, Labels, dup_placed, Places}
+use Rattle.loaded.specs.Loading.{Formed, Labels, dup_placed}
 use Rattle.loaded.proofs.Bounds.{replicate_le}
 use Rattle.loaded.proofs.Trees.{few, some, few_dups, small}
 
@@ -61,19 +61,27 @@ module _ (L : NodeLists) (f : Formed L) where
             (get_or-set_same labels n d' 0 (let q = few L f in omega (arith, m.long)) ∙ here)
         split j (no e) h = get_or-set_other labels n j d' 0 e ∙ m.done j (omega arith)
 
-    pub counting_end : node_count L ≤ n → Labels L labels
-    counting_end h = record { labelled = λ j l. m.done j (omega arith) }
-
 -- ---- places
 
 pub placed_is : (label n : ℕ) (places : List ℕ) (node d : Node) → node ≡ d → dup_placed label n places d ≡ dup_placed label n places node
 placed_is label n places node d e = sym (ap (dup_placed label n places) e)
 
-placed_dup : (label n : ℕ) (places : List ℕ) (node : Node) → node ≡ Dup → set places label n ≡ dup_placed label n places node
+pub not_dup : (node : Node) → (node ≡ Dup → ⊥) → is_dup node ≡ false
+unfolding is_dup
+not_dup Drop h = refl
+not_dup Id h = refl
+not_dup (Field a) h = refl
+not_dup Dup h = absurd (h refl)
+not_dup (Sum x y) h = refl
+not_dup (Seq x y) h = refl
+not_dup (Star x) h = refl
+not_dup (Neg x) h = refl
+
+pub placed_dup : (label n : ℕ) (places : List ℕ) (node : Node) → node ≡ Dup → set places label n ≡ dup_placed label n places node
 unfolding dup_placed
 placed_dup label n places node e = placed_is label n places node Dup e
 
-placed_none : (label n : ℕ) (places : List ℕ) (node : Node) → is_dup node ≡ false → places ≡ dup_placed label n places node
+pub placed_none : (label n : ℕ) (places : List ℕ) (node : Node) → is_dup node ≡ false → places ≡ dup_placed label n places node
 unfolding dup_placed is_dup
 placed_none label n places Drop h = refl
 placed_none label n places Id h = refl
@@ -183,13 +191,3 @@ module _ (L : NodeLists) (f : Formed L) where
 
     pub label_fits : (labels : List ℕ) → Labels L labels → get_or labels n 0 < mask_bits
     label_fits labels g = let h = few_dups L f (suc n) l in omega (arith, g.labelled n l)
-
-  pub placing_end : (places : List ℕ) (n : ℕ) → Placing L places n → node_count L ≤ n → Places L places
-  placing_end places n m h =
-      let e : n ≡ node_count L = omega (arith, m.at) in
-      record {
-        whole = m.whole;
-        dups = subst (λ (k : ℕ). (i : ℕ) → 0 < i → i ≤ dups_below L k → DupAt L i (get_or places i 0)) e m.dups;
-        none = subst (λ (k : ℕ). (i : ℕ) → dups_below L k < i → i < mask_bits → get_or places i 0 ≡ 512) e m.none;
-        small = m.short;
-      }

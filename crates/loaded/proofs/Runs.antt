@@ -1,6 +1,6 @@
 -- Packets put into a set by runs: those with a value in a field lie in runs as long as the field's stride, a period apart.
 use Prim.Native.Nat.{ℕ, zero, suc, ◌+◌, ◌*◌, ◌/◌, ◌%◌, ◌≤◌, ◌<◌}
-use mathlib.Core.Bool.{Bool, true, false, ◌&&◌, ◌||◌, or-false}
+use mathlib.Core.Bool.{Bool, true, false, ◌&&◌, ◌||◌}
 use mathlib.Core.List.{List, [], ◌∷◌}
 use mathlib.Core.Logic.{◌⊎◌, inl, inr}
 use mathlib.Core.Path.{◌≡◌, refl, sym, ap, ap₂, ◌∙◌, subst}
@@ -52,9 +52,6 @@ or_more true b c d e = refl
 or_more false b c d e = e
 
 module _ (from to : ℕ) (s₀ : List ℕ) where
-  pub inserting_start : from ≤ to → length s₀ ≡ 32 → Inserting from to s₀ s₀ from
-  inserting_start l w = record { low = omega arith; high = l; wide = w; members = λ γ. sym (ap (λ (b : Bool). member s₀ γ || b) (no_run from γ) ∙ or-false (member s₀ γ)) }
-
   module _ (s : List ℕ) (p : ℕ) (i : Inserting from to s₀ s p) where
     pub inserting_turn : p < to → to ≤ 1024 → (s' : List ℕ) → s' ≡ with_packet s p → Inserting from to s₀ s' (p + 1)
     inserting_turn l small s' e = record {
@@ -63,11 +60,6 @@ module _ (from to : ℕ) (s₀ : List ℕ) where
       wide = ap length e ∙ length_with s p ∙ i.wide;
       members = λ γ. ap (λ (x : List ℕ). member x γ) e ∙ member_with s p γ (omega (arith, i.wide)) ∙ ap (λ (b : Bool). b || eqb γ p) (i.members γ) ∙ or_more (member s₀ γ) (leb from γ && ltb γ p) (eqb γ p) (leb from γ && ltb γ (p + 1)) (run_more from p γ i.low);
     }
-
-    pub inserting_end : to ≤ p → RangeAdded from to s₀ s
-    inserting_end l =
-        let e : p ≡ to = omega (arith, i.high) in
-        record { wide = i.wide; members = λ γ. i.members γ ∙ ap (λ (x : ℕ). member s₀ γ || (leb from γ && ltb γ x)) e }
 
 -- ---- every packet
 
@@ -209,6 +201,9 @@ module _ (t z v N : ℕ) (some : 0 < t) (value : v < z) where
 pub record Field (sizes : List ℕ) (f v : ℕ) : Type 0 where
   pub legal : LegalSizes sizes
   pub is_in_field : bad_field sizes f v ≡ false
+
+pub asked : {sizes : List ℕ} {count f v : ℕ} → LegalSizes sizes × (count ≡ product sizes) × (bad_field sizes f v ≡ false) → Field sizes f v
+asked h = record { legal = h.0; is_in_field = h.2 }
 
 module _ (sizes : List ℕ) (f v : ℕ) (g : Field sizes f v) where
   pub field_within : f < length sizes

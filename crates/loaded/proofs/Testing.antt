@@ -103,17 +103,12 @@ module _ (sizes : List ℕ) (L : NodeLists) (count : ℕ) (all : List ℕ) (g : 
   by_tree r d e = subst (λ (p : Policy). HasMembers r (passing sizes p)) (sym (tree d e))
 
   module _ (r : List ℕ) where
-    pub drop_node : node ≡ Drop → r ≡ empty_set → HasMembers r (passing sizes (tree_of L n))
+    -- the nodes that let nothing through
+    pub empty_node : (node ≡ Drop) ⊎ ((node ≡ Dup) ⊎ ((c : ℕ) × (node ≡ Star c))) → r ≡ empty_set → HasMembers r (passing sizes (tree_of L n))
     unfolding grow passes
-    drop_node e h = by_tree r Drop e (nothing_passes sizes drop r (λ γ. refl) h)
-
-    pub dup_node : node ≡ Dup → r ≡ empty_set → HasMembers r (passing sizes (tree_of L n))
-    unfolding grow passes
-    dup_node e h = by_tree r Dup e (nothing_passes sizes (dup (dups_below L (suc n))) r (λ γ. refl) h)
-
-    pub star_node : (c : ℕ) → node ≡ Star c → r ≡ empty_set → HasMembers r (passing sizes (tree_of L n))
-    unfolding grow passes
-    star_node c e h = by_tree r (Star c) e (nothing_passes sizes (star (tree_of L c)) r (λ γ. refl) h)
+    empty_node (inl e) h = by_tree r Drop e (nothing_passes sizes drop r (λ γ. refl) h)
+    empty_node (inr (inl e)) h = by_tree r Dup e (nothing_passes sizes (dup (dups_below L (suc n))) r (λ γ. refl) h)
+    empty_node (inr (inr (c, e))) h = by_tree r (Star c) e (nothing_passes sizes (star (tree_of L c)) r (λ γ. refl) h)
 
     pub id_node : node ≡ Id → r ≡ all → HasMembers r (passing sizes (tree_of L n))
     unfolding grow passes passing every_packet

@@ -11,15 +11,19 @@ use Rattle.policy.specs.NodeLists.{NodeLists, node_count, node_at, children, dup
 use Rattle.policy.proofs.EachLaws.{each_map}
 use Rattle.policy.proofs.LabelLaws.{dups_more}
 use Rattle.policy.proofs.Trees.{ChildrenBelow, children_below, tree_grow}
-use Rattle.tree_causes.specs.Counting.{CountableChildren}
 use Rattle.loaded.specs.Loading.{Formed}
 use Rattle.tree_causes.specs.Alone.{ChildrenPlaced}
 
 pub legal_formed : (sizes : List ℕ) (L : NodeLists) → Legal sizes L → Formed L
 legal_formed sizes L g = record { sizes = sizes; legal = g }
 
-pub legal_countable : {sizes : List ℕ} {L : NodeLists} → Legal sizes L → CountableChildren L
-legal_countable g = record { firsts = g.well_formed.firsts; seconds = g.well_formed.seconds; few = g.well_formed.few; below = g.well_formed.below }
+-- the lists are as long as one another, and no longer than what goes with them
+abbrev pub Alike : NodeLists → Type 0
+Alike L = (length L.first ≡ length L.kind) × (length L.second ≡ length L.kind) × (length L.kind ≤ 512)
+
+pub formed_alike : {L : NodeLists} → Formed L → Alike L
+unfolding node_count
+formed_alike f = (f.legal.well_formed.firsts, f.legal.well_formed.seconds, f.legal.well_formed.few)
 
 module _ (L : NodeLists) (f : Formed L) where
   pub below : ChildrenBelow L
@@ -60,8 +64,3 @@ module _ (L : NodeLists) (f : Formed L) where
     pub in_lists : (n < length L.kind) × (n < length L.first) × (n < length L.second)
     unfolding node_count
     in_lists = let h = firsts in let k = seconds in omega arith
-
-  -- an index that the loops read at
-  pub in_reach : (n : ℕ) → n < length L.kind → (n < length L.kind) × (n < length L.first) × (n < length L.second) × (n < 512)
-  unfolding node_count
-  in_reach n l = let h = firsts in let k = seconds in let q = few in omega arith

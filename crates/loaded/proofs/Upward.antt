@@ -32,6 +32,19 @@ told_flag (suc f) n ups node h = refl
 pub told_is : (f n : ℕ) (ups : List ℕ) (node d : Node) → f ≡ 0 → node ≡ d → ways_told 0 n ups d ≡ ways_told f n ups node
 told_is f n ups node d z e = sym (ap₂ (λ (f : ℕ) (x : Node). ways_told f n ups x) z e)
 
+-- of a node that is no sum, no sequence and no star
+pub told_none : (f n : ℕ) (ups : List ℕ) (node : Node) → f ≡ 0 → ((l r : ℕ) → node ≡ Sum l r → ⊥) → ((l r : ℕ) → node ≡ Seq l r → ⊥) → ((c : ℕ) → node ≡ Star c → ⊥) → ups ≡ ways_told f n ups node
+unfolding ways_told
+told_none (suc f) n ups node z a b h = absurd (omega arith)
+told_none zero n ups Drop z a b h = refl
+told_none zero n ups Id z a b h = refl
+told_none zero n ups (Field x) z a b h = refl
+told_none zero n ups Dup z a b h = refl
+told_none zero n ups (Sum x y) z a b h = absurd (a x y refl)
+told_none zero n ups (Seq x y) z a b h = absurd (b x y refl)
+told_none zero n ups (Star x) z a b h = absurd (h x refl)
+told_none zero n ups (Neg x) z a b h = refl
+
 -- entries that are no children stay
 told_other : (n : ℕ) (ups : List ℕ) (d : Node) (c : ℕ) → occurrences c (children d) ≡ 0 → get_or (ways_told 0 n ups d) c 0 ≡ get_or ups c 0
 unfolding ways_told children

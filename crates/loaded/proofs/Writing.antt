@@ -8,42 +8,16 @@ use borrow.Author.Tests.{ltb-false}
 use lib.ListN.{length, get_or, set, length-set}
 use lib.Seq.{get_or-set_same, get_or-set_other}
 use Rattle.packet_set.specs.Bits.{mask_bits}
-use Rattle.policy.specs.declared.FieldAction.{FieldAction}
 use Rattle.policy.specs.declared.Node.{Node}
-use Rattle.policy.specs.declared.Node.TheVariants.{Drop, Id, Field, Dup, Sum, Seq, Star, Neg}
+use Rattle.policy.specs.declared.Node.TheVariants.{Star}
 use Rattle.policy.specs.Legality.{bad_kind}
 use Rattle.policy.specs.NodeLists.{NodeLists, node_count, node_at}
-use Rattle.loaded.specs.Loading.{Formed, packed, Packed, PackedAll, PlacedAll}
+use Rattle.loaded.specs.Loading.{Formed, packed, Packed}
 use Rattle.loaded.proofs.Trees.{small}
 
 pub kind_small : (L : NodeLists) → Formed L → (n : ℕ) → n < node_count L → get_or L.kind n 0 ≤ 9
 unfolding bad_kind
 kind_small L f n l = ltb-false 9 (get_or L.kind n 0) (f.legal.well_formed.kinds n l)
-
--- a node of another kind is no star
-pub drop_no_star : (c : ℕ) → Drop ≡ Star c → ⊥
-drop_no_star c h = let y : ◌≡◌ {A = ℕ} 0 1 = cc in omega arith
-
-pub id_no_star : (c : ℕ) → Id ≡ Star c → ⊥
-id_no_star c h = let y : ◌≡◌ {A = ℕ} 0 1 = cc in omega arith
-
-pub field_no_star : {a : FieldAction} (c : ℕ) → Field a ≡ Star c → ⊥
-field_no_star c h = let y : ◌≡◌ {A = ℕ} 0 1 = cc in omega arith
-
-pub dup_no_star : (c : ℕ) → Dup ≡ Star c → ⊥
-dup_no_star c h = let y : ◌≡◌ {A = ℕ} 0 1 = cc in omega arith
-
-pub sum_no_star : {l r : ℕ} (c : ℕ) → Sum l r ≡ Star c → ⊥
-sum_no_star c h = let y : ◌≡◌ {A = ℕ} 0 1 = cc in omega arith
-
-pub seq_no_star : {l r : ℕ} (c : ℕ) → Seq l r ≡ Star c → ⊥
-seq_no_star c h = let y : ◌≡◌ {A = ℕ} 0 1 = cc in omega arith
-
-pub neg_no_star : {l : ℕ} (c : ℕ) → Neg l ≡ Star c → ⊥
-neg_no_star c h = let y : ◌≡◌ {A = ℕ} 0 1 = cc in omega arith
-
-pub no_star : {node d : Node} {k : ℕ} → node ≡ d → ((c : ℕ) → d ≡ Star c → ⊥) → (c : ℕ) → node ≡ Star c → k ≡ 1
-no_star e none c q = absurd (none c (sym e ∙ q))
 
 -- a star keeps a slot, by the node that was read
 pub star_keeps : {node read : Node} {keeps : ℕ} → read ≡ node → ((c : ℕ) → read ≡ Star c → keeps ≡ 1) → (c : ℕ) → node ≡ Star c → keeps ≡ 1
@@ -61,20 +35,17 @@ module _ (L : NodeLists) (guards alone labels ups nodes : List ℕ) where
 
   module _ (now : List ℕ) (n : ℕ) (m : Writing L guards alone labels ups nodes now n) where
     pub writing_turn : Formed L → length nodes ≡ 576 → n < node_count L → (keeps : ℕ) → keeps ≤ 1 → ((c : ℕ) → node_at L n ≡ Star c → keeps ≡ 1)
-        → (x : ℕ) → x ≡ packed (get_or L.kind n 0) (get_or L.first n 0) (get_or L.second n 0) (get_or guards n 0) (get_or alone n 0) (get_or labels n 0) (get_or ups n 0) keeps
+        → get_or L.first n 0 < 65536 → get_or L.second n 0 < 65536 → (x : ℕ) → x ≡ packed (get_or L.kind n 0) (get_or L.first n 0) (get_or L.second n 0) (get_or guards n 0) (get_or alone n 0) (get_or labels n 0) (get_or ups n 0) keeps
         → Writing L guards alone labels ups nodes (set now n x) (n + 1)
-    writing_turn f w l keeps flag star x e = record { at = omega arith; long = length-set now n x ∙ m.long; each = λ j h. split j h (ℕ_discrete j n) }
+    writing_turn f w l keeps flag star a b x e = record { at = omega arith; long = length-set now n x ∙ m.long; each = λ j h. split j h (ℕ_discrete j n) }
       where
         split : (j : ℕ) → j < n + 1 → Dec (j ≡ n) → Packed L guards alone labels ups (set now n x) j
         split j h (yes q) =
             subst (Packed L guards alone labels ups (set now n x)) (sym q)
-            (record { keeps = keeps; flag = flag; star = star; here = get_or-set_same now n x 0 (let s = small L f n l in omega (arith, m.long)) ∙ e })
+            (record { keeps = keeps; flag = flag; star = star; first_small = a; second_small = b; here = get_or-set_same now n x 0 (let s = small L f n l in omega (arith, m.long)) ∙ e })
         split j h (no q) =
             let p = m.each j (omega arith) in
-            record { keeps = p.keeps; flag = p.flag; star = p.star; here = get_or-set_other now n j x 0 q ∙ p.here }
-
-    pub writing_end : node_count L ≤ n → PackedAll L guards alone labels ups nodes now
-    writing_end h = record { long = m.long; each = λ j l. m.each j (omega arith) }
+            record { keeps = p.keeps; flag = p.flag; star = p.star; first_small = p.first_small; second_small = p.second_small; here = get_or-set_other now n j x 0 q ∙ p.here }
 
 -- i places are written
 pub record Listing (places nodes now : List ℕ) (i : ℕ) : Type 0 where
@@ -82,25 +53,3 @@ pub record Listing (places nodes now : List ℕ) (i : ℕ) : Type 0 where
   pub long : length now ≡ length nodes
   pub after : (j : ℕ) → j < i → get_or now (512 + j) 0 ≡ get_or places j 0
   pub before : (n : ℕ) → n < 512 → get_or now n 0 ≡ get_or nodes n 0
-
-module _ (places nodes : List ℕ) where
-  pub listing_start : Listing places nodes nodes 0
-  listing_start = record { at = omega arith; long = refl; after = λ j h. absurd (omega arith); before = λ n h. refl }
-
-  module _ (now : List ℕ) (i : ℕ) (m : Listing places nodes now i) where
-    pub listing_turn : length nodes ≡ 576 → i < mask_bits → (x : ℕ) → x ≡ get_or places i 0 → Listing places nodes (set now (512 + i) x) (i + 1)
-    listing_turn w l x e = subst (λ (v : ℕ). Listing places nodes (set now (512 + i) v) (i + 1)) (sym e) (record {
-      at = omega arith;
-      long = length-set now (512 + i) (get_or places i 0) ∙ m.long;
-      after = λ j h. split j h (ℕ_discrete j i);
-      before = λ n h. get_or-set_other now (512 + i) n (get_or places i 0) 0 (omega arith) ∙ m.before n h;
-    })
-      where
-        split : (j : ℕ) → j < i + 1 → Dec (j ≡ i) → get_or (set now (512 + i) (get_or places i 0)) (512 + j) 0 ≡ get_or places j 0
-        split j h (yes e) =
-            subst (λ (x : ℕ). get_or (set now (512 + i) (get_or places i 0)) (512 + x) 0 ≡ get_or places x 0) (sym e)
-            (get_or-set_same now (512 + i) (get_or places i 0) 0 (omega (arith, m.long)))
-        split j h (no e) = get_or-set_other now (512 + i) (512 + j) (get_or places i 0) 0 (λ q. e (omega arith)) ∙ m.after j (omega arith)
-
-    pub listing_end : mask_bits ≤ i → PlacedAll places nodes now
-    listing_end h = record { after = λ j l. m.after j (omega arith); before = m.before }

@@ -1,5 +1,6 @@
 -- What the passes of the loader do.
-use Rattle.std.specs.Prelude.{ℕ, zero, suc, pred, ◌+◌, ◌*◌, ◌≤◌, ◌<◌, true, false, ◌&&◌, ◌||◌, List, ◌≡◌, eqb, leb, ltb, length, get_or, set}
+use Rattle.std.specs.Prelude.{ℕ, zero, suc, pred, ◌+◌, ◌*◌, ◌≤◌, ◌<◌, true, false, ◌&&◌, ◌||◌, Option, Some, None, List, ◌≡◌, eqb, leb, ltb, length, get_or, set}
+use Rattle.std.specs.Option.{ForSome}
 use Rattle.packet_set.specs.Bits.{mask_bits}
 use Rattle.packet.specs.Packets.{value_at}
 use Rattle.packet.specs.Sizes.{product, LegalSizes}
@@ -117,26 +118,26 @@ pub record SlotFilled (k : ℕ) (X : Members) (tests tests' : List ℕ) : Type 0
   pub others : (m γ : ℕ) → (m ≡ k → ⊥) → slot tests' m γ ≡ slot tests m γ
 
 -- c where the flag is not 0, and else d
-unfoldable pub pick : ℕ → ℕ → ℕ → ℕ
+unfoldable pub pick : ℕ → ℕ → Option ℕ → Option ℕ
 pick zero c d = d
-pick (suc f) c d = c
+pick (suc f) c d = Some c
 
--- the child that is tests alone, of a node that is not; 512: there is none
-unfoldable pub test_under : List ℕ → ℕ → Node → ℕ
-test_under alone zero Drop = 512
-test_under alone zero Id = 512
-test_under alone zero (Field a) = 512
-test_under alone zero Dup = 512
-test_under alone zero (Sum l r) = pick (get_or alone l 0) l (pick (get_or alone r 0) r 512)
-test_under alone zero (Seq l r) = pick (get_or alone l 0) l (pick (get_or alone r 0) r 512)
-test_under alone zero (Star c) = pick (get_or alone c 0) c 512
-test_under alone zero (Neg c) = 512
-test_under alone (suc f) node = 512
+-- the child that is tests alone, of a node that is not
+unfoldable pub test_under : List ℕ → ℕ → Node → Option ℕ
+test_under alone zero Drop = None
+test_under alone zero Id = None
+test_under alone zero (Field a) = None
+test_under alone zero Dup = None
+test_under alone zero (Sum l r) = pick (get_or alone l 0) l (pick (get_or alone r 0) r None)
+test_under alone zero (Seq l r) = pick (get_or alone l 0) l (pick (get_or alone r 0) r None)
+test_under alone zero (Star c) = pick (get_or alone c 0) c None
+test_under alone zero (Neg c) = None
+test_under alone (suc f) node = None
 
--- node c, if it is one, gets the next set
-pub record Gave (sizes : List ℕ) (L : NodeLists) (c k : ℕ) (sets tests : List ℕ) (k' : ℕ) (sets' tests' : List ℕ) : Type 0 where
-  pub none : 512 ≤ c → (k' ≡ k) × (sets' ≡ sets) × (tests' ≡ tests)
-  pub some : c < 512 → (k' ≡ k + 1) × (sets' ≡ set sets c (k + 1)) × SlotFilled (k + 1) (passing sizes (tree_of L c)) tests tests'
+-- the node, if there is one, gets the next set
+pub record Gave (sizes : List ℕ) (L : NodeLists) (node : Option ℕ) (k : ℕ) (sets tests : List ℕ) (k' : ℕ) (sets' tests' : List ℕ) : Type 0 where
+  pub none : node ≡ None → (k' ≡ k) × (sets' ≡ sets) × (tests' ≡ tests)
+  pub some : ForSome node (λ c. (k' ≡ k + 1) × (sets' ≡ set sets c (k + 1)) × SlotFilled (k + 1) (passing sizes (tree_of L c)) tests tests')
 
 -- the sets of the tests that may be entered: those under nodes that are not tests alone, and the root
 pub record TestSets (sizes : List ℕ) (L : NodeLists) (sets tests : List ℕ) : Type 0 where
@@ -190,6 +191,9 @@ pub record Packed (L : NodeLists) (guards alone labels ups : List ℕ) (nodes : 
   pub keeps : ℕ
   pub flag : keeps ≤ 1
   pub star : (c : ℕ) → node_at L n ≡ Star c → keeps ≡ 1
+  -- the entries are numbers of 16 bits
+  pub first_small : get_or L.first n 0 < 65536
+  pub second_small : get_or L.second n 0 < 65536
   pub here : get_or nodes n 0 ≡ packed (get_or L.kind n 0) (get_or L.first n 0) (get_or L.second n 0) (get_or guards n 0) (get_or alone n 0) (get_or labels n 0) (get_or ups n 0) keeps
 
 -- the parts of the nodes fit

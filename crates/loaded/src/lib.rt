@@ -4,7 +4,7 @@
 
 ghost use Rattle.std.specs.Prelude.{◌≡◌, length};
 ghost use Rattle.packet.specs.Sizes.{product, LegalSizes};
-ghost use Rattle.policy.specs.AsLists.{as_lists, policy_at_entry};
+ghost use Rattle.policy.specs.AsLists.{lists_of};
 ghost use Rattle.policy.specs.Legality.{Legal};
 ghost use Rattle.loaded.specs.Loaded.{Loaded};
 ghost use Rattle.loaded.specs.Nodes.{node_in, set_in, tests_in, label_in, up_in, slot_in};
@@ -17,7 +17,8 @@ pub mod sets;
 mod slots;
 mod ways;
 
-use policy::{FieldAction, Node};
+use policy::Node;
+use policy::lent::PolicyLists;
 
 // The nodes of a policy, then the places of its remainders: the root's and those of the dups.
 pub type Nodes = [u64; 576];
@@ -29,27 +30,17 @@ pub type Remainders = [u16; 64];
 pub type Tests = [u32; 8224];
 
 // Inner. The node in a packed number.
+#[tactic(auto, unfolding(crate::specs::Nodes::node_in))]
 pub fn node_in(x: u64) -> Node
     ensures { result ≡ node_in x }
 {
     let a = (x / 16 % 65536) as u16;
     let b = (x / 1048576 % 65536) as u16;
-    match x % 16 {
-        0 => Node::Drop,
-        1 => Node::Id,
-        2 => Node::Field(FieldAction::Equals(a, b)),
-        3 => Node::Field(FieldAction::Differs(a, b)),
-        4 => Node::Field(FieldAction::Set(a, b)),
-        5 => Node::Dup,
-        6 => Node::Sum(a, b),
-        7 => Node::Seq(a, b),
-        8 => Node::Star(a),
-        9 => Node::Neg(a),
-        _ => Node::Drop,
-    }
+    policy::node_of((x % 16) as u8, a, b)
 }
 
 // Inner. The number of its packet set; 0: there is none.
+#[tactic(auto, unfolding(crate::specs::Nodes::set_in))]
 pub fn set_in(x: u64) -> usize
     ensures { result ≡ set_in x }
 {
@@ -57,6 +48,7 @@ pub fn set_in(x: u64) -> usize
 }
 
 // Inner. Its tree is made of tests alone.
+#[tactic(auto, unfolding(crate::specs::Nodes::tests_in))]
 pub fn tests_in(x: u64) -> bool
     ensures { result ≡ tests_in x }
 {
@@ -64,6 +56,7 @@ pub fn tests_in(x: u64) -> bool
 }
 
 // Inner. The number of a dup.
+#[tactic(auto, unfolding(crate::specs::Nodes::label_in))]
 pub fn label_in(x: u64) -> u32
     ensures { result ≡ label_in x }
 {
@@ -71,6 +64,7 @@ pub fn label_in(x: u64) -> u32
 }
 
 // Inner. The node at which what comes out of it goes on; 512: nowhere.
+#[tactic(auto, unfolding(crate::specs::Nodes::up_in))]
 pub fn up_in(x: u64) -> usize
     ensures { result ≡ up_in x }
 {
@@ -78,6 +72,7 @@ pub fn up_in(x: u64) -> usize
 }
 
 // Inner. A slot is kept for it.
+#[tactic(auto, unfolding(crate::specs::Nodes::slot_in))]
 pub fn slot_in(x: u64) -> bool
     ensures { result ≡ slot_in x }
 {
@@ -85,28 +80,18 @@ pub fn slot_in(x: u64) -> bool
 }
 
 // Inner. Loads a policy: its nodes and the packet sets of its tests; count is the packet count.
-pub fn load(
-    sizes: &[u16],
-    count: u16,
-    kind: &[u8],
-    first: &[u16],
-    second: &[u16],
-    nodes: &mut Nodes,
-    tests: &mut Tests,
-)
-    requires { LegalSizes sizes.now × Legal sizes.now (as_lists kind.now first.now second.now) × (count ≡ product sizes.now) × (length nodes.old ≡ 576) × (length tests.old ≡ 8224) }
-    ensures { Loaded sizes.now (policy_at_entry kind first second) nodes.new tests.new }
+pub fn load(sizes: &[u16], count: u16, policy: PolicyLists, nodes: &mut Nodes, tests: &mut Tests)
+    requires { LegalSizes sizes.now × Legal sizes.now (lists_of policy) × (count ≡ product sizes.now) × (length nodes.old ≡ 576) × (length tests.old ≡ 8224) }
+    ensures { Loaded sizes.now (lists_of policy.entry) nodes.new tests.new }
 {
-    let alone = tree_causes::alone::tests_alone(kind, first, second);
-    let ups = ways::ways_up(kind, first, second, &alone);
-    let labels = dups::labels_of(kind, first, second);
-    let places = dups::places_of(kind, first, second, &labels);
+    let alone = tree_causes::alone::tests_alone(policy);
+    let ups = ways::ways_up(policy, &alone);
+    let labels = dups::labels_of(policy);
+    let places = dups::places_of(policy, &labels);
     let all = sets::every_packet(sizes, count);
-    let sets = numbering::number(sizes, count, kind, first, second, &alone, &all, tests);
-    let guards = guards::guards_of(kind, first, second, &alone, &sets);
-    let parts = slots::second_parts(kind, first, second);
-    pack::pack_nodes(
-        kind, first, second, &guards, &alone, &labels, &ups, &parts, nodes,
-    );
+    let sets = numbering::number(sizes, count, policy, &alone, &all, tests);
+    let guards = guards::guards_of(policy, &alone, &sets);
+    let parts = slots::second_parts(policy);
+    pack::pack_nodes(policy, &guards, &alone, &labels, &ups, &parts, nodes);
     pack::pack_places(&places, nodes);
 }

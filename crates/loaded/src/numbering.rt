@@ -1,70 +1,59 @@
 // The sets of the tests: each maximal subtree of tests alone gets the next.
 ghost use Rattle.std.specs.Prelude.{◌<◌, ◌≡◌, length, get_or};
-ghost use Rattle.policy.specs.AsLists.{as_lists, policy_at_entry};
+ghost use Rattle.std.specs.Option.{ForSome};
+ghost use Rattle.policy.specs.AsLists.{lists_of};
 ghost use Rattle.loaded.specs.Loading.{Loading, TestNode, pick, test_under, Gave, TestSets};
 ghost use Rattle.tree_causes.specs.Alone.{Alone, ChildrenPlaced};
 
 use crate::{Tests, sets};
 use packet_set::PacketWords;
 use policy::Node;
+use policy::lent::PolicyLists;
 
 // Inner. Node c where it is tests alone, and else d.
-fn pick_test(alone: &[u16; 512], c: usize, d: usize) -> usize
+fn pick_test(alone: &[u16; 512], c: usize, d: Option<usize>) -> Option<usize>
     requires { c < 512 }
     ensures { result ≡ pick (get_or alone.now c 0) c d }
 {
-    if alone[c] == 0 {
-        return d;
-    }
-    c
+    if alone[c] == 0 { d } else { Some(c) }
 }
 
-// Inner. The child that is tests alone, of a node that is not: there is at most one. 512: there is none.
-fn test_under(node: Node, flag: u16, alone: &[u16; 512]) -> usize
+// Inner. The child that is tests alone, of a node that is not: there is at most one.
+fn test_under(node: Node, flag: u16, alone: &[u16; 512]) -> Option<usize>
     requires { ChildrenPlaced node }
     ensures { result ≡ test_under alone.now flag node }
 {
     if flag != 0 {
-        return 512;
+        return None;
     }
     match node {
-        Node::Drop => 512,
-        Node::Id => 512,
-        Node::Field(_) => 512,
-        Node::Dup => 512,
-        Node::Sum(l, r) => {
-            let rest = pick_test(alone, r as usize, 512);
-            pick_test(alone, l as usize, rest)
+        Node::Sum(l, r) | Node::Seq(l, r) => {
+            let rest = pick_test(alone, usize::from(r), None);
+            pick_test(alone, usize::from(l), rest)
         }
-        Node::Seq(l, r) => {
-            let rest = pick_test(alone, r as usize, 512);
-            pick_test(alone, l as usize, rest)
-        }
-        Node::Star(c) => pick_test(alone, c as usize, 512),
-        Node::Neg(_) => 512,
+        Node::Star(c) => pick_test(alone, usize::from(c), None),
+        _ => None,
     }
 }
 
-// Inner. Node c, if there is one, gets the next set after k; as many are given as the answer says.
+// Inner. The node, if there is one, gets the next set after k; as many are given as the answer says.
 fn give(
     sizes: &[u16],
     count: u16,
-    kind: &[u8],
-    first: &[u16],
-    second: &[u16],
+    policy: PolicyLists,
     all: &PacketWords,
-    c: usize,
+    node: Option<usize>,
     k: usize,
     sets: &mut [u16; 512],
     tests: &mut Tests,
 ) -> usize
-    requires { Loading sizes.now (as_lists kind.now first.now second.now) count all.now × (length tests.old ≡ 8224) × (c < 512 → TestNode (as_lists kind.now first.now second.now) c × (k < 256)) }
-    ensures { Gave sizes.now (policy_at_entry kind first second) c k sets.old tests.old result sets.new tests.new }
+    requires { Loading sizes.now (lists_of policy) count all.now × (length tests.old ≡ 8224) × ForSome node (λ c. TestNode (lists_of policy) c × (k < 256)) }
+    ensures { Gave sizes.now (lists_of policy.entry) node k sets.old tests.old result sets.new tests.new }
 {
-    if 512 <= c {
+    let Some(c) = node else {
         return k;
-    }
-    let set = sets::test_set(sizes, count, kind, first, second, all, c);
+    };
+    let set = sets::test_set(sizes, count, policy, all, c);
     let next = k + 1;
     sets::keep(tests, next, &set);
     sets[c] = next as u16;
@@ -75,33 +64,21 @@ fn give(
 pub fn number(
     sizes: &[u16],
     count: u16,
-    kind: &[u8],
-    first: &[u16],
-    second: &[u16],
+    policy: PolicyLists,
     alone: &[u16; 512],
     all: &PacketWords,
     tests: &mut Tests,
 ) -> [u16; 512]
-    requires { Loading sizes.now (as_lists kind.now first.now second.now) count all.now × Alone (as_lists kind.now first.now second.now) alone.now × (length tests.old ≡ 8224) }
-    ensures { TestSets sizes.now (policy_at_entry kind first second) result tests.new }
+    requires { Loading sizes.now (lists_of policy) count all.now × Alone (lists_of policy) alone.now × (length tests.old ≡ 8224) }
+    ensures { TestSets sizes.now (lists_of policy.entry) result tests.new }
 {
     let mut sets = [0u16; 512];
-    let mut k: usize = 0;
-    let mut n = 0;
-    while n < kind.len() {
-        let c = test_under(
-            policy::lent::node_at(kind, first, second, n),
-            alone[n],
-            alone,
-        );
-        k = give(
-            sizes, count, kind, first, second, all, c, k, &mut sets, tests,
-        );
-        n += 1;
+    let mut k = 0;
+    for n in 0..policy.kind.len() {
+        let node = test_under(policy.node(n), alone[n], alone);
+        k = give(sizes, count, policy, all, node, k, &mut sets, tests);
     }
-    let root = pick_test(alone, kind.len() - 1, 512);
-    give(
-        sizes, count, kind, first, second, all, root, k, &mut sets, tests,
-    );
+    let root = pick_test(alone, policy.kind.len() - 1, None);
+    give(sizes, count, policy, all, root, k, &mut sets, tests);
     sets
 }

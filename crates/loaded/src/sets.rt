@@ -1,7 +1,7 @@
 // The packets that pass a policy made of tests alone.
 ghost use Rattle.std.specs.Prelude.{◌+◌, ◌*◌, ◌≤◌, ◌<◌, false, ◌≡◌, length};
 ghost use Rattle.packet.specs.Sizes.{product, LegalSizes};
-ghost use Rattle.policy.specs.AsLists.{as_lists, policy_at_entry};
+ghost use Rattle.policy.specs.AsLists.{lists_of};
 ghost use Rattle.policy.specs.Legality.{bad_field};
 ghost use Rattle.policy.specs.Tree.{field};
 ghost use Rattle.packet_set.specs.InnerMembers.{member};
@@ -11,6 +11,7 @@ ghost use Rattle.loaded.specs.Passing.{passing};
 
 use crate::Tests;
 use packet_set::PacketWords;
+use policy::lent::PolicyLists;
 use policy::{FieldAction, Node};
 
 // Inner. The set takes the packets from `from` on that are below `to`.
@@ -18,10 +19,8 @@ fn insert_run(set: &mut PacketWords, from: u16, to: u16)
     requires { (from ≤ to) × (to ≤ 1024) × (length set.old ≡ 32) }
     ensures { RangeAdded from to set.old set.new }
 {
-    let mut packet = from;
-    while packet < to {
+    for packet in from..to {
         packet_set::insert(set, packet);
-        packet += 1;
     }
 }
 
@@ -40,14 +39,12 @@ pub fn with_value(sizes: &[u16], count: u16, field: u16, value: u16) -> PacketWo
     requires { LegalSizes sizes.now × (count ≡ product sizes.now) × (bad_field sizes.now field value ≡ false) }
     ensures { HasMembers result (with_value sizes.now field value) }
 {
-    let at = field as usize;
+    let at = usize::from(field);
     let stride = packet::stride_of(sizes, at);
     let period = stride * sizes[at];
     let mut set = packet_set::empty();
-    let mut start = value * stride;
-    while start < count {
+    for start in (value * stride..count).step_by(usize::from(period)) {
         insert_run(&mut set, start, start + stride);
-        start += period;
     }
     set
 }
@@ -57,10 +54,8 @@ fn intersect(a: &mut PacketWords, b: &PacketWords)
     requires { length a.old ≡ 32 }
     ensures { Met a.old b.now a.new }
 {
-    let mut i = 0;
-    while i < 32 {
-        a[i] = a[i] & b[i];
-        i += 1;
+    for i in 0..32 {
+        a[i] &= b[i];
     }
 }
 
@@ -84,35 +79,31 @@ fn field_set(sizes: &[u16], count: u16, all: &PacketWords, action: FieldAction) 
 pub fn test_set(
     sizes: &[u16],
     count: u16,
-    kind: &[u8],
-    first: &[u16],
-    second: &[u16],
+    policy: PolicyLists,
     all: &PacketWords,
     n: usize,
 ) -> PacketWords
-    requires { Loading sizes.now (as_lists kind.now first.now second.now) count all.now × TestNode (as_lists kind.now first.now second.now) n }
-    ensures { HasMembers result (passing sizes.now (tree_of (policy_at_entry kind first second) n)) }
+    requires { Loading sizes.now (lists_of policy) count all.now × TestNode (lists_of policy) n }
+    ensures { HasMembers result (passing sizes.now (tree_of (lists_of policy.entry) n)) }
 {
-    match policy::lent::node_at(kind, first, second, n) {
-        Node::Drop => packet_set::empty(),
+    match policy.node(n) {
+        Node::Drop | Node::Dup | Node::Star(_) => packet_set::empty(),
         Node::Id => *all,
         Node::Field(action) => field_set(sizes, count, all, action),
-        Node::Dup => packet_set::empty(),
         Node::Sum(l, r) => {
-            let mut set = test_set(sizes, count, kind, first, second, all, l as usize);
-            let other = test_set(sizes, count, kind, first, second, all, r as usize);
+            let mut set = test_set(sizes, count, policy, all, usize::from(l));
+            let other = test_set(sizes, count, policy, all, usize::from(r));
             packet_set::union(&mut set, &other, 32);
             set
         }
         Node::Seq(l, r) => {
-            let mut set = test_set(sizes, count, kind, first, second, all, l as usize);
-            let other = test_set(sizes, count, kind, first, second, all, r as usize);
+            let mut set = test_set(sizes, count, policy, all, usize::from(l));
+            let other = test_set(sizes, count, policy, all, usize::from(r));
             intersect(&mut set, &other);
             set
         }
-        Node::Star(_) => packet_set::empty(),
         Node::Neg(c) => {
-            let mut rest = test_set(sizes, count, kind, first, second, all, c as usize);
+            let mut rest = test_set(sizes, count, policy, all, usize::from(c));
             packet_set::exclusive_or(&mut rest, all, 32);
             rest
         }
@@ -125,9 +116,5 @@ pub fn keep(tests: &mut Tests, k: usize, set: &PacketWords)
     ensures { SlotFilled k (member set.now) tests.old tests.new }
 {
     let start = 32 * k;
-    let mut i = 0;
-    while i < 32 {
-        tests[start + i] = set[i];
-        i += 1;
-    }
+    tests[start..start + 32].copy_from_slice(set);
 }

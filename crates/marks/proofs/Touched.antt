@@ -12,16 +12,15 @@ use lib.Seq.{get_or-set_same, get_or-set_other}
 use borrow.Author.Count.{below_more}
 use borrow.Author.Tests.{lt-ltb, le-ltb}
 use Rattle.packet_set.specs.Bits.{bit}
-use Rattle.packet_set.specs.InnerMembers.{member, words_for, lowest_in, lowest_answer}
-use Rattle.packet_set.specs.declared.Lowest.{Lowest}
-use Rattle.packet_set.specs.declared.Lowest.TheVariants.{At, Nothing}
+use Rattle.std.specs.Prelude.{Option, Some, None}
+use Rattle.packet_set.specs.InnerMembers.{member, words_for, lowest_in}
 use Rattle.packet_set.proofs.Digits.{bit_or_lem, bit_of_zero}
 use Rattle.packet_set.proofs.Masks.{bit_low}
 use Rattle.packet_set.proofs.Walk.{LowestIn, found_at, found_none}
 use Rattle.packet_set.proofs.Words.{words_hold, words_within}
 use Rattle.spans.specs.Spans.{has_mark, touched}
 use Rattle.spans.proofs.Sets.{zero_word, slot_word, slot_beyond}
-use Rattle.marks.specs.Marks.{Marking, Unmarked, Blank, NextMarked}
+use Rattle.marks.specs.Marks.{Marking, Unmarked, Blank}
 
 -- ---- one next list
 
@@ -107,42 +106,50 @@ module _ {left right now : List ℕ} where
           ap (λ (x : ℕ). bit x (γ % 32)) (get_or-eq_default now 0 (omega (arith, J.long))) ∙ bit_of_zero (γ % 32)
           ∙ sym (ap₂ (λ (a b : Bool). a || b) (touched_over left γ (omega arith)) (touched_over right γ (omega arith)))
 
--- ---- the next of a set
-
-module _ (words count from : ℕ) (s : List ℕ) (fits : count ≤ 32 * words) (low : from ≤ count) (below : (γ : ℕ) → T (member s γ) → γ < count)
-    (answer : Lowest) (found : answer ≡ lowest_answer (lowest_in words from s)) where
-  pub marked_at : (γ : ℕ) → answer ≡ At γ → NextMarked count from (member s) γ
-  marked_at γ e =
-      let f : LowestIn words from s γ = found_at words from s answer found γ e in
-      let b : γ < count = below γ (subst T (sym f.inside) tt) in
-      record { within = omega arith; after = f.above; between = f.first }
-
-  pub marked_none : answer ≡ Nothing → NextMarked count from (member s) count
-  marked_none e = record { within = omega arith; after = low; between = λ β a b. found_none words from s answer found e β a (omega arith) }
-
 -- ---- a walk over the packets that have marks in one of two next lists
 
+-- the packets from `from` on that are below `to` have no marks
+abbrev pub PassedOver : (left right : List ℕ) (from to : ℕ) → Type 0
+PassedOver left right from to = (β : ℕ) → from ≤ β → β < to → (get_or left β 0 ≡ 0) × (get_or right β 0 ≡ 0)
+
+-- the walk goes on at γ
+pub record NextMarked (N : ℕ) (left right : List ℕ) (from γ : ℕ) : Type 0 where
+  pub below : γ < N
+  pub above : from ≤ γ
+  pub passed : PassedOver left right from γ
+
+-- the words that N packets need
+pub walk_words : {N words n : ℕ} → N ≤ 1024 → words ≡ words_for n → n ≡ N → words ≤ 32
+walk_words {N} small e q = subst (λ (k : ℕ). k ≤ 32) (sym (e ∙ ap words_for q)) (words_within N small)
+
 module _ {N : ℕ} {left right : List ℕ} (L : Marking N left) (R : Marking N right) (s : List ℕ)
-    (joined : (γ : ℕ) → member s γ ≡ (touched left γ || touched right γ)) where
-  pub either_below : (γ : ℕ) → T (member s γ) → γ < N
+    (joined : (γ : ℕ) → member s γ ≡ (touched left γ || touched right γ)) (small : N ≤ 1024) where
+  either_below : (γ : ℕ) → T (member s γ) → γ < N
   either_below γ t = go (touched left γ) (touched right γ) (L.below γ) (R.below γ) (subst T (joined γ) t)
     where
       go : (a b : Bool) → (T a → γ < N) → (T b → γ < N) → T (a || b) → γ < N
       go true b l r t = l tt
       go false b l r t = r t
 
-  -- what each step of the walk asks, with the words that N packets need
-  pub walk_asks : {words n from : ℕ} → words ≡ words_for n → n ≡ N → N ≤ 1024 → from ≤ N
-      → ((words ≤ 32) × (N ≤ 32 * words) × (from ≤ N)) × ((γ : ℕ) → T (member s γ) → γ < N)
-  walk_asks {words} {n} e q small l =
-      let w : words ≡ words_for N = e ∙ ap words_for q in
-      ((omega (arith, words_within N small), omega (arith, words_hold N), l), either_below)
-
-  -- the packets passed over have no marks
-  pub passed_over : {from to : ℕ} → N ≤ 1024 → NextMarked N from (member s) to → (β : ℕ) → from ≤ β → β < to → (get_or left β 0 ≡ 0) × (get_or right β 0 ≡ 0)
-  passed_over small W β a b = go (touched left β) (touched right β) refl refl (sym (joined β) ∙ W.between β a b)
+  unmarked : {from to : ℕ} → to ≤ N → ((β : ℕ) → from ≤ β → β < to → member s β ≡ false) → PassedOver left right from to
+  unmarked h first β a b = go (touched left β) (touched right β) refl refl (sym (joined β) ∙ first β a b)
     where
       go : (x y : Bool) → touched left β ≡ x → touched right β ≡ y → x || y ≡ false → (get_or left β 0 ≡ 0) × (get_or right β 0 ≡ 0)
-      go false false p q e = (L.rest β (omega (arith, W.within)) p, R.rest β (omega (arith, W.within)) q)
+      go false false p q e = (L.rest β (omega arith) p, R.rest β (omega arith) q)
       go true y p q e = absurd (true≢false e)
       go false true p q e = absurd (true≢false e)
+
+  -- with the words that N packets need
+  module _ {words n : ℕ} (e : words ≡ words_for n) (q : n ≡ N) where
+    wide : N ≤ 32 * words
+    wide = subst (λ (k : ℕ). N ≤ 32 * k) (sym (e ∙ ap words_for q)) (words_hold N)
+
+    module _ {from : ℕ} {r : Option ℕ} (f : r ≡ lowest_in words from s) where
+      pub walk_at : {γ : ℕ} → r ≡ Some γ → NextMarked N left right from γ
+      walk_at {γ} h =
+          let l : LowestIn words from s γ = found_at words from s r f γ h in
+          let b : γ < N = either_below γ (subst T (sym l.inside) tt) in
+          record { below = b; above = l.above; passed = unmarked (omega arith) l.first }
+
+      pub walk_end : r ≡ None → PassedOver left right from N
+      walk_end h = unmarked (omega arith) (λ β a b. found_none words from s r f h β a (omega (arith, wide)))

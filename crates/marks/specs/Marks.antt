@@ -1,7 +1,6 @@
 -- The marks of next, packet by packet, and the packets that have some: a next list is 1,024 masks and then a packet set.
 use Rattle.std.specs.Prelude.{ℕ, ◌+◌, ◌<◌, ◌≤◌, false, List, ◌⊎◌, ◌≡◌, T, length, get_or}
 use Rattle.packet_set.specs.Bits.{bit}
-use Rattle.packet_set.specs.InnerMembers.{Members}
 use Rattle.spans.specs.Spans.{touched}
 
 -- a packet that is not touched has no mark, and touched packets are below N
@@ -18,12 +17,6 @@ pub record Unmarked (next : List ℕ) : Type 0 where
 pub record Blank (next : List ℕ) : Type 0 where
   pub long : length next ≡ 1056
   pub unmarked : Unmarked next
-
--- from `from` on no packet of the set is passed over before r, which is at most N
-pub record NextMarked (N from : ℕ) (X : Members) (r : ℕ) : Type 0 where
-  pub within : r ≤ N
-  pub after : from ≤ r
-  pub between : (β : ℕ) → from ≤ β → β < r → X β ≡ false
 
 -- of the 32 packets from `start` on, those that the word has, and those that had no mark, have none; all else is as it was
 pub record Forgotten (start word : ℕ) (next next' : List ℕ) : Type 0 where

@@ -8,12 +8,11 @@ use lib.Dec.{eqb}
 use lib.ListN.{length, get_or, set, take, replicate, length-set, length-replicate, get_or-replicate}
 use lib.Seq.{ext_get_or, get_or-take, get_or-set_same, get_or-set_other, length-take-le}
 use borrow.Author.Tests.{eqb-true, eqb-false, ne_eqb}
-use Rattle.policy.specs.AsLists.{as_lists}
 use Rattle.policy.specs.NodeLists.{NodeLists, node_of, node_at, node_count}
 use Rattle.policy.specs.Legality.{field_of}
 use Rattle.policy.specs.Mentions.{is_of_field, mentioned_below, mentioned, core_sizes}
 use Rattle.policy.proofs.MentionLaws.{core_length, core_at}
-use Rattle.mentions.specs.Noting.{Noted, NotedToo, FieldNoted, NodeNoted, PolicyNoted, CoreSizesOf}
+use Rattle.mentions.specs.Noting.{Noted, NotedToo, FieldNoted, NodeNoted, PolicyNoted}
 
 or_false_right : (b : Bool) → b ≡ (b || false)
 or_false_right true = refl
@@ -57,36 +56,41 @@ module _ (sizes : List ℕ) where
     field_beyond beyond = nothing_noted _ core (λ g l. ne_eqb field g (λ e. omega (arith, e)))
 
   -- a test or change of the field
-  module _ (kind first : ℕ) (core core' : List ℕ) where
-    pub equals_noted : kind ≡ 2 → FieldNoted sizes first core core' → NodeNoted sizes kind first core core'
-    unfolding is_of_field node_of field_of
-    equals_noted e h = subst (λ k. NodeNoted sizes k first core core') (sym e) (λ second. h)
+  pub of_field_noted : (kind first : ℕ) (core core' : List ℕ) → 2 ≤ kind → kind ≤ 4 → FieldNoted sizes first core core' → NodeNoted sizes kind first core core'
+  unfolding is_of_field node_of field_of
+  of_field_noted zero first core core' l m h = absurd (omega arith)
+  of_field_noted (suc zero) first core core' l m h = absurd (omega arith)
+  of_field_noted (suc (suc zero)) first core core' l m h = λ second. h
+  of_field_noted (suc (suc (suc zero))) first core core' l m h = λ second. h
+  of_field_noted (suc (suc (suc (suc zero)))) first core core' l m h = λ second. h
+  of_field_noted (suc (suc (suc (suc (suc k))))) first core core' l m h = absurd (omega arith)
 
-    pub differs_noted : kind ≡ 3 → FieldNoted sizes first core core' → NodeNoted sizes kind first core core'
-    unfolding is_of_field node_of field_of
-    differs_noted e h = subst (λ k. NodeNoted sizes k first core core') (sym e) (λ second. h)
-
-    pub change_noted : kind ≡ 4 → FieldNoted sizes first core core' → NodeNoted sizes kind first core core'
-    unfolding is_of_field node_of field_of
-    change_noted e h = subst (λ k. NodeNoted sizes k first core core') (sym e) (λ second. h)
-
-  -- a node of any other kind
-  pub node_passed : (kind first : ℕ) (core : List ℕ) → (((Unit {0} × (kind ≡ 2 → ⊥)) × (kind ≡ 3 → ⊥)) × (kind ≡ 4 → ⊥)) → NodeNoted sizes kind first core core
+  -- a node of a lower kind, and one of a higher
+  pub lower_passed : (kind first : ℕ) (core : List ℕ) → kind < 2 → NodeNoted sizes kind first core core
   unfolding is_of_field node_of
-  node_passed kind first core h second = nothing_noted _ core (λ f l. go kind f h)
+  lower_passed kind first core l second = nothing_noted _ core (λ f i. go kind f l)
     where
-      go : (k f : ℕ) → (((Unit {0} × (k ≡ 2 → ⊥)) × (k ≡ 3 → ⊥)) × (k ≡ 4 → ⊥)) → is_of_field f (node_of k first second) ≡ false
-      go zero f h = refl
-      go (suc zero) f h = refl
-      go (suc (suc zero)) f h = absurd (h.0.0.1 refl)
-      go (suc (suc (suc zero))) f h = absurd (h.0.1 refl)
-      go (suc (suc (suc (suc zero)))) f h = absurd (h.1 refl)
-      go (suc (suc (suc (suc (suc zero))))) f h = refl
-      go (suc (suc (suc (suc (suc (suc zero)))))) f h = refl
-      go (suc (suc (suc (suc (suc (suc (suc zero))))))) f h = refl
-      go (suc (suc (suc (suc (suc (suc (suc (suc zero)))))))) f h = refl
-      go (suc (suc (suc (suc (suc (suc (suc (suc (suc zero))))))))) f h = refl
-      go (suc (suc (suc (suc (suc (suc (suc (suc (suc (suc k)))))))))) f h = refl
+      go : (k f : ℕ) → k < 2 → is_of_field f (node_of k first second) ≡ false
+      go zero f l = refl
+      go (suc zero) f l = refl
+      go (suc (suc k)) f l = absurd (omega arith)
+
+  pub higher_passed : (kind first : ℕ) (core : List ℕ) → 4 < kind → NodeNoted sizes kind first core core
+  unfolding is_of_field node_of
+  higher_passed kind first core l second = nothing_noted _ core (λ f i. go kind f l)
+    where
+      go : (k f : ℕ) → 4 < k → is_of_field f (node_of k first second) ≡ false
+      go zero f l = absurd (omega arith)
+      go (suc zero) f l = absurd (omega arith)
+      go (suc (suc zero)) f l = absurd (omega arith)
+      go (suc (suc (suc zero))) f l = absurd (omega arith)
+      go (suc (suc (suc (suc zero)))) f l = absurd (omega arith)
+      go (suc (suc (suc (suc (suc zero))))) f l = refl
+      go (suc (suc (suc (suc (suc (suc zero)))))) f l = refl
+      go (suc (suc (suc (suc (suc (suc (suc zero))))))) f l = refl
+      go (suc (suc (suc (suc (suc (suc (suc (suc zero)))))))) f l = refl
+      go (suc (suc (suc (suc (suc (suc (suc (suc (suc zero))))))))) f l = refl
+      go (suc (suc (suc (suc (suc (suc (suc (suc (suc (suc k)))))))))) f l = refl
 
   module _ (kind first : List ℕ) where
     -- no node is passed yet
@@ -120,16 +124,9 @@ noted_core sizes L R core few h =
     long = length-take-le (length sizes) core (omega (arith, h.room))
 
 -- both policies
-pub both_noted : (sizes leftKind leftFirst rightKind rightFirst middle core : List ℕ) → length sizes ≤ 8 → PolicyNoted sizes leftKind leftFirst (length leftKind) (replicate 8 1) middle
-    → PolicyNoted sizes rightKind rightFirst (length rightKind) middle core → CoreSizesOf sizes leftKind leftFirst rightKind rightFirst core
+pub both_noted : (sizes : List ℕ) (L R : NodeLists) (middle core : List ℕ) → length sizes ≤ 8 → PolicyNoted sizes L.kind L.first (length L.kind) (replicate 8 1) middle
+    → PolicyNoted sizes R.kind R.first (length R.kind) middle core → take (length sizes) core ≡ core_sizes (L ∷ R ∷ []) sizes
 unfolding node_count
-both_noted sizes leftKind leftFirst rightKind rightFirst middle core few left right =
-    record { room = (noted [] []).room; sizes_of_core = same }
-  where
-    noted : (leftSecond rightSecond : List ℕ) → Noted sizes (λ f. (false || mentioned_below (as_lists leftKind leftFirst leftSecond) f (length leftKind)) || mentioned_below (as_lists rightKind rightFirst rightSecond) f (length rightKind)) core
-    noted l r =
-        right r _
-        (left l (λ f. false) record { room = length-replicate {A = ℕ} 8 1; each = λ f i. get_or-replicate 8 f 1 0 (omega arith) })
-
-    same : (leftSecond rightSecond : List ℕ) → take (length sizes) core ≡ core_sizes (as_lists leftKind leftFirst leftSecond ∷ as_lists rightKind rightFirst rightSecond ∷ []) sizes
-    same l r = noted_core sizes _ _ core few (noted l r)
+both_noted sizes L R middle core few left right =
+    noted_core sizes L R core few
+    (right R.second _ (left L.second (λ f. false) record { room = length-replicate {A = ℕ} 8 1; each = λ f i. get_or-replicate 8 f 1 0 (omega arith) }))

@@ -1,7 +1,7 @@
 -- How the core sizes are filled while the nodes are passed.
 use Rattle.std.specs.Prelude.{ℕ, ◌<◌, Bool, cond, ◌||◌, List, [], ◌∷◌, ◌≡◌, eqb, length, get_or, take}
 use Rattle.policy.specs.AsLists.{as_lists}
-use Rattle.policy.specs.NodeLists.{node_of}
+use Rattle.policy.specs.NodeLists.{NodeLists, node_of}
 use Rattle.policy.specs.Mentions.{is_of_field, mentioned_below, core_sizes}
 
 -- each field that passes the test has its size, each other field 1
@@ -24,6 +24,8 @@ NodeNoted sizes kind first core core' = (second : ℕ) → NotedToo sizes (λ f.
 abbrev pub PolicyNoted : List ℕ → List ℕ → List ℕ → ℕ → List ℕ → List ℕ → Type 0
 PolicyNoted sizes kind first n core core' = (second : List ℕ) → NotedToo sizes (λ f. mentioned_below (as_lists kind first second) f n) core core'
 
-pub record CoreSizesOf (sizes leftKind leftFirst rightKind rightFirst core : List ℕ) : Type 0 where
+-- of two policies whose lists are equally long, with any second entries
+pub record CoreSizesOf (sizes : List ℕ) (L R : NodeLists) (core : List ℕ) : Type 0 where
   pub room : length core ≡ 8
-  pub sizes_of_core : (leftSecond rightSecond : List ℕ) → take (length sizes) core ≡ core_sizes (as_lists leftKind leftFirst leftSecond ∷ as_lists rightKind rightFirst rightSecond ∷ []) sizes
+  pub sizes_of_core : length L.first ≡ length L.kind → length R.first ≡ length R.kind
+      → (left right : List ℕ) → take (length sizes) core ≡ core_sizes (as_lists L.kind L.first left ∷ as_lists R.kind R.first right ∷ []) sizes

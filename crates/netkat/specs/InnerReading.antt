@@ -1,6 +1,7 @@
 -- What one read does to the bytes kept so far. `got` is what the call `read` answered: how many bytes it put at the start of the chunk, or an error.
-use Rattle.std.specs.Prelude.{ℕ, zero, suc, ◌+◌, ◌-◌, Bool, true, false, List, ◌++◌, ◌≡◌, Result, Ok, Err, length, take, drop}
+use Rattle.std.specs.Prelude.{ℕ, zero, suc, ◌+◌, ◌-◌, List, ◌++◌, ◌≡◌, Result, Ok, Err, length, take, drop}
 use Rattle.std.specs.declared.io.Error.{Error}
+use Rattle.std.proofs.Common.{ControlFlow, Continue, Break}
 
 module _ (old : List ℕ) (len : ℕ) (chunk : List ℕ) where
   -- of the bytes that were read, as many as there is room for behind the first len
@@ -17,30 +18,29 @@ module _ (old : List ℕ) (len : ℕ) (chunk : List ℕ) where
   bytes_after (Ok n) = take len old ++ bytes_kept n ++ drop (len + length (bytes_kept n)) old
   bytes_after (Err e) = old
 
--- the input goes on after a read that handed over bytes
-unfoldable pub goes_on_after : Result ℕ Error → Bool
-goes_on_after (Ok zero) = false
-goes_on_after (Ok (suc n)) = true
-goes_on_after (Err e) = false
+-- how many bytes are kept after the read; the input goes on after one that handed over bytes
+unfoldable pub flow_after : List ℕ → ℕ → List ℕ → Result ℕ Error → ControlFlow ℕ ℕ
+flow_after old len chunk (Ok zero) = Break (length_after old len chunk (Ok zero))
+flow_after old len chunk (Ok (suc n)) = Continue (length_after old len chunk (Ok (suc n)))
+flow_after old len chunk (Err e) = Break (length_after old len chunk (Err e))
 
--- n bytes of new are kept after the read, and more tells whether the input goes on
-pub record AfterRead (old : List ℕ) (len : ℕ) (chunk : List ℕ) (got : Result ℕ Error) (n : ℕ) (more : Bool) (new : List ℕ) : Type 0 where
-  pub kept : n ≡ length_after old len chunk got
+-- what is kept after the read in new, and whether the input goes on
+pub record AfterRead (old : List ℕ) (len : ℕ) (chunk : List ℕ) (got : Result ℕ Error) (kept : ControlFlow ℕ ℕ) (new : List ℕ) : Type 0 where
+  pub flow : kept ≡ flow_after old len chunk got
   pub bytes : new ≡ bytes_after old len chunk got
-  pub goes_on : more ≡ goes_on_after got
 
 -- Inner: so it is for some chunk and answer of `read`; what it reads is nobody's promise.
-pub record ReadOnce (old : List ℕ) (len n : ℕ) (more : Bool) (new : List ℕ) : Type 0 where
+pub record ReadOnce (old : List ℕ) (len : ℕ) (kept : ControlFlow ℕ ℕ) (new : List ℕ) : Type 0 where
   pub chunk : List ℕ
   pub got : Result ℕ Error
-  pub after : AfterRead old len chunk got n more new
+  pub after : AfterRead old len chunk got kept new
 
 -- k reads, one after the other from no bytes kept, and the input goes on after each: then n bytes of new are kept
 unfoldable pub GoneOn : ℕ → List ℕ → ℕ → List ℕ → Type 0
 GoneOn zero old n new = (n ≡ 0) × (new ≡ old)
-GoneOn (suc k) old n new = (m : ℕ) × (mid : List ℕ) × GoneOn k old m mid × ReadOnce mid m n true new
+GoneOn (suc k) old n new = (m : ℕ) × (mid : List ℕ) × GoneOn k old m mid × ReadOnce mid m (Continue n) new
 
 -- The reads of an input: it goes on after each but the last. If it went on after 2 ^ 64 − 1 of them, more than any run makes, nothing is kept.
 pub data ReadAll (old : List ℕ) (n : ℕ) (new : List ℕ) : Type 0 where
-  to_end : (k m : ℕ) (mid : List ℕ) → GoneOn k old m mid → ReadOnce mid m n false new → ReadAll old n new
+  to_end : (k m : ℕ) (mid : List ℕ) → GoneOn k old m mid → ReadOnce mid m (Break n) new → ReadAll old n new
   endless : (m : ℕ) → GoneOn 18446744073709551615 old m new → n ≡ 0 → ReadAll old n new

@@ -6,45 +6,42 @@ ghost use Rattle.printing.specs.InnerWrote.{Wrote};
 ghost use Rattle.netkat.specs.InnerReading.{AfterRead, ReadOnce, ReadAll};
 
 use std::io::{Read, Stdin};
-
-// How much of the input is kept, and whether there may be more.
-#[derive(Drop)]
-struct Kept {
-    len: usize,
-    more: bool,
-}
+use std::ops::ControlFlow;
 
 // Keeps what there is room for behind the first bytes.
 fn keep(input: &mut [u8], len: usize, chunk: &[u8]) -> usize
     requires { len ≤ length input.old }
     ensures { Wrote input.old input.new len result (take (length input.old - len) chunk.now) }
 {
-    let n = text::least(input.len() - len, chunk.len());
+    let n = chunk.len().min(input.len() - len);
     printing::bytes(input, len, &chunk[..n])
 }
 
-// What happens to the bytes of one read, which answered `got`. After a read that fails nothing is kept: half an input must not
-// get a verdict, and an empty one is malformed.
-fn take_in(input: &mut [u8], len: usize, chunk: &[u8], got: std::io::Result<usize>) -> Kept
+// What happens to the bytes of one read, which answered `got`: how many bytes are kept then, and whether there may be more. After
+// a read that fails nothing is kept: half an input must not get a verdict, and an empty one is malformed.
+fn take_in(
+    input: &mut [u8],
+    len: usize,
+    chunk: &[u8],
+    got: std::io::Result<usize>,
+) -> ControlFlow<usize, usize>
     requires { (len ≤ length input.old) × IfOk got (λ n. n ≤ length chunk.now) }
-    ensures { AfterRead input.old len chunk.now got result.len result.more input.new }
+    ensures { AfterRead input.old len chunk.now got result input.new }
 {
     let Ok(n) = got else {
-        return Kept {
-            len: 0,
-            more: false,
-        };
+        return ControlFlow::Break(0);
     };
-    Kept {
-        len: keep(input, len, &chunk[..n]),
-        more: 0 < n,
+    let kept = keep(input, len, &chunk[..n]);
+    if n == 0 {
+        return ControlFlow::Break(kept);
     }
+    ControlFlow::Continue(kept)
 }
 
 // One read.
-fn read_some(stdin: Stdin, input: &mut [u8], len: usize) -> Kept
+fn read_some(stdin: Stdin, input: &mut [u8], len: usize) -> ControlFlow<usize, usize>
     requires { len ≤ length input.old }
-    ensures { ReadOnce input.old len result.len result.more input.new }
+    ensures { ReadOnce input.old len result input.new }
 {
     let mut reader = stdin;
     let mut chunk = [0u8; 4096];
@@ -58,14 +55,11 @@ fn read_all(stdin: Stdin, input: &mut [u8]) -> usize
     ensures { (result ≤ length input.new) × ReadAll input.old result input.new }
 {
     let mut len = 0;
-    let mut turns = u64::MAX;
-    while 0 < turns {
-        let kept = read_some(stdin, input, len);
-        len = kept.len;
-        if !kept.more {
-            return len;
+    for _ in 0..u64::MAX {
+        match read_some(stdin, input, len) {
+            ControlFlow::Continue(n) => len = n,
+            ControlFlow::Break(n) => return n,
         }
-        turns -= 1;
     }
     0
 }

@@ -5,13 +5,12 @@ use native.Mathlib.Nat.{not-suc-le-zero, zero-mul, mul-zero, mul_comm, le_refl, 
 use native.Mathlib.Omega.{arith}
 use mathlib.Core.Bool.{false}
 use mathlib.Core.List.{List, [], ◌∷◌}
-use mathlib.Core.Option.{some}
 use mathlib.Core.Path.{◌≡◌, refl, ap, sym, ◌∙◌, subst}
 use borrow.Author.Tests.{eqb-false, ltb-false}
 use lib.Dec.{eqb, ltb}
 use lib.ListN.{length, get_or, take, drop}
 use lib.Seq.{take_all, drop-length}
-use Rattle.packet.specs.declared.Tested.TheVariants.{Passed}
+use Rattle.std.specs.Prelude.{Ok}
 use Rattle.packet.specs.Lowest.{lowest}
 use Rattle.packet.specs.Refusals.{refused_at, at_zero, first_refused}
 use Rattle.packet.specs.Sizes.{product, bad_count, zero_size, product_over, fields_stage, product_stage, LegalSizes}
@@ -31,11 +30,11 @@ pub record LegalFields (sizes : List ℕ) : Type 0 where
   pub few : length sizes ≤ 8
   pub positive : (i : ℕ) → i < length sizes → 0 < get_or sizes i 0
 
-pub fields_legal : (sizes : List ℕ) → fields_stage sizes ≡ Passed → LegalFields sizes
+pub fields_legal : (sizes : List ℕ) → fields_stage sizes ≡ Ok tt → LegalFields sizes
 unfolding fields_stage bad_count zero_size
 fields_legal sizes p = record { some = some; few = ltb-false 8 (length sizes) count.1; positive = positive }
   where
-    tests : (refused_at 1 0 (at_zero (bad_count sizes)) ≡ Passed) × (first_refused (refused_at 2 0 (lowest (zero_size sizes) (length sizes)) ∷ []) ≡ Passed)
+    tests : (refused_at 1 0 (at_zero (bad_count sizes)) ≡ Ok tt) × (first_refused (refused_at 2 0 (lowest (zero_size sizes) (length sizes)) ∷ []) ≡ Ok tt)
     tests = first_refused_passed _ _ p
 
     count : (eqb (length sizes) 0 ≡ false) × (ltb 8 (length sizes) ≡ false)
@@ -50,7 +49,7 @@ fields_legal sizes p = record { some = some; few = ltb-false 8 (length sizes) co
         omega (arith, n)
 
 -- and cause 3
-pub sizes_legal : (sizes : List ℕ) → LegalFields sizes → product_stage sizes ≡ Passed → LegalSizes sizes
+pub sizes_legal : (sizes : List ℕ) → LegalFields sizes → product_stage sizes ≡ Ok tt → LegalSizes sizes
 unfolding product_stage product_over
 sizes_legal sizes h q = record { some = h.some; few = h.few; positive = h.positive; small = small }
   where

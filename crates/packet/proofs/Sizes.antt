@@ -4,18 +4,36 @@ use Prim.Native.Nat.{ℕ, zero, suc, ◌<◌, ◌≤◌, ◌+◌, ◌*◌}
 use native.Mathlib.Nat.{not-suc-le-zero, le_of_suc-le-suc, mul-one, one-mul, mul_assoc, mul-le-mul}
 use native.Mathlib.Numerals.{add-one}
 use native.Mathlib.Omega.{arith}
-use mathlib.Core.Bool.{true≢false}
 use mathlib.Core.List.{List, [], ◌∷◌}
-use mathlib.Core.Option.{none}
+use Rattle.std.specs.Prelude.{Option, None}
 use mathlib.Core.Path.{◌≡◌, refl, ap, ap₂, sym, ◌∙◌, subst}
 use borrow.Author.Tests.{lt-ltb, le-ltb}
 use lib.ListN.{length, get_or, take, drop}
 use lib.Seq.{take_all, drop-cons}
 use Rattle.packet.specs.Lowest.{lowest}
 use Rattle.packet.specs.Refusals.{refused_at, refusal}
-use Rattle.packet.specs.declared.Tested.TheVariants.{Passed, Refused}
-use Rattle.packet.specs.Sizes.{product, product_over, product_stage, CountOf}
+use mathlib.Core.Bool.{true≢false}
+use Rattle.packet.specs.declared.Refusal.{Refusal}
+use Rattle.packet.specs.Refusals.{Tested}
+use Rattle.std.specs.Prelude.{Ok, Err}
+use Rattle.packet.specs.Sizes.{product, product_over, product_stage, counted, packet_count}
 use Rattle.packet.proofs.Lowest.{lowest_more, lowest_found, lowest_none_whole}
+
+-- ---- a value where a stage passes
+
+pub counted_refused : (t : Tested) (n : ℕ) {q : Refusal} → counted t n ≡ Err q → t ≡ Err q
+unfolding counted
+counted_refused (Ok _) n e = absurd (true≢false (cc))
+counted_refused (Err r) n {q = q} e = let same : r ≡ q = cc in ap Err same
+
+pub counted_as : {t : Tested} (n : ℕ) {q : Refusal} → t ≡ Err q → counted t n ≡ Err q
+unfolding counted
+counted_as n e = ap (λ (t : Tested). counted t n) e
+
+pub counted_passed : (t : Tested) {n m : ℕ} → counted t n ≡ Ok m → (t ≡ Ok tt) × (m ≡ n)
+unfolding counted
+counted_passed (Ok _) {n} {m} e = let same : m ≡ n = cc in (refl, same)
+counted_passed (Err r) e = absurd (true≢false (cc))
 
 -- one field more
 pub product_more : (sizes : List ℕ) (i : ℕ) → i < length sizes → product (take (suc i) sizes) ≡ product (take i sizes) * get_or sizes i 0
@@ -30,7 +48,7 @@ pub record Running (sizes : List ℕ) (i p : ℕ) : Type 0 where
   pub within : i ≤ length sizes
   pub is : p ≡ product (take i sizes)
   pub small : p ≤ 1024
-  pub passed : lowest (product_over sizes) i ≡ none
+  pub passed : lowest (product_over sizes) i ≡ None
 
 pub running_none : (sizes : List ℕ) → Running sizes 0 1
 unfolding product lowest
@@ -55,20 +73,17 @@ module _ (sizes : List ℕ) {i p x : ℕ} (r : Running sizes i p) (h : i < lengt
         passed = lowest_more (product_over sizes) i r.passed (le-ltb 1024 _ (subst (λ (n : ℕ). n ≤ 1024) more_is small));
       })
 
-  pub running_over : 1024 < p * x → (n : ℕ) → CountOf sizes (record { tested = Refused (refusal 3 0 i); packets = n })
-  unfolding product_over product_stage refused_at
-  running_over over n =
+  pub running_over : 1024 < p * x → Err (refusal 3 0 i) ≡ packet_count sizes
+  unfolding product_over packet_count product_stage refused_at counted
+  running_over over =
       let stops = lowest_found (product_over sizes) i (length sizes) r.passed (lt-ltb 1024 _ (subst (λ (n : ℕ). 1024 < n) more_is over)) h in
-      let refuses : product_stage sizes ≡ Refused (refusal 3 0 i) = ap (refused_at 3 0) stops in
-      record { says = sym refuses; counts = λ e. let z : Refused (refusal 3 0 i) ≡ Passed = sym refuses ∙ e in absurd (true≢false (cc)) }
+      sym (ap (λ (o : Option ℕ). counted (refused_at 3 0 o) (product sizes)) stops)
 
-pub running_all : (sizes : List ℕ) {i p : ℕ} → Running sizes i p → length sizes ≤ i → CountOf sizes (record { tested = Passed; packets = p })
-unfolding product_stage refused_at
+pub running_all : (sizes : List ℕ) {i p : ℕ} → Running sizes i p → length sizes ≤ i → Ok p ≡ packet_count sizes
+unfolding packet_count product_stage refused_at counted
 running_all sizes {i} {p} r end =
-    record {
-      says = sym (ap (refused_at 3 0) (lowest_none_whole (product_over sizes) i (length sizes) r.passed (omega (arith, r.within))));
-      counts = λ _. r.is ∙ ap product (take_all i sizes end);
-    }
+    let all = lowest_none_whole (product_over sizes) i (length sizes) r.passed (omega (arith, r.within)) in
+    ap Ok (r.is ∙ ap product (take_all i sizes end)) ∙ sym (ap (λ (o : Option ℕ). counted (refused_at 3 0 o) (product sizes)) all)
 
 -- ---- from the last field down
 

@@ -1,10 +1,13 @@
 -- Sizes of the fields and the packet count N (document 01, "Packets" and causes 1 to 3).
-use Rattle.std.specs.Prelude.{ℕ, suc, ◌*◌, ◌≤◌, ◌<◌, Bool, ◌||◌, List, [], ◌∷◌, ◌≡◌, ltb, eqb, length, get_or, take}
-use Rattle.packet.specs.declared.Counted.{Counted}
-use Rattle.packet.specs.declared.Tested.{Tested}
-use Rattle.packet.specs.declared.Tested.TheVariants.{Passed}
+use Rattle.std.specs.Prelude.{ℕ, suc, ◌*◌, ◌≤◌, ◌<◌, Bool, ◌||◌, List, [], ◌∷◌, Result, Ok, Err, ltb, eqb, length, get_or, take}
+use Rattle.packet.specs.declared.Refusal.{Refusal}
 use Rattle.packet.specs.Lowest.{lowest}
-use Rattle.packet.specs.Refusals.{refused_at, at_zero, first_refused}
+use Rattle.packet.specs.Refusals.{Tested, refused_at, at_zero, first_refused}
+
+-- a value where a stage passes
+unfoldable pub counted : Tested → ℕ → Result ℕ Refusal
+counted (Ok _) n = Ok n
+counted (Err r) n = Err r
 
 -- the product of the sizes; of the core sizes (document 02, A.6) it is the packet count N
 unfoldable pub product : List ℕ → ℕ
@@ -31,10 +34,9 @@ fields_stage sizes = first_refused (refused_at 1 0 (at_zero (bad_count sizes)) �
 unfoldable pub product_stage : List ℕ → Tested
 product_stage sizes = refused_at 3 0 (lowest (product_over sizes) (length sizes))
 
--- the stage as it is tested, with the packet count where it passes
-pub record CountOf (sizes : List ℕ) (c : Counted) : Type 0 where
-  pub says : c.tested ≡ product_stage sizes
-  pub counts : product_stage sizes ≡ Passed → c.packets ≡ product sizes
+-- what such a stage says, with the packet count where it passes
+unfoldable pub packet_count : List ℕ → Result ℕ Refusal
+packet_count sizes = counted (product_stage sizes) (product sizes)
 
 -- none of causes 1 to 3 holds
 pub record LegalSizes (sizes : List ℕ) : Type 0 where

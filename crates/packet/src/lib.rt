@@ -1,14 +1,13 @@
 // Sizes of fields, the packet count, and packets as numbers (document 01, "Packets").
 #![tactic(auto)]
 
-ghost use Rattle.std.specs.Prelude.{◌≡◌, ◌<◌, length, [], ◌∷◌};
-ghost use Rattle.packet.specs.Lowest.{lowest, option_of};
-ghost use Rattle.packet.specs.Refusals.{refused_at, first_refused};
-ghost use Rattle.packet.specs.Sizes.{zero_size, fields_stage, CountOf, LegalSizes};
+ghost use Rattle.std.specs.Prelude.{◌≡◌, ◌==◌, ◌<◌, length, position};
+ghost use Rattle.packet.specs.Refusals.{refusal, refused_at};
+ghost use Rattle.packet.specs.Sizes.{fields_stage, packet_count, LegalSizes};
 ghost use Rattle.packet.specs.Packets.{stride};
 
 // A numbered cause of document 01: its number, the side (0 none, 1 left, 2 right) and the place.
-#[derive(Clone, Copy)]
+#[derive(Clone, Copy, PartialEq, Eq)]
 pub struct Refusal {
     pub number: u8,
     pub side: u8,
@@ -16,52 +15,38 @@ pub struct Refusal {
 }
 
 // What one stage of tests says.
-#[derive(Clone, Copy)]
-pub enum Tested {
-    Passed,
-    Refused(Refusal),
+pub type Tested = Result<(), Refusal>;
+
+// Inner: a cause that names no side.
+pub fn unsided(number: u8, place: usize) -> Refusal
+    ensures { result ≡ refusal number 0 place }
+{
+    Refusal {
+        number,
+        side: 0,
+        place: place as u64,
+    }
 }
 
-// The lowest place at which a cause holds, if it holds.
-#[derive(Drop)]
-pub enum Place {
-    At(u64),
-    Nowhere,
-}
-
-// What stage "product" says, beside the packet count N, which counts where the stage passes.
-#[derive(Drop)]
-pub struct Counted {
-    pub tested: Tested,
-    pub packets: u16,
-}
-
-// Inner: a cause with the lowest place at which it holds.
-pub fn refused_at(number: u8, side: u8, place: Place) -> Tested
-    ensures { result ≡ refused_at number side (option_of place) }
+// Inner: a cause with the lowest place at which it holds, if it holds.
+pub fn refused_at(number: u8, side: u8, place: Option<usize>) -> Tested
+    ensures { result ≡ refused_at number side place }
 {
     match place {
-        Place::At(place) => Tested::Refused(Refusal {
+        Some(place) => Err(Refusal {
             number,
             side,
-            place,
+            place: place as u64,
         }),
-        Place::Nowhere => Tested::Passed,
+        None => Ok(()),
     }
 }
 
 // The lowest field of size 0.
-fn lowest_zero(sizes: &[u16]) -> Place
-    ensures { option_of result ≡ lowest (zero_size sizes.now) (length sizes.now) }
+fn lowest_zero(sizes: &[u16]) -> Option<usize>
+    ensures { result ≡ position (λ size. size == 0) sizes.now }
 {
-    let mut i = 0;
-    while i < sizes.len() {
-        if sizes[i] == 0 {
-            return Place::At(i as u64);
-        }
-        i += 1;
-    }
-    Place::Nowhere
+    sizes.iter().position(|size| *size == 0)
 }
 
 // Inner: stage "fields", causes 1 and 2.
@@ -69,54 +54,24 @@ pub fn fields_stage(sizes: &[u16]) -> Tested
     ensures { result ≡ fields_stage sizes.now }
 {
     let k = sizes.len();
-    if k == 0 {
-        return Tested::Refused(Refusal {
-            number: 1,
-            side: 0,
-            place: 0,
-        });
-    }
-    if 8 < k {
-        return Tested::Refused(Refusal {
-            number: 1,
-            side: 0,
-            place: 0,
-        });
+    if k == 0 || 8 < k {
+        return Err(unsided(1, 0));
     }
     refused_at(2, 0, lowest_zero(sizes))
 }
 
-fn wide(x: u16) -> u32
-    ensures { result ≡ x }
-{
-    x as u32
-}
-
 // Inner: stage "product", cause 3, with the packet count where it passes.
-pub fn packet_count(sizes: &[u16]) -> Counted
-    ensures { CountOf sizes.now result }
+pub fn packet_count(sizes: &[u16]) -> Result<u16, Refusal>
+    ensures { result ≡ packet_count sizes.now }
 {
     let mut product: u32 = 1;
-    let mut i = 0;
-    while i < sizes.len() {
-        product *= wide(sizes[i]);
+    for (i, size) in sizes.iter().enumerate() {
+        product *= u32::from(*size);
         if 1024 < product {
-            return Counted {
-                tested: Tested::Refused(Refusal {
-                    number: 3,
-                    side: 0,
-                    place: i as u64,
-                }),
-                packets: 0,
-            };
+            return Err(unsided(3, i));
         }
-        i += 1;
     }
-    let packets = product as u16;
-    Counted {
-        tested: Tested::Passed,
-        packets,
-    }
+    Ok(product as u16)
 }
 
 // Inner: how far apart two packets are that differ by one in the field alone.
@@ -126,20 +81,8 @@ pub fn stride_of(sizes: &[u16], field: usize) -> u16
     ensures { result ≡ stride sizes.now field }
 {
     let mut stride: u16 = 1;
-    let mut i = sizes.len();
-    while field + 1 < i {
-        i -= 1;
+    for i in (field + 1..sizes.len()).rev() {
         stride *= sizes[i];
     }
     stride
-}
-
-// Inner: the first of two tests that refuses.
-pub fn first_of(a: Tested, b: Tested) -> Tested
-    ensures { result ≡ first_refused (a ∷ b ∷ []) }
-{
-    match a {
-        Tested::Refused(r) => Tested::Refused(r),
-        Tested::Passed => b,
-    }
 }

@@ -1,12 +1,9 @@
 -- Sets of packets as 32 words of 32 bits. A set function works on the first k words and keeps the other words of its first set;
 -- k = words_for N words hold every packet below N.
-use Rattle.std.specs.Prelude.{ℕ, zero, suc, ◌+◌, ◌*◌, ◌/◌, ◌%◌, Bool, ◌&&◌, List, [], ◌∷◌, get_or, set, replicate, T, leb}
-use Rattle.std.proofs.Math.Option.{Option, none, some}
+use Rattle.std.specs.Prelude.{ℕ, zero, suc, ◌+◌, ◌*◌, ◌/◌, ◌%◌, Bool, ◌&&◌, List, [], ◌∷◌, get_or, set, replicate, T, leb, Option}
 use Rattle.std.specs.Int.Bits.{bit_or, bit_and, bit_xor}
 use Rattle.packet_set.specs.Bits.{bit, marked}
 use Rattle.packet.specs.Lowest.{lowest}
-use Rattle.packet_set.specs.declared.Lowest.{Lowest}
-use Rattle.packet_set.specs.declared.Lowest.TheVariants.{At, Nothing}
 
 -- packet γ is in the set: bit γ % 32 of word γ / 32
 unfoldable pub member : List ℕ → ℕ → Bool
@@ -43,10 +40,6 @@ exclusive_or_of = wordwise bit_xor
 -- the lowest packet in the first k words that is not below `from`
 unfoldable pub lowest_in : ℕ → ℕ → List ℕ → Option ℕ
 lowest_in k from s = lowest (λ γ. leb from γ && member s γ) (32 * k)
-
-unfoldable pub lowest_answer : Option ℕ → Lowest
-lowest_answer none = Nothing
-lowest_answer (some γ) = At γ
 
 -- a set by its members
 abbrev pub Members : Type 0

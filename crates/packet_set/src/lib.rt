@@ -3,7 +3,7 @@
 
 ghost use Rattle.std.specs.Prelude.{◌≡◌, ◌+◌, ◌*◌, ◌<◌, ◌≤◌, length};
 ghost use Rattle.packet_set.specs.Bits.{mask_bits, bit, marked, only_bits};
-ghost use Rattle.packet_set.specs.InnerMembers.{member, words_for, empty_set, with_packet, union_of, exclusive_or_of, lowest_in, lowest_answer};
+ghost use Rattle.packet_set.specs.InnerMembers.{member, words_for, empty_set, with_packet, union_of, exclusive_or_of, lowest_in};
 
 pub type PacketWords = [u32; 32];
 
@@ -39,14 +39,14 @@ pub fn words_for(n: usize) -> usize
     requires { n ≤ 1024 }
     ensures { result ≡ words_for n }
 {
-    (n + 31) / 32
+    n.div_ceil(32)
 }
 
 // Inner.
 pub fn empty() -> PacketWords
     ensures { result ≡ empty_set }
 {
-    [0u32; 32]
+    [0; 32]
 }
 
 // Inner. Packet is in the set.
@@ -54,8 +54,7 @@ pub fn contains(set: &PacketWords, packet: u16) -> bool
     requires { packet < 1024 }
     ensures { result ≡ member set.now packet }
 {
-    let at = packet as usize;
-    let word = set[at / 32];
+    let word = set[usize::from(packet / 32)];
     (word >> (packet % 32)) & 1 == 1
 }
 
@@ -64,9 +63,7 @@ pub fn insert(set: &mut PacketWords, packet: u16)
     requires { packet < 1024 }
     ensures { set.new ≡ with_packet set.old packet }
 {
-    let at = packet as usize;
-    let w = at / 32;
-    set[w] = set[w] | (1 << (packet % 32));
+    set[usize::from(packet / 32)] |= 1 << (packet % 32);
 }
 
 // Inner.
@@ -84,10 +81,8 @@ pub fn union(a: &mut PacketWords, b: &PacketWords, words: usize)
     requires { words ≤ 32 }
     ensures { a.new ≡ union_of words a.old b.now }
 {
-    let mut i = 0;
-    while i < words {
-        a[i] = a[i] | b[i];
-        i += 1;
+    for i in 0..words {
+        a[i] |= b[i];
     }
 }
 
@@ -96,57 +91,45 @@ pub fn exclusive_or(a: &mut PacketWords, b: &PacketWords, words: usize)
     requires { words ≤ 32 }
     ensures { a.new ≡ exclusive_or_of words a.old b.now }
 {
-    let mut i = 0;
-    while i < words {
-        a[i] = a[i] ^ b[i];
-        i += 1;
+    for i in 0..words {
+        a[i] ^= b[i];
     }
-}
-
-// A packet, or none.
-#[derive(Drop)]
-pub enum Lowest {
-    At(u16),
-    Nothing,
 }
 
 // Inner. The lowest packet in the words from start on: trailing zeros of the first of them that is not 0.
-fn lowest_from(set: &[u32], start: usize, words: usize) -> Lowest
+fn lowest_from(set: &[u32], start: usize, words: usize) -> Option<u16>
     requires { (words ≤ 32) × (words ≤ length set.now) }
-    ensures { result ≡ lowest_answer (lowest_in words (32 * start) set.now) }
+    ensures { result ≡ lowest_in words (32 * start) set.now }
 {
-    let mut i = start;
-    while i < words {
+    for i in start..words {
         let word = set[i];
         if word != 0 {
-            return Lowest::At(i as u16 * 32 + u32::trailing_zeros(word) as u16);
+            return Some(i as u16 * 32 + word.trailing_zeros() as u16);
         }
-        i += 1;
     }
-    Lowest::Nothing
+    None
 }
 
 // Inner. The lowest packet in the first words.
-pub fn lowest_member(set: &PacketWords, words: usize) -> Lowest
+pub fn lowest_member(set: &PacketWords, words: usize) -> Option<u16>
     requires { words ≤ 32 }
-    ensures { result ≡ lowest_answer (lowest_in words 0 set.now) }
+    ensures { result ≡ lowest_in words 0 set.now }
 {
     lowest_from(set, 0, words)
 }
 
 // Inner. The lowest packet in the first words that is not below `from`: to walk a set, or a slot where it lies.
-pub fn next_member(set: &[u32], from: u16, words: usize) -> Lowest
+pub fn next_member(set: &[u32], from: u16, words: usize) -> Option<u16>
     requires { (words ≤ 32) × (words ≤ length set.now) }
-    ensures { result ≡ lowest_answer (lowest_in words from set.now) }
+    ensures { result ≡ lowest_in words from set.now }
 {
-    let at = from as usize;
-    let start = at / 32;
+    let start = usize::from(from / 32);
     if words <= start {
-        return Lowest::Nothing;
+        return None;
     }
     let rest = set[start] >> (from % 32);
     if rest != 0 {
-        return Lowest::At(from + u32::trailing_zeros(rest) as u16);
+        return Some(from + rest.trailing_zeros() as u16);
     }
     lowest_from(set, start + 1, words)
 }

@@ -3,7 +3,7 @@ use Prim.Native.Nat.{ℕ, zero, suc, ◌<◌}
 use mathlib.Core.Bool.{Bool, true, false, not, ◌||◌, or-true as or_any}
 use mathlib.Core.List.{List}
 use mathlib.Core.Logic.{◌⊎◌, inl, inr, ⊎_elim, ◌↔◌}
-use mathlib.Core.Option.{Option, none}
+use Rattle.std.specs.Prelude.{Option, None}
 use mathlib.Core.Path.{◌≡◌, refl, sym, ◌∙◌, ap, ap₂, subst}
 use native.Mathlib.Nat.{not-suc-le-zero}
 use native.Mathlib.Omega.{arith}
@@ -155,10 +155,10 @@ module _ (S : System) (L : Lawful S) (T : Table S) where
       all : Option ℕ → Option ℕ → RulesAnswer → RulesAnswer
       all o u y = and_then (broken_at rule_a o) (and_then (broken_at rule_b u) y)
 
-      kept_a : ((i : ℕ) → i < T.count → RuleA S T i) → lowest (breaks_a S T) T.count ≡ none
+      kept_a : ((i : ℕ) → i < T.count → RuleA S T i) → lowest (breaks_a S T) T.count ≡ None
       kept_a = lowest_kept (RuleA S T) (breaks_a S T) rule_a_iff T.count
 
-      kept_b : ((α : ℕ) → α < S.packets → RuleB S T α) → lowest (breaks_b S T) S.packets ≡ none
+      kept_b : ((α : ℕ) → α < S.packets → RuleB S T α) → lowest (breaks_b S T) S.packets ≡ None
       kept_b = lowest_kept (RuleB S T) (breaks_b S T) rule_b_iff S.packets
 
       go : {x : RulesAnswer} → Judged S T x → all (lowest (breaks_a S T) T.count) (lowest (breaks_b S T) S.packets) (check_rows S T T.count) ≡ x

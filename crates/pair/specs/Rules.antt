@@ -1,6 +1,6 @@
 -- Row rules for evidence (document 01), over any system: tables of rows, whoever made them.
 use Rattle.std.specs.Prelude.{ℕ, zero, suc, ◌<◌, Bool, true, not, ◌&&◌, ◌||◌, false, ◌⊎◌, ◌≡◌, ltb}
-use Rattle.std.proofs.Math.Option.{Option, none, some}
+use Rattle.std.specs.Prelude.{Option, None, Some}
 use Rattle.packet.specs.Lowest.{lowest}
 use Rattle.automaton.specs.State.{any_below}
 use Rattle.system.specs.System.{System, Row, start_row, next_row, tells}
@@ -28,8 +28,8 @@ and_then (rule_d i γ) d = rule_d i γ
 
 -- a rule, and the lowest spot at which it is broken
 unfoldable pub broken_at : (ℕ → RulesAnswer) → Option ℕ → RulesAnswer
-broken_at rule none = accepted
-broken_at rule (some spot) = rule spot
+broken_at rule None = accepted
+broken_at rule (Some spot) = rule spot
 
 -- spot is the lowest below n at which a rule is broken
 pub record LowestBroken (Rule : ℕ → Type 0) (n spot : ℕ) : Type 0 where

@@ -14,11 +14,11 @@ pub fn depth(parents: &[u16], listed: usize, h: usize) -> usize
 {
     let mut above = 0;
     let mut i = h;
-    let mut parent = index::wide(parents[i]);
+    let mut parent = usize::from(parents[i]);
     while parent != i {
         above += 1;
         i = parent;
-        parent = index::wide(parents[i]);
+        parent = usize::from(parents[i]);
     }
     above
 }
@@ -31,10 +31,10 @@ pub fn entering(packets: &[u16], parents: &[u16], listed: usize, h: usize) -> u1
     ensures { result ≡ line_start packets.now parents.now h }
 {
     let mut i = h;
-    let mut parent = index::wide(parents[i]);
+    let mut parent = usize::from(parents[i]);
     while parent != i {
         i = parent;
-        parent = index::wide(parents[i]);
+        parent = usize::from(parents[i]);
     }
     packets[i]
 }
@@ -57,11 +57,11 @@ pub fn write_trace(
     let mut k = depth(parents, listed, h);
     trace[k] = last;
     let mut i = h;
-    let mut parent = index::wide(parents[i]);
+    let mut parent = usize::from(parents[i]);
     while parent != i {
         k -= 1;
         trace[k] = packets[i];
         i = parent;
-        parent = index::wide(parents[i]);
+        parent = usize::from(parents[i]);
     }
 }

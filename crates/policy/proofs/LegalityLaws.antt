@@ -3,7 +3,7 @@ use Prim.Native.Nat.{ℕ, zero, suc, pred, ◌<◌, ◌≤◌}
 use mathlib.Core.Bool.{Bool, false, ◌||◌}
 use mathlib.Core.List.{List, [], ◌∷◌, map}
 use mathlib.Core.Logic.{by_cases, ◌↔◌}
-use mathlib.Core.Option.{Option, none}
+use Rattle.std.specs.Prelude.{Option, None}
 use mathlib.Core.Path.{◌≡◌, refl, ap, ◌∙◌, subst}
 use native.Mathlib.Decide.{dec_lt}
 use native.Mathlib.Omega.{arith}
@@ -11,8 +11,8 @@ use lib.Dec.{ltb, eqb}
 use lib.ListN.{length}
 use borrow.Author.Tests.{eqb-true, eqb-false, ltb-false, not-false, eq-eqb, ne_eqb, le-ltb}
 use Rattle.packet.specs.Refusals.{refused_at, at_place, first_refused}
-use Rattle.packet.specs.declared.Tested.{Tested}
-use Rattle.packet.specs.declared.Tested.TheVariants.{Passed}
+use Rattle.packet.specs.Refusals.{Tested}
+use Rattle.std.specs.Prelude.{Ok}
 use Rattle.packet.proofs.Lowest.{lowest_none, none_lowest}
 use Rattle.packet.proofs.Stages.{first_refused_next, first_refused_passed, refused_at_passed, at_place_none}
 use Rattle.policy.specs.NodeLists.{NodeLists, node_count, node_at, children, dups_below}
@@ -26,7 +26,7 @@ use Rattle.policy.proofs.LabelLaws.{dups_more}
 
 -- a cause passes where it has no place in any policy
 cause_passes : (number : ℕ) (place : NodeLists → Option ℕ) (ps : List Sided)
-    → (cause number place ps ≡ Passed) ↔ Each (λ p. place p.lists ≡ none) ps
+    → (cause number place ps ≡ Ok tt) ↔ Each (λ p. place p.lists ≡ None) ps
 unfolding cause Each first_refused refused_at
 cause_passes number place [] = (λ e. tt, λ e. refl)
 cause_passes number place (p ∷ ps) = (
@@ -81,7 +81,7 @@ module _ (L : NodeLists) where
 
 -- none of causes 4 to 9 and 19 has a place
 NoCause : List ℕ → NodeLists → Type 0
-NoCause sizes L = Each (λ (c : Cause). c.1 L ≡ none) (causes sizes)
+NoCause sizes L = Each (λ (c : Cause). c.1 L ≡ None) (causes sizes)
 
 module _ (sizes : List ℕ) (L : NodeLists) where
   no_cause_legal : NoCause sizes L → Legal sizes L
@@ -152,28 +152,28 @@ module _ (sizes : List ℕ) (L : NodeLists) where
       )
 
 -- an order passes where each of its tests does
-pub first_refused_each : (ts : List Tested) → (first_refused ts ≡ Passed) ↔ Each (λ t. t ≡ Passed) ts
+pub first_refused_each : (ts : List Tested) → (first_refused ts ≡ Ok tt) ↔ Each (λ t. t ≡ Ok tt) ts
 unfolding first_refused Each
 first_refused_each [] = (λ e. tt, λ e. refl)
 first_refused_each (t ∷ ts) =
     (λ e. let f = first_refused_passed t ts e in (f.0, (first_refused_each ts).0 f.1), λ e. first_refused_next t ts e.0 ∙ (first_refused_each ts).1 e.1)
 
-stage_causes : (sizes : List ℕ) (ps : List Sided) → (policies_stage sizes ps ≡ Passed) ↔ Each (λ (c : Cause). cause c.0 c.1 ps ≡ Passed) (causes sizes)
+stage_causes : (sizes : List ℕ) (ps : List Sided) → (policies_stage sizes ps ≡ Ok tt) ↔ Each (λ (c : Cause). cause c.0 c.1 ps ≡ Ok tt) (causes sizes)
 unfolding policies_stage causes Each
 stage_causes sizes ps = first_refused_each _
 
 -- the stage "policies" passes exactly when each policy is legal
-pub stage_passes : (sizes : List ℕ) (ps : List Sided) → (policies_stage sizes ps ≡ Passed) ↔ Each (λ p. Legal sizes p.lists) ps
+pub stage_passes : (sizes : List ℕ) (ps : List Sided) → (policies_stage sizes ps ≡ Ok tt) ↔ Each (λ p. Legal sizes p.lists) ps
 unfolding NoCause
 stage_passes sizes ps = (
   λ e.
       each_map (λ p. NoCause sizes p.lists) _ ps (λ p c. no_cause_legal sizes p.lists c)
-      (each_swap None (causes sizes) ps (each_map _ _ (causes sizes) (λ c h. (cause_passes c.0 c.1 ps).0 h) ((stage_causes sizes ps).0 e))),
+      (each_swap Absent (causes sizes) ps (each_map _ _ (causes sizes) (λ c h. (cause_passes c.0 c.1 ps).0 h) ((stage_causes sizes ps).0 e))),
   λ e.
       (stage_causes sizes ps).1
       (each_map _ _ (causes sizes) (λ c h. (cause_passes c.0 c.1 ps).1 h)
-      (each_swap (λ p c. None c p) ps (causes sizes) (each_map _ (λ p. NoCause sizes p.lists) ps (λ p g. legal_no_cause sizes p.lists g) e))),
+      (each_swap (λ p c. Absent c p) ps (causes sizes) (each_map _ (λ p. NoCause sizes p.lists) ps (λ p g. legal_no_cause sizes p.lists g) e))),
 )
   where
-    None : Cause → Sided → Type 0
-    None c p = c.1 p.lists ≡ none
+    Absent : Cause → Sided → Type 0
+    Absent c p = c.1 p.lists ≡ None

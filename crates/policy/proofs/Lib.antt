@@ -17,4 +17,3 @@ pub mod NamedLaws
 pub mod OrderLaws
 pub mod Postfix
 pub mod Nodes
-pub mod ReadLaws

@@ -10,7 +10,7 @@ use lib.Dec.{eqb, leb, ltb}
 use lib.ListN.{length, get_or}
 use borrow.Author.Tests.{eq-eqb, eqb-true, leb-false, ltb-false}
 use Rattle.packet.specs.Sizes.{product_stage, LegalSizes}
-use Rattle.packet.specs.declared.Tested.TheVariants.{Passed}
+use Rattle.std.specs.Prelude.{Ok}
 use Rattle.packet.proofs.Legal as legal
 use Rattle.packet.proofs.Legal.{LegalFields}
 use Rattle.packet.proofs.Tests.{or_false, last_or_before}
@@ -253,7 +253,7 @@ module _ (Ls : List NodeLists) (sizes : List ℕ) where
   core_positive h i l = subst (λ n. 0 < n) (sym (core_at i l)) (count_positive (get_or sizes i 0) (named_values Ls i) (h i l))
 
   -- the core sizes are legal where causes 1, 2 and 3 pass
-  pub core_legal : LegalFields sizes → product_stage (core_sizes Ls sizes) ≡ Passed → LegalSizes (core_sizes Ls sizes)
+  pub core_legal : LegalFields sizes → product_stage (core_sizes Ls sizes) ≡ Ok tt → LegalSizes (core_sizes Ls sizes)
   core_legal h e =
       legal.sizes_legal (core_sizes Ls sizes)
       record {

@@ -2,12 +2,12 @@
 use mathlib.Core.List.{List, [], ◌∷◌, map}
 use mathlib.Core.Path.{◌≡◌, refl, sym, ap, ◌∙◌}
 use Rattle.packet.specs.declared.Refusal.{Refusal}
-use Rattle.packet.specs.declared.Tested.{Tested}
-use Rattle.packet.specs.declared.Tested.TheVariants.{Passed, Refused}
+use Rattle.packet.specs.Refusals.{Tested}
+use Rattle.std.specs.Prelude.{Ok, Err}
 use Rattle.packet.specs.Refusals.{first_refused}
 use Rattle.packet.specs.Sizes.{product_stage, LegalSizes}
 use Rattle.packet.proofs.Legal.{fields_legal}
-use Rattle.packet.proofs.Stages.{first_refused_refused, first_refused_next, first_refused_append, first_refused_after}
+use Rattle.packet.proofs.Stages.{first_refused_last, first_refused_refused, first_refused_next, first_refused_after, first_refused_append}
 use Rattle.fields.specs.Tables.{Table, joint_sizes, tables_stage}
 use Rattle.fields.proofs.TableLaws.{tables_legal}
 use Rattle.policy.specs.InnerEach.{Each}
@@ -19,18 +19,18 @@ use Rattle.policy.proofs.MentionLaws.{Covers, covers_each, core_legal, policy_co
 module _ (ts : List Table) (texts : Tested) (policies : List Sided) (lists packets : Tested) where
   -- what holds where a call's tests pass
   pub record Passing : Type 0 where
-    pub fields : tables_stage ts ≡ Passed
-    pub texts_pass : texts ≡ Passed
-    pub policies_pass : policies_stage (joint_sizes ts) policies ≡ Passed
-    pub product : product_stage (core_of ts policies) ≡ Passed
-    pub lists_pass : lists ≡ Passed
-    pub packets_pass : packets ≡ Passed
+    pub fields : tables_stage ts ≡ Ok tt
+    pub texts_pass : texts ≡ Ok tt
+    pub policies_pass : policies_stage (joint_sizes ts) policies ≡ Ok tt
+    pub product : product_stage (core_of ts policies) ≡ Ok tt
+    pub lists_pass : lists ≡ Ok tt
+    pub packets_pass : packets ≡ Ok tt
 
-  pub passing : in_order (stages_of ts texts policies lists packets) ≡ Passed → Passing
+  pub passing : in_order (stages_of ts texts policies lists packets) ≡ Ok tt → Passing
   unfolding in_order order stages_of Each
   passing e = let h = (first_refused_each _).0 e in search h
 
-  pub all_passing : Passing → in_order (stages_of ts texts policies lists packets) ≡ Passed
+  pub all_passing : Passing → in_order (stages_of ts texts policies lists packets) ≡ Ok tt
   unfolding in_order order stages_of Each
   all_passing h = (first_refused_each _).1 (search h)
 
@@ -52,19 +52,26 @@ module _ (ts : List Table) (texts : Tested) (policies : List Sided) (lists packe
         go (p ∷ ps) c g = (policy_core _ (joint_sizes ts) p.lists c.0 g.0, go ps c.1 g.1)
 
   -- 13 comes last
-  pub packets_last : in_order (stages_of ts texts policies lists packets) ≡ first_refused (in_order (stages_of ts texts policies lists Passed) ∷ packets ∷ [])
+  pub packets_last : in_order (stages_of ts texts policies lists packets) ≡ first_refused (in_order (stages_of ts texts policies lists (Ok tt)) ∷ packets ∷ [])
   unfolding in_order order stages_of first_refused
-  packets_last = first_refused_append rest (packets ∷ []) ∙ ap (λ (t : Tested). first_refused (t ∷ packets ∷ [])) (sym (first_refused_append rest (Passed ∷ []) ∙ then_passed (first_refused rest)))
+  packets_last = first_refused_append rest (packets ∷ []) ∙ ap (λ (t : Tested). first_refused (t ∷ packets ∷ [])) (sym (first_refused_append rest (Ok tt ∷ []) ∙ then_passed (first_refused rest)))
     where
       rest : List Tested
       rest = tables_stage ts ∷ texts ∷ policies_stage (joint_sizes ts) policies ∷ product_stage (core_of ts policies) ∷ lists ∷ []
 
-      then_passed : (t : Tested) → first_refused (t ∷ Passed ∷ []) ≡ t
-      then_passed Passed = refl
-      then_passed (Refused r) = refl
+      then_passed : (t : Tested) → first_refused (t ∷ Ok tt ∷ []) ≡ t
+      then_passed (Ok _) = refl
+      then_passed (Err r) = refl
 
-  -- The causes of the tables come first, so the rest may be tested with the fields as they were joined; and 3 counts only where the policies pass.
-  pub after_tables : {t p q : Tested} → t ≡ tables_stage ts → (t ≡ Passed → p ≡ policies_stage (joint_sizes ts) policies) → (t ≡ Passed → p ≡ Passed → q ≡ product_stage (core_of ts policies))
+  -- a call whose other stages refuse, and one where they pass
+  pub packets_after : {r : Refusal} → in_order (stages_of ts texts policies lists (Ok tt)) ≡ Err r → in_order (stages_of ts texts policies lists packets) ≡ Err r
+  packets_after e = packets_last ∙ first_refused_refused _ _ _ e
+
+  pub packets_decide : in_order (stages_of ts texts policies lists (Ok tt)) ≡ Ok tt → in_order (stages_of ts texts policies lists packets) ≡ packets
+  packets_decide e = packets_last ∙ first_refused_next _ _ e ∙ first_refused_last packets
+
+  -- a stage is tested with what is loaded where the stages before it pass
+  pub after_tables : {t p q : Tested} → t ≡ tables_stage ts → (t ≡ Ok tt → p ≡ policies_stage (joint_sizes ts) policies) → (t ≡ Ok tt → p ≡ Ok tt → q ≡ product_stage (core_of ts policies))
       → in_order (record { fields = t; texts = texts; policies = p; product = q; lists = lists; packets = packets }) ≡ in_order (stages_of ts texts policies lists packets)
   unfolding in_order order stages_of
   after_tables e same-p same-q =
@@ -72,17 +79,17 @@ module _ (ts : List Table) (texts : Tested) (policies : List Sided) (lists packe
       (λ h. first_refused_after _ _ refl (λ _. first_refused_after _ _ (same-p h) (λ k. ap (λ (q : Tested). first_refused (q ∷ lists ∷ packets ∷ [])) (same-q h k))))
 
   -- they come before the texts, and these before the rest
-  pub tables_refused : {r : Refusal} → tables_stage ts ≡ Refused r → in_order (stages_of ts texts policies lists packets) ≡ Refused r
+  pub tables_refused : {r : Refusal} → tables_stage ts ≡ Err r → in_order (stages_of ts texts policies lists packets) ≡ Err r
   unfolding in_order order stages_of
   tables_refused e = first_refused_refused _ _ _ e
 
-  pub texts_refused : {r : Refusal} → tables_stage ts ≡ Passed → texts ≡ Refused r → in_order (stages_of ts texts policies lists packets) ≡ Refused r
+  pub texts_refused : {r : Refusal} → tables_stage ts ≡ Ok tt → texts ≡ Err r → in_order (stages_of ts texts policies lists packets) ≡ Err r
   unfolding in_order order stages_of
   texts_refused e f = first_refused_next _ _ e ∙ first_refused_refused _ _ _ f
 
 -- a call that passes, with other texts, lists and packets that pass
-pub still_passing : (ts : List Table) (policies : List Sided) (t l k : Tested) {u m n : Tested} → in_order (stages_of ts t policies l k) ≡ Passed → u ≡ Passed → m ≡ Passed → n ≡ Passed
-    → in_order (stages_of ts u policies m n) ≡ Passed
+pub still_passing : (ts : List Table) (policies : List Sided) (t l k : Tested) {u m n : Tested} → in_order (stages_of ts t policies l k) ≡ Ok tt → u ≡ Ok tt → m ≡ Ok tt → n ≡ Ok tt
+    → in_order (stages_of ts u policies m n) ≡ Ok tt
 still_passing ts policies t l k e u m n =
     let h = passing _ _ _ _ _ e in
     all_passing _ _ _ _ _ record { fields = h.fields; texts_pass = u; policies_pass = h.policies_pass; product = h.product; lists_pass = m; packets_pass = n }

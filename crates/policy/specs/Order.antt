@@ -1,19 +1,27 @@
 -- The order of causes (document 01, "Causes, in the order tested"), in two lists: the stages of a call, and the causes of a policy. Those
 -- of the tables are a list in `fields` (`tables_stage`), those of one text, 14 to 17, the reader's (`grammar` `tested`).
 use Rattle.std.specs.Prelude.{ℕ, suc, pred, Bool, true, false, List, [], ◌∷◌, map, eqb}
-use Rattle.std.proofs.Math.Option.{Option}
+use Rattle.std.specs.Prelude.{Option}
 use Rattle.packet.specs.Lowest.{lowest}
 use Rattle.packet.specs.Refusals.{refused_at, at_zero, first_refused}
 use Rattle.packet.specs.Sizes.{product_stage}
-use Rattle.packet.specs.declared.Tested.{Tested}
-use Rattle.packet.specs.declared.Tested.TheVariants.{Passed}
+use Rattle.packet.specs.Refusals.{Tested}
+use Rattle.std.specs.Prelude.{Ok}
 use Rattle.fields.specs.Tables.{Table, joint_sizes, tables_stage}
-use Rattle.policy.specs.declared.order.Stages.{Stages}
 use Rattle.policy.specs.NodeLists.{NodeLists, node_count}
 use Rattle.policy.specs.Mentions.{core_sizes}
 use Rattle.policy.specs.Legality.{bad_lengths, bad_kind, bad_entries, bad_child, not_once, bad_negation, too_many_dups}
 
--- The stages of a call, in the order tested: a stage that comes elsewhere is a line that moves, here and in `in_order`. 18 comes before them all,
+-- what the stages of a call say; a stage that the call does not test passes
+pub record Stages : Type 0 where
+  pub fields : Tested
+  pub texts : Tested
+  pub policies : Tested
+  pub product : Tested
+  pub lists : Tested
+  pub packets : Tested
+
+-- The stages of a call, in the order tested: a stage that comes elsewhere is a line that moves, here and in `legality` `front`. 18 comes before them all,
 -- 11 and 12 after. Calls that test a stage apart rest on a law of `OrderLaws`: texts are read where the stages before them pass, packets are
 -- tested last.
 unfoldable pub order : Stages → List Tested
@@ -90,11 +98,11 @@ pair_of L R = sided 1 L ∷ sided 2 R ∷ []
 
 -- the tests on one policy: side 0
 unfoldable pub policy_tests : List Table → NodeLists → Tested
-policy_tests ts L = in_order (stages_of ts Passed (sided 0 L ∷ []) Passed Passed)
+policy_tests ts L = in_order (stages_of ts (Ok tt) (sided 0 L ∷ []) (Ok tt) (Ok tt))
 
 -- the tests on a left and a right policy
 unfoldable pub pair_tests : List Table → NodeLists → NodeLists → Tested
-pair_tests ts L R = in_order (stages_of ts Passed (pair_of L R) Passed Passed)
+pair_tests ts L R = in_order (stages_of ts (Ok tt) (pair_of L R) (Ok tt) (Ok tt))
 
 -- ---- the place of a policy's cause in the list, from 1 on
 

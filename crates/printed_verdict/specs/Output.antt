@@ -1,8 +1,8 @@
 -- What the program writes (document 01, "The program"): lines of three fields, the verdict's first.
 use Rattle.std.specs.Prelude.{ℕ, List, [], ◌∷◌, ◌++◌, length}
 use Rattle.packet.specs.declared.Refusal.{Refusal}
-use Rattle.packet.specs.declared.Tested.{Tested}
-use Rattle.packet.specs.declared.Tested.TheVariants.{Passed, Refused}
+use Rattle.packet.specs.Refusals.{Tested}
+use Rattle.std.specs.Prelude.{Ok, Err}
 use Rattle.packet.specs.Refusals.{refusal}
 use Rattle.pair.specs.Sides.{Side, left, right}
 use Rattle.pair.specs.Search.{SearchAnswer, equal, different, rows_full, trace_short, Columns}
@@ -41,5 +41,5 @@ answer_lines rows (trace_short n) = refusal_line (refusal 12 0 n)
 
 -- the whole output, after the causes tested before the search
 unfoldable pub output_after : Tested → Columns → SearchAnswer → List ℕ
-output_after Passed rows a = answer_lines rows a
-output_after (Refused r) rows a = refusal_line r
+output_after (Ok _) rows a = answer_lines rows a
+output_after (Err r) rows a = refusal_line r

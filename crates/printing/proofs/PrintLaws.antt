@@ -1,14 +1,15 @@
 -- Bytes written one after the other, and numbers in decimal.
 use Prim.Native.Nat.{ℕ, zero, suc, ◌+◌, ◌-◌, ◌*◌, ◌/◌, ◌%◌, ◌^◌, ◌≤◌, ◌<◌}
-use native.Mathlib.Nat.{add-zero, one-le-pow, pow-zero, pow-suc}
+use native.Mathlib.Nat.{one-le-pow, pow-zero, pow-suc}
 use native.Mathlib.Numerals.{add-one}
 use native.Mathlib.Omega.{arith}
-use mathlib.Core.Bool.{Bool, true, false, cond}
+use mir.Val.{bool_byte}
+use mathlib.Core.Bool.{Bool, true, false}
 use mathlib.Core.List.{List, [], ◌∷◌, ◌++◌, append_assoc, append-nil}
 use mathlib.Core.Path.{◌≡◌, refl, sym, ◌∙◌, ap, ap₂, subst}
 use lib.Dec.{eqb, ltb}
-use lib.ListN.{length, get_or, take, drop, set, length-set, length-append, take-append-drop, drop_of_length-le}
-use lib.Seq.{append_snoc, drop-cons, drop-drop, drop_at, take_at, take_all, length-take-le, set_split, paste-suc}
+use lib.ListN.{length, get_or, take, drop, length-append, take-append-drop, drop_of_length-le}
+use lib.Seq.{drop-cons, drop-drop, drop_at, take_at, length-take-le}
 use borrow.Author.Tests.{lt-ltb, le-ltb, eqb-true, eqb-false}
 use Rattle.io.specs.Digits.{last_digits, hex_digit_ascii, IsDigitCount}
 use Rattle.printing.specs.ThreeFields.{digits_up_to, numeral, line_rest, number_line, row_lines, last_flag, trace_lines}
@@ -18,13 +19,6 @@ use Rattle.printing.specs.InnerWrote.{Wrote}
 
 pub wrote_none : (old : List ℕ) (at : ℕ) → Wrote old old at at []
 wrote_none old at = record { ends = omega arith; holds = sym (ap (λ (l : List ℕ). l ++ drop at old) (append-nil (take at old)) ∙ take-append-drop at old) }
-
-pub wrote_byte : (old : List ℕ) (at b : ℕ) → at < length old → Wrote old (set old at b) at (at + 1) (b ∷ [])
-wrote_byte old at b h =
-    record {
-      ends = omega arith;
-      holds = set_split old at b h ∙ sym (append_snoc (take at old) b (drop (suc at) old)) ∙ ap (λ (k : ℕ). take at old ++ (b ∷ []) ++ drop k old) (sym (add-one at));
-    }
 
 module _ {old new : List ℕ} {at end : ℕ} {xs : List ℕ} (w : Wrote old new at end xs) (h : end ≤ length old) where
   head : length (take at old ++ xs) ≡ end
@@ -51,40 +45,6 @@ module _ {old new : List ℕ} {at end : ℕ} {xs : List ℕ} (w : Wrote old new 
             ∙ ap₂ (λ (a b : List ℕ). a ++ ys ++ b) before (ap (λ (n : ℕ). drop n new) v.ends ∙ after (length ys) ∙ ap (λ (n : ℕ). drop n old) (sym v.ends))
             ∙ ap (λ (l : List ℕ). l ++ drop last old) (append_assoc (take at old) xs ys);
       }
-
--- ---- a copy
-
--- the first i bytes have been copied
-pub record Copied (old new xs : List ℕ) (at i : ℕ) : Type 0 where
-  pub within : i ≤ length xs
-  pub room : at + length xs ≤ length old
-  pub long : length new ≡ length old
-  pub wrote : Wrote old new at (at + i) (take i xs)
-
-pub copied_none : (old xs : List ℕ) (at : ℕ) → at + length xs ≤ length old → Copied old old xs at 0
-copied_none old xs at h =
-    record { within = omega arith; room = h; long = refl; wrote = subst (λ (n : ℕ). Wrote old old at n []) (sym (add-zero at)) (wrote_none old at) }
-
-pub copied_more : (old new xs : List ℕ) (at i : ℕ) → Copied old new xs at i → i < length xs → Copied old (set new (at + i) (get_or xs i 0)) xs at (i + 1)
-copied_more old new xs at i c k =
-    let s : i + 1 ≡ suc i = add-one i in
-    let room : at + length xs ≤ length old = c.room in
-    record {
-      within = omega arith;
-      room = c.room;
-      long = length-set new (at + i) (get_or xs i 0) ∙ c.long;
-      wrote =
-          record {
-            ends = ap (λ (n : ℕ). at + n) (s ∙ sym (length-take-le (suc i) xs k) ∙ ap (λ (n : ℕ). length (take n xs)) (sym s));
-            holds =
-                ap (λ (l : List ℕ). set l (at + i) (get_or xs i 0)) c.wrote.holds
-                ∙ paste-suc old at xs i 0 (omega arith) k
-                ∙ ap (λ (n : ℕ). take at old ++ take n xs ++ drop (at + n) old) (sym s);
-          };
-    }
-
-pub copied_all : (old new xs : List ℕ) (at i : ℕ) → Copied old new xs at i → length xs ≤ i → Wrote old new at (at + i) xs
-copied_all old new xs at i c h = subst (λ (l : List ℕ). Wrote old new at (at + i) l) (take_all i xs h) c.wrote
 
 -- ---- numbers
 
@@ -168,9 +128,6 @@ rows_none packets lefts rights old from =
     record { within = omega arith; long = refl; low = omega arith; done = []; wrote = wrote_none old from; all = refl }
 
 module _ {packets lefts rights old new : List ℕ} {from at i : ℕ} (s : RowsSoFar packets lefts rights old new from at i) (h : i < length packets) (l : length lefts ≡ length packets) (r : length rights ≡ length packets) where
-  pub row_room : from + 64 * length packets ≤ length old → at + 64 ≤ length new
-  row_room k = let e : length new ≡ length old = s.long in let f : at ≤ from + 64 * i = s.low in omega arith
-
   pub rows_more : {next : List ℕ} {end a b c : ℕ} → a ≡ get_or packets i 0 → b ≡ get_or lefts i 0 → c ≡ get_or rights i 0 → end ≤ at + 64
       → from + 64 * length packets ≤ length old → Wrote new next at end (number_line a b c) → length next ≡ length new → RowsSoFar packets lefts rights old next from end (i + 1)
   unfolding row_lines
@@ -218,19 +175,16 @@ pub record TraceSoFar (packets old new : List ℕ) (from at i : ℕ) : Type 0 wh
 pub trace_none : (packets old : List ℕ) (from : ℕ) → TraceSoFar packets old old from from 0
 trace_none packets old from = record { within = omega arith; long = refl; low = omega arith; done = []; wrote = wrote_none old from; all = refl }
 
-flag_is : (packets : List ℕ) (i : ℕ) → i < length packets → last_flag (drop (suc i) packets) ≡ cond (eqb (i + 1) (length packets)) 1 0
+flag_is : (packets : List ℕ) (i : ℕ) → i < length packets → last_flag (drop (suc i) packets) ≡ bool_byte (eqb (i + 1) (length packets))
 unfolding last_flag
 flag_is packets i h = go (eqb (i + 1) (length packets)) refl
   where
-    go : (b : Bool) → eqb (i + 1) (length packets) ≡ b → last_flag (drop (suc i) packets) ≡ cond b 1 0
+    go : (b : Bool) → eqb (i + 1) (length packets) ≡ b → last_flag (drop (suc i) packets) ≡ bool_byte b
     go true e = let q : i + 1 ≡ length packets = eqb-true _ _ e in ap last_flag (drop_of_length-le packets {i = suc i} (omega arith))
     go false e = let q : i + 1 ≡ length packets → ⊥ = eqb-false _ _ e in ap last_flag (drop-cons packets (suc i) 0 (omega (arith, q)))
 
 module _ {packets old new : List ℕ} {from at i : ℕ} (s : TraceSoFar packets old new from at i) (h : i < length packets) where
-  pub trace_room : from + 64 * length packets ≤ length old → at + 64 ≤ length new
-  trace_room k = let e : length new ≡ length old = s.long in let f : at ≤ from + 64 * i = s.low in omega arith
-
-  pub trace_more : {next : List ℕ} {end p flag : ℕ} → p ≡ get_or packets i 0 → end ≤ at + 64 → flag ≡ cond (eqb (i + 1) (length packets)) 1 0
+  pub trace_more : {next : List ℕ} {end p flag : ℕ} → p ≡ get_or packets i 0 → end ≤ at + 64 → flag ≡ bool_byte (eqb (i + 1) (length packets))
       → from + 64 * length packets ≤ length old → Wrote new next at end (number_line (i + 1) p flag) → length next ≡ length new → TraceSoFar packets old next from end (i + 1)
   unfolding trace_lines
   trace_more {next} {end} {p} {flag} e short ef room w q =

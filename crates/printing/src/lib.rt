@@ -1,7 +1,7 @@
 // The lines of the output: three fields, split by commas, ended by CRLF.
 #![tactic(auto)]
 
-ghost use Rattle.std.specs.Prelude.{◌≡◌, cond, [], ◌∷◌, eqb, ◌+◌, ◌*◌, ◌<◌, ◌≤◌, length};
+ghost use Rattle.std.specs.Prelude.{◌≡◌, [], ◌∷◌, ◌+◌, ◌*◌, ◌<◌, ◌≤◌, length};
 ghost use Rattle.printing.specs.ThreeFields.{numeral, line_rest, number_line, verdict_line, row_lines, trace_lines};
 ghost use Rattle.printing.specs.InnerWrote.{Wrote};
 
@@ -21,12 +21,9 @@ pub fn bytes(out: &mut [u8], at: usize, xs: &[u8]) -> usize
     requires { at + length xs.now ≤ length out.old }
     ensures { Wrote out.old out.new at result xs.now }
 {
-    let mut i = 0;
-    while i < xs.len() {
-        out[at + i] = xs[i];
-        i += 1;
-    }
-    at + i
+    let end = at + xs.len();
+    out[at..end].copy_from_slice(xs);
+    end
 }
 
 // A number in decimal, of at most 20 digits.
@@ -74,47 +71,28 @@ pub fn verdict(out: &mut [u8], word: &[u8], b: u64, c: u64) -> usize
     rest(out, end, b, c)
 }
 
-fn wide16(x: u16) -> u64
-    ensures { result ≡ x }
-{
-    x as u64
-}
-
 // Inner: the rows.
 pub fn rows(out: &mut [u8], from: usize, packets: &[u16], lefts: &[Mask], rights: &[Mask]) -> usize
     requires { (length lefts.now ≡ length packets.now) × (length rights.now ≡ length packets.now) × (from + 64 * length packets.now ≤ length out.old) }
     ensures { Wrote out.old out.new from result (row_lines packets.now lefts.now rights.now) }
 {
     let mut at = from;
-    let mut i = 0;
-    while i < packets.len() {
-        at = number_line(out, at, wide16(packets[i]), lefts[i], rights[i]);
-        i += 1;
+    for (i, packet) in packets.iter().enumerate() {
+        at = number_line(out, at, u64::from(*packet), lefts[i], rights[i]);
     }
     at
 }
 
-// 1 for the last packet of a trace, else 0.
-fn last_flag(place: usize, n: usize) -> u64
-    ensures { result ≡ cond (eqb place n) 1 0 }
-{
-    if place == n {
-        return 1;
-    }
-    0
-}
-
-// Inner: the packets of a trace.
+// Inner: the packets of a trace, each with its place, and 1 for the last, else 0.
 pub fn trace(out: &mut [u8], from: usize, packets: &[u16]) -> usize
     requires { from + 64 * length packets.now ≤ length out.old }
     ensures { Wrote out.old out.new from result (trace_lines 0 packets.now) }
 {
     let mut at = from;
-    let mut i = 0;
-    while i < packets.len() {
-        let p = wide16(packets[i]);
-        i += 1;
-        at = number_line(out, at, i as u64, p, last_flag(i, packets.len()));
+    for (i, packet) in packets.iter().enumerate() {
+        let place = i + 1;
+        let last = u64::from(place == packets.len());
+        at = number_line(out, at, place as u64, u64::from(*packet), last);
     }
     at
 }

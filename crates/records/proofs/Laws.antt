@@ -5,7 +5,7 @@ use native.Mathlib.Nat.{not-suc-le-zero, le_of_suc-le-suc}
 use native.Mathlib.Omega.{arith}
 use mathlib.Core.Bool.{Bool, true, false, cond, not}
 use mathlib.Core.List.{List, [], ◌∷◌, ◌++◌}
-use mathlib.Core.Option.{Option, none, some}
+use Rattle.std.specs.Prelude.{Option, None, Some}
 use mathlib.Core.Path.{◌≡◌, refl, ◌∙◌, ap}
 use lib.ListN.{length, get_or, set, take, drop, length-set}
 use borrow.Author.Tests.{lt-ltb, le-ltb}
@@ -83,10 +83,10 @@ stray_next end count dups rows i j = stray_after end (stray_in end count dups ro
 -- one more row, in range or not
 stray_more : (end k : ℕ) (test : ℕ → Bool) (o : Option ℕ) (fits : Bool) → Found test k o → suc k ≤ end → stray_after end (or_end end o) k fits ≡ or_end end (or_at o (not fits) k)
 unfolding stray_after or_end or_at
-stray_more end k test none true found l = refl
-stray_more end k test none false found l = ap (λ (c : Bool). cond c end k) (le-ltb end end (omega arith))
-stray_more end k test (some i) true found l = refl
-stray_more end k test (some i) false found l = ap (λ (c : Bool). cond c i k) (lt-ltb i end (omega (arith, found.below)))
+stray_more end k test None true found l = refl
+stray_more end k test None false found l = ap (λ (c : Bool). cond c end k) (le-ltb end end (omega arith))
+stray_more end k test (Some i) true found l = refl
+stray_more end k test (Some i) false found l = ap (λ (c : Bool). cond c i k) (lt-ltb i end (omega (arith, found.below)))
 
 pub stray_lowest : (end count : ℕ) (dups : List ℕ) (rows : List RowRecord) (k : ℕ) → k ≤ end
     → stray_in end count dups rows k ≡ or_end end (lowest (strays (packets_of rows) (lefts_of rows) (rights_of rows) count dups) k)

@@ -36,8 +36,7 @@ pub fn read_records(
         × (rights.new ≡ over (rights_of rows.now) end rights.old) }
 {
     let mut found = end;
-    let mut i = 0;
-    while i < end {
+    for i in 0..end {
         let row = rows[i];
         found = row_rules::stray_after(
             end, found, i, row.packet, row.left, row.right, count, left_dups, right_dups,
@@ -45,7 +44,6 @@ pub fn read_records(
         packets[i] = row.packet;
         lefts[i] = row.left;
         rights[i] = row.right;
-        i += 1;
     }
     found
 }

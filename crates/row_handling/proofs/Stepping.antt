@@ -16,8 +16,7 @@ use Rattle.pair.specs.Sides.{Side, Pair, NumberedPolicy, policies}
 use Rattle.pair.specs.Pair.{pair_system}
 use Rattle.pair.specs.Search.{side_of}
 use Rattle.pair.proofs.Lawful.{legal_pair, lawful}
-use Rattle.index.specs.declared.Appended.{Appended}
-use Rattle.index.specs.declared.Appended.TheVariants.{Rows, Full as FullUp}
+use Rattle.std.specs.Prelude.{Option, Some, None}
 use Rattle.index.specs.declared.Row.{Row}
 use Rattle.index.specs.Columns.{left_of, right_of, row_at}
 use Rattle.index.specs.Appending.{Lists}
@@ -47,19 +46,19 @@ unfolding open_or_done
 goes_done h n l = sym (ap (λ b. cond b (Open n) (Stopped (Done n))) (le-ltb h n l))
 
 module _ (sizes : List ℕ) (ps : Pair NumberedPolicy) (lent : ℕ) (x : Run (pair_system sizes ps)) where
-  full_after : FullUp ≡ answer_for lent (length x.rows) → Stopped Full ≡ after_row sizes ps lent x
+  full_after : None ≡ answer_for lent (length x.rows) → Stopped Full ≡ after_row sizes ps lent x
   unfolding answer_for after_row
   full_after e = go (ltb lent (length x.rows)) e
     where
-      go : (b : Bool) → FullUp ≡ cond b FullUp (Rows (length x.rows)) → Stopped Full ≡ cond b (Stopped Full) (open_or_done x.handled (length x.rows))
+      go : (b : Bool) → ◌≡◌ {A = Option ℕ} None (cond b None (Some (length x.rows))) → Stopped Full ≡ cond b (Stopped Full) (open_or_done x.handled (length x.rows))
       go true e = refl
       go false e = absurd (let z : ◌≡◌ {A = ℕ} 0 1 = cc in omega arith)
 
-  rows_after : (m : ℕ) → Rows m ≡ answer_for lent (length x.rows) → open_or_done x.handled m ≡ after_row sizes ps lent x
+  rows_after : (m : ℕ) → Some m ≡ answer_for lent (length x.rows) → open_or_done x.handled m ≡ after_row sizes ps lent x
   unfolding answer_for after_row
   rows_after m e = go (ltb lent (length x.rows)) e
     where
-      go : (b : Bool) → Rows m ≡ cond b FullUp (Rows (length x.rows)) → open_or_done x.handled m ≡ cond b (Stopped Full) (open_or_done x.handled (length x.rows))
+      go : (b : Bool) → Some m ≡ (cond b None (Some (length x.rows))) → open_or_done x.handled m ≡ cond b (Stopped Full) (open_or_done x.handled (length x.rows))
       go true e = absurd (let z : ◌≡◌ {A = ℕ} 0 1 = cc in omega arith)
       go false e = let same : m ≡ length x.rows = cc in ap (open_or_done x.handled) same
 
@@ -140,7 +139,7 @@ module _ {sizes : List ℕ} {nodes tests : List (List ℕ)} {y : Lists} {p : Pro
       nexts = subst (λ r. Nexts sizes (policies L R) r (left_of next') (right_of next')) (sym row_is) (record { left_next = (C.compared L R b).left_next; right_next = (C.compared L R b).right_next })
 
       -- the outputs are the same, and the successors are appended
-      module _ (e : answer ≡ Same) {z : Lists} {a : Appended} (A : NextAppended y z count n h (left_of next') (right_of next') a) where
+      module _ (e : answer ≡ Same) {z : Lists} {a : Option ℕ} (A : NextAppended y z count n h (left_of next') (right_of next') a) where
         goes : turn S x ≡ handling
         goes = same_turn sizes L R x left_over (sym answer_is ∙ e)
 
@@ -156,10 +155,10 @@ module _ {sizes : List ℕ} {nodes tests : List (List ℕ)} {y : Lists} {p : Pro
         unfolding step_answer
         step_is = rw (goes, step_answer)
 
-        fills_at : a ≡ FullUp → RowHandled sizes (policies L R) y z count n h (Stopped Full)
+        fills_at : a ≡ None → RowHandled sizes (policies L R) y z count n h (Stopped Full)
         fills_at f = record { answers = full_after _ _ _ _ (sym f ∙ continues.answers) ∙ sym step_is; standing = handled_standing }
 
-        goes_at : (m : ℕ) → a ≡ Rows m → (r : Handled) → r ≡ open_or_done (h + 1) m → RowHandled sizes (policies L R) y z count n h r
+        goes_at : (m : ℕ) → a ≡ Some m → (r : Handled) → r ≡ open_or_done (h + 1) m → RowHandled sizes (policies L R) y z count n h r
         unfolding order.handle
         goes_at m f r g = record { answers = g ∙ ap (λ i. open_or_done i m) (omega arith) ∙ rows_after sizes (policies L R) (length y.packets) (order.handle S x) m (sym f ∙ continues.answers) ∙ sym step_is; standing = handled_standing }
 
@@ -170,10 +169,10 @@ module _ {sizes : List ℕ} {nodes tests : List (List ℕ)} {y : Lists} {p : Pro
     pub row_tells : (s : Side) (γ : ℕ) → answer ≡ differs_at s γ → StepDone sizes nodes tests y y p work (Stopped (telling_at s γ)) next' work'
     row_tells s γ e = record { handled = λ L R b. tells_at b s γ e; blank = λ m q. stopped_open _ m q; kept = C.kept }
 
-    module _ (e : answer ≡ Same) {z : Lists} {a : Appended} (A : NextAppended y z count n h (left_of next') (right_of next') a) where
-      pub row_fills : a ≡ FullUp → StepDone sizes nodes tests y z p work (Stopped Full) next' work'
+    module _ (e : answer ≡ Same) {z : Lists} {a : Option ℕ} (A : NextAppended y z count n h (left_of next') (right_of next') a) where
+      pub row_fills : a ≡ None → StepDone sizes nodes tests y z p work (Stopped Full) next' work'
       row_fills f = record { handled = λ L R b. fills_at b e A f; blank = λ m q. stopped_open _ m q; kept = C.kept }
 
-      pub row_goes : (m : ℕ) → a ≡ Rows m → (r : Handled) → r ≡ open_or_done (h + 1) m → {next'' : List (List ℕ)} → BothBlank next''
+      pub row_goes : (m : ℕ) → a ≡ Some m → (r : Handled) → r ≡ open_or_done (h + 1) m → {next'' : List (List ℕ)} → BothBlank next''
           → StepDone sizes nodes tests y z p work r next'' work'
       row_goes m f r g blank = record { handled = λ L R b. goes_at b e A m f r g; blank = λ k q. blank; kept = C.kept }

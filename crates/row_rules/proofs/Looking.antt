@@ -7,7 +7,7 @@ use native.Mathlib.Numerals.{add-one}
 use native.Mathlib.Omega.{arith}
 use mathlib.Core.Bool.{Bool, true, false, cond, not, ◌&&◌, ◌||◌, and-false}
 use mathlib.Core.List.{List, [], ◌∷◌}
-use mathlib.Core.Option.{Option, none, some}
+use Rattle.std.specs.Prelude.{Option, None, Some}
 use mathlib.Core.Path.{◌≡◌, refl, sym, ◌∙◌, ap, ap₂, subst}
 use lib.Dec.{eqb, ltb}
 use lib.ListN.{length, get_or}
@@ -15,13 +15,12 @@ use borrow.Author.Tests.{ltb-true, eq-eqb, ne_eqb, lt-ltb, le-ltb}
 use Rattle.packet.specs.Lowest.{lowest}
 use Rattle.packet.proofs.Lowest.{Found, lowest_is, lowest_none, none_lowest, lowest_more, lowest_found, lowest_none_whole}
 use Rattle.packet_set.specs.Bits.{mask_bits, only_bits}
-use Rattle.index.specs.declared.Lookup.{Lookup}
-use Rattle.index.specs.declared.Lookup.TheVariants.{Listed}
 use Rattle.index.specs.declared.Row.{Row}
 use Rattle.index.specs.Columns.{policy_count, Small, row_at, rows_agree, listed_below}
 use Rattle.index.specs.Index.{Indexed, LookEnds}
-use Rattle.row_rules.specs.declared.Spot.TheVariants.{At, Nowhere}
-use Rattle.row_rules.specs.Presence.{spot_of, mask_row, states_in_range, row_in_range, DupsFit, stray_after, or_end, before, zero_states, in_columns, strays, start_missing, next_missing, Repeated}
+use Rattle.std.specs.Prelude.{Some, None, Result, Ok}
+use Rattle.marks.proofs.Touched.{PassedOver, NextMarked}
+use Rattle.row_rules.specs.Presence.{mask_row, states_in_range, row_in_range, DupsFit, stray_after, or_end, before, zero_states, in_columns, strays, start_missing, next_missing, Repeated}
 
 -- ---- one row
 
@@ -89,22 +88,22 @@ module _ (end found i : ℕ) (b fits : Bool) (e : b ≡ fits) where
   stray_first f l = sym (ap (stray_after end found i) (sym e ∙ f) ∙ ap (λ (c : Bool). cond c found i) (le-ltb found end l))
 
 module _ (end found : ℕ) where
-  pub spot_before : found < end → spot_of (At found) ≡ before end found
-  unfolding spot_of before
-  spot_before l = sym (ap (λ (c : Bool). cond c (some found) none) (lt-ltb found end l))
+  pub spot_before : found < end → Some found ≡ before end found
+  unfolding before
+  spot_before l = sym (ap (λ (c : Bool). cond c (Some found) None) (lt-ltb found end l))
 
-  pub spot_end : end ≤ found → spot_of Nowhere ≡ before end found
-  unfolding spot_of before
-  spot_end l = sym (ap (λ (c : Bool). cond c (some found) none) (le-ltb found end l))
+  pub spot_end : end ≤ found → None ≡ before end found
+  unfolding before
+  spot_end l = sym (ap (λ (c : Bool). cond c (Some found) None) (le-ltb found end l))
 
 -- the number of the lowest, or the end, tells which it is
 pub before_or_end : (test : ℕ → Bool) (end : ℕ) → before end (or_end end (lowest test end)) ≡ lowest test end
 unfolding before or_end
 before_or_end test end = go (lowest test end) (lowest_is test end)
   where
-    go : (o : Option ℕ) → Found test end o → cond (ltb (or_end end o) end) (some (or_end end o)) none ≡ o
-    go none f = ap (λ (c : Bool). cond c (some end) none) (le-ltb end end (le_refl end))
-    go (some i) f = ap (λ (c : Bool). cond c (some i) none) (lt-ltb i end f.below)
+    go : (o : Option ℕ) → Found test end o → cond (ltb (or_end end o) end) (Some (or_end end o)) None ≡ o
+    go None f = ap (λ (c : Bool). cond c (Some end) None) (le-ltb end end (le_refl end))
+    go (Some i) f = ap (λ (c : Bool). cond c (Some i) None) (lt-ltb i end f.below)
 
 -- ---- one row of the table
 
@@ -141,7 +140,7 @@ module _ (packets lefts rights : List ℕ) where
 -- nothing is found below i
 pub record Unbroken (test : ℕ → Bool) (n i : ℕ) : Type 0 where
   pub within : i ≤ n
-  pub before : lowest test i ≡ none
+  pub before : lowest test i ≡ None
 
 module _ (test : ℕ → Bool) (n : ℕ) where
   pub unbroken_none : Unbroken test n 0
@@ -160,13 +159,26 @@ module _ (test : ℕ → Bool) (n : ℕ) where
         go k b (yes a) = lowest_none test i u.before k a
         go k b (no a) = passed k (omega arith) b
 
-    pub broken_here : i < n → (b : Bool) → test i ≡ b → b ≡ true → spot_of (At i) ≡ lowest test n
-    unfolding spot_of
+    pub broken_here : i < n → (b : Bool) → test i ≡ b → b ≡ true → Some i ≡ lowest test n
     broken_here h b e f = sym (lowest_found test i n u.before (e ∙ f) h)
 
-    pub unbroken_all : n ≤ i → spot_of Nowhere ≡ lowest test n
-    unfolding spot_of
+    pub unbroken_all : n ≤ i → None ≡ lowest test n
     unbroken_all h = sym (lowest_none_whole test i n u.before (le_antisymm u.within h))
+
+-- a walk over the packets that have marks: no row is asked for at those passed over
+module _ (packets lefts rights nextL nextR : List ℕ) (n from : ℕ) where
+  abbrev broken : ℕ → Bool
+  broken γ = next_missing packets lefts rights γ (get_or nextL γ 0) (get_or nextR γ 0)
+
+  module _ (u : Unbroken broken n from) where
+    passed_by : {to : ℕ} → from ≤ to → to ≤ n → PassedOver nextL nextR from to → Unbroken broken n to
+    passed_by l h zeros = unbroken_skip _ _ u l h (λ γ a b. next_unmarked _ _ _ γ _ _ (zeros γ a b))
+
+    pub unbroken_next : {γ : ℕ} → NextMarked n nextL nextR from γ → Unbroken broken n γ
+    unbroken_next M = passed_by M.above (omega (arith, M.below)) M.passed
+
+    pub unbroken_rest : PassedOver nextL nextR from n → None ≡ lowest broken n
+    unbroken_rest zeros = unbroken_all _ _ (passed_by u.within (le_refl n) zeros) (le_refl n)
 
 -- ---- repeats
 
@@ -174,7 +186,7 @@ module _ {packets lefts rights trees : List ℕ} {count i : ℕ} where
   pub looked_up : {n : ℕ} → Indexed packets lefts rights count n trees → Small packets count → i < length packets → (x : Row) → x ≡ row_at packets lefts rights i → x.packet < count
   looked_up I small l x is_row = subst (λ y. y.packet < count) (sym is_row) (small.small i l)
 
-  pub repeats : {n : ℕ} (x : Row) → x ≡ row_at packets lefts rights i → {answer : Lookup} → LookEnds (row_at packets lefts rights) count n trees x answer → (j : ℕ) → answer ≡ Listed j
+  pub repeats : {n : ℕ} (x : Row) → x ≡ row_at packets lefts rights i → {answer : Result ℕ ℕ} → LookEnds (row_at packets lefts rights) count n trees x answer → (j : ℕ) → answer ≡ Ok j
       → ltb j i ≡ true → Repeated packets lefts rights i
   repeats x is_row p j e l =
       record { first = j; before = ltb-true j i l; same = subst (λ y. rows_agree (row_at packets lefts rights j) y ≡ true) is_row (p.listed j e).same }

@@ -1,16 +1,9 @@
 -- The row rules as tests of the lent columns: what each loop of the checker looks for.
 use Rattle.std.specs.Prelude.{ℕ, zero, suc, ◌<◌, Bool, true, false, cond, not, ◌&&◌, ◌||◌, List, [], ◌∷◌, ◌≡◌, eqb, ltb, length, get_or}
-use Rattle.std.proofs.Math.Option.{Option, none, some}
+use Rattle.std.specs.Prelude.{Option, None, Some}
 use Rattle.packet_set.specs.Bits.{mask_bits, only_bits}
 use Rattle.index.specs.declared.Row.{Row}
 use Rattle.index.specs.Columns.{policy_count, row_at, rows_agree, listed_below}
-use Rattle.row_rules.specs.declared.Spot.{Spot}
-use Rattle.row_rules.specs.declared.Spot.TheVariants.{At, Nowhere}
-
--- the spot that a loop answers
-unfoldable pub spot_of : Spot → Option ℕ
-spot_of (At i) = some i
-spot_of Nowhere = none
 
 -- a packet, a left and a right state
 abbrev pub mask_row : ℕ → ℕ → ℕ → Row
@@ -36,12 +29,12 @@ stray_after end found i false = cond (ltb found end) found i
 
 -- a place, or the end where there is none
 unfoldable pub or_end : ℕ → Option ℕ → ℕ
-or_end end none = end
-or_end end (some i) = i
+or_end end None = end
+or_end end (Some i) = i
 
 -- a place before the end, or none
 unfoldable pub before : ℕ → ℕ → Option ℕ
-before end i = cond (ltb i end) (some i) none
+before end i = cond (ltb i end) (Some i) None
 
 -- both states are 0
 unfoldable pub zero_states : ℕ → ℕ → Bool

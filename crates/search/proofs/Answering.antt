@@ -7,12 +7,13 @@ use native.Mathlib.Omega.{arith}
 use lib.ListN.{length, get_or, replicate, take, drop, length-replicate, get_or-replicate}
 use lib.Seq.{take-append_seam}
 use Rattle.packet.specs.declared.Refusal.{Refusal}
-use Rattle.packet.specs.declared.Tested.{Tested}
-use Rattle.packet.specs.declared.Tested.TheVariants.{Passed, Refused as Stopped}
+use Rattle.packet.specs.Refusals.{Tested}
+use Rattle.std.specs.Prelude.{Ok, Err}
 use Rattle.packet.specs.Refusals.{refusal}
 use Rattle.packet.specs.Sizes.{product}
-use Rattle.legality.specs.declared.CallTested.{CallTested}
-use Rattle.legality.specs.Answers.{FrontOf}
+use Rattle.legality.specs.declared.LegalCall.{LegalCall}
+use Rattle.legality.specs.Answers as legality
+use Rattle.legality.specs.Answers.{front_tests}
 use Rattle.fields.specs.Tables.{Table, joint_sizes}
 use Rattle.policy.specs.Meaning.{numbered, SameTracesBelow, SameTracesDeclared, Tells}
 use Rattle.policy.specs.NodeLists.{NodeLists, policy_of}
@@ -27,10 +28,11 @@ use Rattle.pair.specs.Search.{SearchAnswer, equal, different, rows_full, trace_s
 use Rattle.pair.proofs.Lawful.{EvaluablePair, legal_pair}
 use Rattle.pair.proofs.Verdicts as verdicts
 use Rattle.index.specs.Appending.{Lists, lists}
+use Rattle.index.specs.declared.RowLists.{RowLists}
 use Rattle.lent_lists.specs.LentLists.{lists_stage, rows_misfit}
 use Rattle.packet.specs.Written.{written}
 use Rattle.listed_rows.proofs.Searching.{holds}
-use Rattle.lent_lists.proofs.Testing.{side_named, front_tests, tests_passed, lists_passed, row_list_fits, rows_few}
+use Rattle.lent_lists.proofs.Testing.{side_named, front_as, tests_passed, lists_passed, row_list_fits, rows_few}
 use Rattle.verdict.specs.declared.Stop.{Stop}
 use Rattle.verdict.specs.declared.Verdict.{Verdict}
 use Rattle.verdict.specs.declared.Verdict.TheVariants.{Equal, Full, Refused}
@@ -39,7 +41,7 @@ use Rattle.compare.proofs.Comparing.{load_asks}
 use Rattle.verdict.specs.InnerEnding.{ended_answer}
 use Rattle.verdict.specs.Verdicts.{telling_verdict, verdict_of, trace_after, Told}
 use Rattle.search.specs.InnerRows.{RowsRun, RunReady}
-use Rattle.search.specs.Call.{SearchLists, lent, filled, verdict_after, lent_after, search_tests, answer_here, rows_here, depth_here, full_here, search_verdict, search_leaves, Telling, Searched, Accepted, SearchDone}
+use Rattle.search.specs.Call.{SearchLists, lent, lent_in, filled, verdict_after, lent_after, search_tests, answer_here, rows_here, depth_here, full_here, search_verdict, search_leaves, Telling, Searched, Accepted, SearchDone}
 
 zero≢one : ◌≡◌ {A = ℕ} 0 1 → ⊥
 zero≢one z = omega arith
@@ -105,16 +107,16 @@ refused_full e = let z : ◌≡◌ {A = ℕ} 0 1 = cc in zero≢one z
 -- ---- the tests
 
 -- the tests as they were made
-module _ (ts : List Table) (L R : NodeLists) (x : SearchLists) {said : Tested} (is : said ≡ lists_stage (length x.packets ∷ length x.lefts ∷ length x.rights ∷ length x.parents ∷ []) (length x.work)) {q : CallTested} (f : FrontOf ts 1 L R said q) where
-  tests_are : q.tested ≡ search_tests ts L R x
+module _ (ts : List Table) (L R : NodeLists) (x : SearchLists) {said : Tested} (is : said ≡ lists_stage (length x.packets ∷ length x.lefts ∷ length x.rights ∷ length x.parents ∷ []) (length x.work)) where
+  tests_are : front_tests ts 1 L R said ≡ search_tests ts L R x
   unfolding search_tests
-  tests_are = front_tests ts L R _ is f
+  tests_are = ap (front_tests ts 1 L R) is ∙ front_as ts L R _
 
-  pub tests_refuse : (r : Refusal) → q.tested ≡ Stopped r → search_tests ts L R x ≡ Stopped r
-  tests_refuse r e = sym tests_are ∙ e
+  pub tests_refuse : {r : Refusal} → front_tests ts 1 L R said ≡ Err r → search_tests ts L R x ≡ Err r
+  tests_refuse e = sym tests_are ∙ e
 
-  pub tests_pass : q.tested ≡ Passed → (search_tests ts L R x ≡ Passed) × (q.packets ≡ product (pair_core ts L R)) × (take q.count q.core ≡ pair_core ts L R)
-  tests_pass e = (sym tests_are ∙ e, f.packets e, f.core e)
+  pub tests_pass : {q : LegalCall} → (front_tests ts 1 L R said ≡ Ok tt) × legality.Told ts L R q → (search_tests ts L R x ≡ Ok tt) × (q.packets ≡ product (pair_core ts L R)) × (take q.count q.core ≡ pair_core ts L R)
+  tests_pass f = (sym tests_are ∙ f.0, f.1.packets, f.1.core)
 
 module _ {sizes : List ℕ} {L R : NodeLists} {x : SearchLists} where
   -- ---- where no cause up to 10 holds
@@ -156,7 +158,7 @@ module _ {sizes : List ℕ} {L R : NodeLists} {x : SearchLists} where
           }
 
 -- `sizes` are the core sizes as they were found
-pub accepts : (ts : List Table) {L R : NodeLists} {x : SearchLists} → search_tests ts L R x ≡ Passed → (count : ℕ) → count ≡ product (pair_core ts L R) → {sizes : List ℕ} → sizes ≡ pair_core ts L R → Accepted sizes L R count x
+pub accepts : (ts : List Table) {L R : NodeLists} {x : SearchLists} → search_tests ts L R x ≡ Ok tt → (count : ℕ) → count ≡ product (pair_core ts L R) → {sizes : List ℕ} → sizes ≡ pair_core ts L R → Accepted sizes L R count x
 unfolding search_tests rows_misfit
 accepts ts {L} {R} {x} e count c {sizes} same =
     let h = tests_passed ts L R _ e in
@@ -187,21 +189,21 @@ distinguished sizes ps left α t d = record { enters = d.enters; has = d.has; la
 distinguished sizes ps right α t d = record { enters = d.enters; has = d.has; lacks = d.lacks; shortest = λ β h u l. let e = d.shortest β h u l in (e.1, e.0) }
 
 module _ {ts : List Table} {L R : NodeLists} {x : SearchLists} where
-  pub refuses : (r : Refusal) → search_tests ts L R x ≡ Stopped r → Searched ts L R x (Refused r) x
+  pub refuses : (r : Refusal) → search_tests ts L R x ≡ Err r → Searched ts L R x (Refused r) x
   unfolding search_verdict search_leaves verdict_after lent_after
   refuses r e =
       record {
         answers = sym (ap (λ (t : Tested). verdict_after t (answer_here (pair_core ts L R) L R x)) e);
         leaves = sym (ap (λ (t : Tested). lent_after t (rows_here (pair_core ts L R) L R x) (answer_here (pair_core ts L R) L R x) x) e);
         equal_same = λ rows q. absurd (refused_equal q);
-        same_equal = λ p. let z : Stopped r ≡ Passed = sym e ∙ p in let o : ◌≡◌ {A = ℕ} 0 1 = cc in absurd (zero≢one o);
+        same_equal = λ p. let z : Err r ≡ Ok tt = sym e ∙ p in let o : ◌≡◌ {A = ℕ} 0 1 = cc in absurd (zero≢one o);
         different_tells = λ s n α q. absurd (refused_telling s n α q);
-        full_exactly = λ p. let z : Stopped r ≡ Passed = sym e ∙ p in let o : ◌≡◌ {A = ℕ} 0 1 = cc in absurd (zero≢one o);
+        full_exactly = λ p. let z : Err r ≡ Ok tt = sym e ∙ p in let o : ◌≡◌ {A = ℕ} 0 1 = cc in absurd (zero≢one o);
         full_place = λ q d f. absurd (refused_full f);
         full_same = λ q d f. absurd (refused_full f);
       }
 
-  kept : search_tests ts L R x ≡ Passed → {verdict : Verdict} {y : SearchLists} → SearchDone (pair_core ts L R) L R x verdict y → Searched ts L R x verdict y
+  kept : search_tests ts L R x ≡ Ok tt → {verdict : Verdict} {y : SearchLists} → SearchDone (pair_core ts L R) L R x verdict y → Searched ts L R x verdict y
   unfolding search_tests search_verdict search_leaves verdict_after lent_after filled trace_after written verdict_of SideTraces
   kept e {verdict} {y} D =
       record {
@@ -246,5 +248,10 @@ module _ {ts : List Table} {L R : NodeLists} {x : SearchLists} where
             tells = subst (TellsOver (pair_classes ts L R) (joint_sizes ts) (at s (policies L R)).tree (at (other s) (policies L R)).tree α) (sym first) over;
           }
 
-  pub promised : search_tests ts L R x ≡ Passed → {sizes : List ℕ} → sizes ≡ pair_core ts L R → {verdict : Verdict} {y : SearchLists} → SearchDone sizes L R x verdict y → Searched ts L R x verdict y
+  pub promised : search_tests ts L R x ≡ Ok tt → {sizes : List ℕ} → sizes ≡ pair_core ts L R → {verdict : Verdict} {y : SearchLists} → SearchDone sizes L R x verdict y → Searched ts L R x verdict y
   promised e same {verdict} {y} D = kept e (subst (λ (s : List ℕ). SearchDone s L R x verdict y) same D)
+
+  -- the same of the lists as the call leaves them
+  pub searched_in : {verdict : Verdict} (rows : RowLists) {trace work P Q S T : List ℕ} → Searched ts L R x verdict (lent_in rows trace work)
+      → P ≡ rows.packets.now → Q ≡ rows.left.now → S ≡ rows.right.now → T ≡ rows.parents.now → Searched ts L R x verdict (lent P Q S T trace work)
+  searched_in {verdict} rows D p q s t = subst (Searched ts L R x verdict) (sym (same_lent p q s t refl refl)) D

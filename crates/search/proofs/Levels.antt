@@ -4,12 +4,15 @@ use mathlib.Core.Bool.{Bool, true, false}
 use mathlib.Core.List.{List, []}
 use mathlib.Core.Path.{◌≡◌, refl, sym, ap, ◌∙◌, subst}
 use native.Mathlib.Omega.{arith}
+use lib.Dec.{leb}
 use lib.ListN.{length, get_or, replicate}
+use borrow.Author.Tests.{leb-false}
 use Rattle.packet.specs.Sizes.{product}
-use Rattle.index.specs.declared.Appended.{Appended}
-use Rattle.index.specs.declared.Appended.TheVariants.{Rows, Full as FullUp}
+use Rattle.std.specs.Prelude.{Option, Some, None, Result, Ok, Err}
 use Rattle.index.specs.Index.{bucket_count, Indexed, Indexable}
-use Rattle.index.specs.Appending.{Lists}
+use Rattle.index.specs.declared.RowLists.{RowLists}
+use Rattle.index.specs.Lent.{SameLists}
+use Rattle.index.specs.Appending.{Lists, lists_in}
 use Rattle.index.proofs.Growth.{indexed_none}
 use Rattle.listed_rows.specs.declared.Progress.{Progress}
 use Rattle.listed_rows.specs.Standing.{Started}
@@ -20,8 +23,6 @@ use Rattle.row_handling.specs.Step.{HandleReady, StepDone}
 use Rattle.verdict.specs.declared.Ended as verdict
 use Rattle.verdict.specs.declared.Ended.TheVariants.{Unstarted}
 use Rattle.verdict.specs.declared.Stop.{Stop}
-use Rattle.search.specs.declared.Level.{Level}
-use Rattle.search.specs.declared.Level.TheVariants.{Ended, Outgrown}
 use Rattle.search.specs.InnerRows.{with_index, RowsRun, Underway, Prepared, RoundsReady, RoundsDone, RestReady, RestDone, RunReady, RunDone}
 use Rattle.search.proofs.Underway.{Kept, kept_more, Led, started_full, started_rows, starts_full, starts_underway, underway_few, underway_within, underway_small, indexable, reindexed, round_next, round_stops}
 
@@ -38,11 +39,15 @@ prepared_still P e w =
 
 -- ---- room
 
-pub room_left : {lent size n : ℕ} → lent ≤ size → (true ≡ true → (i : ℕ) → i < lent → i < n → i < size) × (true ≡ false → size < lent)
-room_left l = (λ e i h k. omega arith, λ e. let z : ◌≡◌ {A = ℕ} 0 1 = cc in absurd (omega arith))
+pub room_left : {lent size n : ℕ} → lent ≤ size → (leb lent size ≡ true → (i : ℕ) → i < lent → i < n → i < size) × (leb lent size ≡ false → size < lent)
+room_left {lent} {size} l = (λ e i h k. omega arith, λ e. leb-false lent size e)
 
 pub room_told : {lent size n : ℕ} (b : Bool) → size < lent → (b ≡ true → n ≤ size) → (b ≡ true → (i : ℕ) → i < lent → i < n → i < size) × (b ≡ false → size < lent)
 room_told b more fits = (λ e i h k. let l = fits e in omega arith, λ e. more)
+
+-- the lists that the lent ones are
+pub same_lengths : {rows rows' : RowLists} {trees trees' : List ℕ} → SameLists rows rows' → length trees' ≡ length trees → SameLengths (lists_in rows trees) (lists_in rows' trees')
+same_lengths s t = record { packets = s.packets_len; left = s.left_len; right = s.right_len; parents = s.parents_len; trees = t }
 
 -- ---- rounds on one index
 
@@ -88,7 +93,7 @@ module _ {sizes : List ℕ} {nodes tests : List (List ℕ)} {b : Lists} {p : Pro
         record { count = D.count; led = λ L R l x U. round_next l is_count (D.led L R l x U) (H.handled L R l) s e },
       )
 
-      pub rounds_end : (e : verdict.Ended) → answer ≡ Stopped e → RoundsDone sizes nodes tests b z p work₀ (Ended (record { row = q.handled; listed = q.listed; ended = e })) work'
+      pub rounds_end : (e : verdict.Ended) → answer ≡ Stopped e → RoundsDone sizes nodes tests b z p work₀ (Ok (record { row = q.handled; listed = q.listed; ended = e })) work'
       rounds_end e f =
           record {
             leads = λ L R l x U.
@@ -103,7 +108,7 @@ module _ {sizes : List ℕ} {nodes tests : List (List ℕ)} {b : Lists} {p : Pro
             kept = H.kept ∙ K.clean;
           }
 
-    pub rounds_outgrown : length y.trees / 3 < length y.packets → RoundsDone sizes nodes tests b y p work₀ (Outgrown q) work
+    pub rounds_outgrown : length y.trees / 3 < length y.packets → RoundsDone sizes nodes tests b y p work₀ (Err q) work
     rounds_outgrown less =
         record {
           leads = λ L R l x U.
@@ -135,8 +140,8 @@ module _ {sizes : List ℕ} {nodes tests : List (List ℕ)} {y : Lists} {p : Pro
     pub rest_ready : RoundsReady sizes nodes tests (with_index y trees) p work
     rest_ready = record { prepared = ready.prepared; start = ready.start; underway = reindexed ready.prepared.loaded ready.prepared.packets ready.underway I }
 
-    module _ {z : Lists} {answer : Level} {work' : List ℕ} (D : RoundsDone sizes nodes tests (with_index y trees) z p work answer work') where
-      pub rest_ends : (stop : Stop) → answer ≡ Ended stop → RestDone sizes nodes tests y (with_index z []) p work stop work'
+    module _ {z : Lists} {answer : Result Stop Progress} {work' : List ℕ} (D : RoundsDone sizes nodes tests (with_index y trees) z p work answer work') where
+      pub rest_ends : (stop : Stop) → answer ≡ Ok stop → RestDone sizes nodes tests y (with_index z []) p work stop work'
       rest_ends stop e =
           record {
             index = z.trees;
@@ -145,7 +150,7 @@ module _ {sizes : List ℕ} {nodes tests : List (List ℕ)} {y : Lists} {p : Pro
           }
 
       -- the index has room for all rows that can be lent
-      pub rest_never : length trees ≡ 196608 → (q : Progress) → answer ≡ Outgrown q → {A : Type 0} → A
+      pub rest_never : length trees ≡ 196608 → (q : Progress) → answer ≡ Err q → {A : Type 0} → A
       rest_never long q e = absurd (omega (arith, D.outgrown q e, few))
 
 -- ---- the whole row order
@@ -156,8 +161,8 @@ module _ {sizes : List ℕ} {nodes tests : List (List ℕ)} {x : Lists} {count :
       let small : product sizes ≤ 1024 = P.prepared.loaded.legal_sizes.small in
       (indexed_none x.packets x.left x.right count 12288 P.table (omega (arith, P.few)) (omega (arith, P.prepared.packets)), P.parents)
 
-  module _ {y : Lists} {a : Appended} (T : Started (with_index x (replicate 12288 0)) y count a) where
-    pub run_full : a ≡ FullUp → RunDone sizes nodes tests x (with_index y []) count work (record { row = 0; listed = 0; ended = Unstarted }) work
+  module _ {y : Lists} {a : Option ℕ} (T : Started (with_index x (replicate 12288 0)) y count a) where
+    pub run_full : a ≡ None → RunDone sizes nodes tests x (with_index y []) count work (record { row = 0; listed = 0; ended = Unstarted }) work
     run_full e =
         record {
           first = replicate 12288 0;
@@ -166,7 +171,7 @@ module _ {sizes : List ℕ} {nodes tests : List (List ℕ)} {x : Lists} {count :
           kept = refl;
         }
 
-    module _ (same : length y.packets ≡ length x.packets) (parents : length y.parents ≡ length x.parents) {m : ℕ} (e : a ≡ Rows m) where
+    module _ (same : length y.packets ≡ length x.packets) (parents : length y.parents ≡ length x.parents) {m : ℕ} (e : a ≡ Some m) where
       pub run_ready : RoundsReady sizes nodes tests y (record { count = count; listed = m; handled = 0 }) work
       run_ready =
           record {
@@ -175,8 +180,8 @@ module _ {sizes : List ℕ} {nodes tests : List (List ℕ)} {x : Lists} {count :
             underway = starts_underway P.prepared.loaded P.prepared.packets (started_rows T e) same (parents ∙ P.parents ∙ sym same);
           }
 
-      module _ {z : Lists} {answer : Level} {work' : List ℕ} (D : RoundsDone sizes nodes tests y z (record { count = count; listed = m; handled = 0 }) work answer work') where
-        pub run_ends : (stop : Stop) → answer ≡ Ended stop → RunDone sizes nodes tests x (with_index z []) count work stop work'
+      module _ {z : Lists} {answer : Result Stop Progress} {work' : List ℕ} (D : RoundsDone sizes nodes tests y z (record { count = count; listed = m; handled = 0 }) work answer work') where
+        pub run_ends : (stop : Stop) → answer ≡ Ok stop → RunDone sizes nodes tests x (with_index z []) count work stop work'
         run_ends stop f =
             record {
               first = replicate 12288 0;
@@ -185,7 +190,7 @@ module _ {sizes : List ℕ} {nodes tests : List (List ℕ)} {x : Lists} {count :
               kept = D.kept;
             }
 
-        module _ {q : Progress} (f : answer ≡ Outgrown q) where
+        module _ {q : Progress} (f : answer ≡ Err q) where
           pub rest_asks : RestReady sizes nodes tests (with_index z []) q work'
           unfolding run_ready prepared_still
           rest_asks =

@@ -21,8 +21,7 @@ use Rattle.pair.specs.Sides.{Side, left, right, policies}
 use Rattle.pair.specs.Pair.{pair_system}
 use Rattle.pair.specs.Search.{rows_full, side_of, search_answer, reported}
 use Rattle.pair.proofs.Lawful.{legal_pair, lawful}
-use Rattle.index.specs.declared.Appended.{Appended}
-use Rattle.index.specs.declared.Appended.TheVariants.{Rows, Full as FullUp}
+use Rattle.std.specs.Prelude.{Option, Some, None}
 use Rattle.index.specs.Index.{bucket_count, Indexed, Indexable}
 use Rattle.index.specs.Appending.{Lists}
 use Rattle.index.specs.Entries.{Masks}
@@ -78,10 +77,10 @@ module _ (sizes : List ℕ) (L R : NodeLists) where
       go handling e =
           subst (Stepped lent k) (ap (after_row sizes (policies L R) lent) (run_handle S k e) ∙ sym (rw (e, step_answer))) (handled e)
 
-pub started_full : {x y : Lists} {count : ℕ} {a : Appended} → Started x y count a → a ≡ FullUp → Started x y count FullUp
+pub started_full : {x y : Lists} {count : ℕ} {a : Option ℕ} → Started x y count a → a ≡ None → Started x y count None
 started_full {x} {y} {count} T e = subst (Started x y count) e T
 
-pub started_rows : {x y : Lists} {count m : ℕ} {a : Appended} → Started x y count a → a ≡ Rows m → Started x y count (Rows m)
+pub started_rows : {x y : Lists} {count m : ℕ} {a : Option ℕ} → Started x y count a → a ≡ Some m → Started x y count (Some m)
 started_rows {x} {y} {count} T e = subst (Started x y count) e T
 
 -- What rounds keep: the lengths of the lists, and the work list; the next lists are empty.
@@ -119,13 +118,13 @@ module _ {sizes : List ℕ} {nodes tests : List (List ℕ)} {L R : NodeLists} (b
   held_stands {x} {z} {count} T = subst (λ l. Standing S' M' x z count l (held S' (length x.packets))) (sym (stands_length S' M' T)) T
 
   module _ {x : Lists} {count : ℕ} (isCount : count ≡ product sizes) where
-    pub starts_full : {z : Lists} → Started x z count FullUp → RowsRun sizes L R x z count (record { row = 0; listed = 0; ended = Unstarted })
+    pub starts_full : {z : Lists} → Started x z count None → RowsRun sizes L R x z count (record { row = 0; listed = 0; ended = Unstarted })
     unfolding Readable ReadableAt ended_answer answer_at_end
     starts_full T =
         let full = start_full sizes (policies L R) is_lawful (sym isCount) T in
         record { standing = held_stands full.standing; readable = tt; answers = full.answer }
 
-    pub starts_underway : {y : Lists} {m : ℕ} → Started x y count (Rows m) → length y.packets ≡ length x.packets → length y.parents ≡ length y.packets
+    pub starts_underway : {y : Lists} {m : ℕ} → Started x y count (Some m) → length y.packets ≡ length x.packets → length y.parents ≡ length y.packets
         → Underway sizes L R x y (record { count = count; listed = m; handled = 0 })
     starts_underway T same parents =
         let begins = search_begins sizes (policies L R) is_lawful (sym isCount) T in

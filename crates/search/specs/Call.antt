@@ -4,8 +4,8 @@ use Rattle.std.specs.Prelude.{ℕ, ◌≤◌, List, [], ◌∷◌, ◌↔◌, �
 use Rattle.std.specs.Borrow.{MutBor}
 use denote.Triple.Both.{Both}
 use Rattle.packet.specs.declared.Refusal.{Refusal}
-use Rattle.packet.specs.declared.Tested.{Tested}
-use Rattle.packet.specs.declared.Tested.TheVariants.{Passed, Refused as Stopped}
+use Rattle.packet.specs.Refusals.{Tested}
+use Rattle.std.specs.Prelude.{Ok, Err}
 use Rattle.packet.specs.Refusals.{refusal}
 use Rattle.packet.specs.Sizes.{product, LegalSizes}
 use Rattle.fields.specs.Tables.{Table, joint_sizes}
@@ -19,6 +19,7 @@ use Rattle.classes.specs.Mentioned.{pair_classes}
 use Rattle.pair.specs.Sides.{Side, other, at, policies}
 use Rattle.pair.specs.Pair.{pair_system}
 use Rattle.pair.specs.Search.{SearchAnswer, Columns, search_answer, held_columns}
+use Rattle.index.specs.declared.RowLists.{RowLists}
 use Rattle.lent_lists.specs.LentLists.{lists_stage, lent_tests}
 use Rattle.packet.specs.Written.{written}
 use Rattle.verdict.specs.declared.Verdict.{Verdict}
@@ -36,6 +37,10 @@ pub record SearchLists : Type 0 where
 
 abbrev pub lent : List ℕ → List ℕ → List ℕ → List ℕ → List ℕ → List ℕ → SearchLists
 lent P L R Q trace work = record { packets = P; lefts = L; rights = R; parents = Q; trace = trace; work = work }
+
+-- what the row lists and the others contain
+abbrev pub lent_in : RowLists → List ℕ → List ℕ → SearchLists
+lent_in rows trace work = lent rows.packets.now rows.left.now rows.right.now rows.parents.now trace work
 
 -- the same of the references that an `ensures` names
 abbrev pub lent_at_entry : (P L R Q trace work : Both (MutBor (List ℕ)) (MutBor (List ℕ))) → SearchLists
@@ -57,12 +62,12 @@ filled rows a x =
     }
 
 unfoldable pub verdict_after : Tested → SearchAnswer → Verdict
-verdict_after Passed a = verdict_of a
-verdict_after (Stopped r) a = Refused r
+verdict_after (Ok _) a = verdict_of a
+verdict_after (Err r) a = Refused r
 
 unfoldable pub lent_after : Tested → Columns → SearchAnswer → SearchLists → SearchLists
-lent_after Passed rows a x = filled rows a x
-lent_after (Stopped r) rows a x = x
+lent_after (Ok _) rows a x = filled rows a x
+lent_after (Err r) rows a x = x
 
 module _ (sizes : List ℕ) (L R : NodeLists) (x : SearchLists) where
   -- the theory's answer with as many rows and as long a trace as were lent
@@ -104,11 +109,11 @@ module _ (ts : List Table) (L R : NodeLists) (x : SearchLists) where
     -- demand 2: equal only if both policies have the same traces from every packet
     pub equal_same : (rows : ℕ) → verdict ≡ Equal rows → SameTracesDeclared (joint_sizes ts) (policy_of L) (policy_of R)
     -- and equal wherever they have, if the row order needs no more rows than were lent
-    pub same_equal : search_tests ≡ Passed → SameTracesDeclared (joint_sizes ts) (policy_of L) (policy_of R) → (NeedsMore (pair_system (pair_core ts L R) (policies L R)) (length x.packets) → ⊥) → (rows : ℕ) × (verdict ≡ Equal rows)
+    pub same_equal : search_tests ≡ Ok tt → SameTracesDeclared (joint_sizes ts) (policy_of L) (policy_of R) → (NeedsMore (pair_system (pair_core ts L R) (policies L R)) (length x.packets) → ⊥) → (rows : ℕ) × (verdict ≡ Equal rows)
     -- different only with a packet and trace that exactly one of them has, and no shorter trace tells the two apart from any packet
     pub different_tells : (s : Side) (n α : ℕ) → verdict ≡ telling_verdict s n α → Telling s n α y.trace
     -- where no cause tested earlier holds, full comes exactly when the row order needs more rows than were lent
-    pub full_exactly : search_tests ≡ Passed → (verdict ≡ full_here (pair_core ts L R) L R x) ↔ NeedsMore (pair_system (pair_core ts L R) (policies L R)) (length x.packets)
+    pub full_exactly : search_tests ≡ Ok tt → (verdict ≡ full_here (pair_core ts L R) L R x) ↔ NeedsMore (pair_system (pair_core ts L R) (policies L R)) (length x.packets)
     -- and it names the rows lent, and the depth of the row being handled
     pub full_place : (r : Refusal) (d : ℕ) → verdict ≡ Full r d → Full r d ≡ full_here (pair_core ts L R) L R x
     -- document 02, A.3: both policies have the same traces of d packets or fewer from every packet

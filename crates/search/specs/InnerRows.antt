@@ -1,5 +1,5 @@
 -- The row order from its start to its end, on an index that grows with it.
-use Rattle.std.specs.Prelude.{ℕ, ◌<◌, ◌≤◌, List, [], ◌≡◌, length, get_or}
+use Rattle.std.specs.Prelude.{ℕ, ◌<◌, ◌≤◌, List, ◌≡◌, length, get_or, Result, Ok, Err}
 use Rattle.packet.specs.Sizes.{product}
 use Rattle.policy.specs.NodeLists.{NodeLists}
 use Rattle.system.specs.RowOrder.{run, held}
@@ -8,21 +8,12 @@ use Rattle.pair.specs.Pair.{pair_system}
 use Rattle.pair.specs.Search.{search_answer}
 use Rattle.index.specs.Columns.{EvenColumns}
 use Rattle.index.specs.Index.{bucket_count}
-use Rattle.index.specs.Appending.{Lists, lists, LentList}
+use Rattle.index.specs.Appending.{Lists, lists}
 use Rattle.listed_rows.specs.declared.Progress.{Progress}
 use Rattle.listed_rows.specs.Standing.{Standing, pair_masks}
 use Rattle.compare.specs.Comparison.{BothLoaded}
 use Rattle.verdict.specs.declared.Stop.{Stop}
 use Rattle.verdict.specs.InnerEnding.{ended_answer, Readable}
-use Rattle.search.specs.declared.Level.{Level}
-use Rattle.search.specs.declared.Level.TheVariants.{Ended, Outgrown}
-
--- the lent columns at entry and at exit, with no index
-abbrev pub columns_at_entry : LentList → LentList → LentList → LentList → Lists
-columns_at_entry P L R Q = lists P.entry.now L.entry.now R.entry.now Q.entry.now []
-
-abbrev pub columns_at_exit : LentList → LentList → LentList → LentList → Lists
-columns_at_exit P L R Q = lists P.exit.now L.exit.now R.exit.now Q.exit.now []
 
 -- the columns with this index
 abbrev pub with_index : Lists → List ℕ → Lists
@@ -45,9 +36,9 @@ module _ (sizes : List ℕ) (L R : NodeLists) where
     pub parents : length y.parents ≡ length y.packets
 
   -- where an index leads to: the end, or a row whose successors it may have no room for
-  pub record Leads (x z : Lists) (count : ℕ) (answer : Level) : Type 0 where
-    pub ended : (stop : Stop) → answer ≡ Ended stop → RowsRun x z count stop
-    pub outgrown : (q : Progress) → answer ≡ Outgrown q → (q.count ≡ count) × Underway x z q
+  pub record Leads (x z : Lists) (count : ℕ) (answer : Result Stop Progress) : Type 0 where
+    pub ended : (stop : Stop) → answer ≡ Ok stop → RowsRun x z count stop
+    pub outgrown : (q : Progress) → answer ≡ Err q → (q.count ≡ count) × Underway x z q
 
 module _ (sizes : List ℕ) (nodes tests : List (List ℕ)) where
   -- two policies that are loaded, so many packets, and a work list of 0
@@ -66,9 +57,9 @@ module _ (sizes : List ℕ) (nodes tests : List (List ℕ)) where
     pub underway : Underway sizes prepared.lists prepared.others start y p
 
   -- round after round, whatever policies are loaded and wherever the row order started; an index for all rows lent is not outgrown
-  pub record RoundsDone (y z : Lists) (p : Progress) (work : List ℕ) (answer : Level) (work' : List ℕ) : Type 0 where
+  pub record RoundsDone (y z : Lists) (p : Progress) (work : List ℕ) (answer : Result Stop Progress) (work' : List ℕ) : Type 0 where
     pub leads : (L R : NodeLists) → BothLoaded sizes L R nodes tests → (x : Lists) → Underway sizes L R x y p → Leads sizes L R x z p.count answer
-    pub outgrown : (q : Progress) → answer ≡ Outgrown q → bucket_count y.trees < length y.packets
+    pub outgrown : (q : Progress) → answer ≡ Err q → bucket_count y.trees < length y.packets
     pub kept : work' ≡ work
 
   -- what the rest of a row order asks: it is underway on some index

@@ -2,27 +2,20 @@
 #![tactic(auto)]
 
 ghost use Rattle.std.specs.Prelude.{ℕ, ◌+◌, ◌/◌, ◌<◌, ◌≤◌, true, false, [], ◌≡◌};
-ghost use Rattle.fields.specs.Tables.{tables_at_entry};
-ghost use Rattle.policy.specs.AsLists.{as_lists, policy_at_entry};
-ghost use Rattle.index.specs.Appending.{lists, lists_at_entry, lists_at_exit};
-ghost use Rattle.search.specs.InnerRows.{columns_at_entry, columns_at_exit, RoundsReady, RoundsDone, RestReady, RestDone, RunReady, RunDone};
-ghost use Rattle.search.specs.Call.{lent, lent_at_entry, lent_at_exit, Accepted, SearchDone, Searched};
+ghost use Rattle.fields.specs.Tables.{lent_tables};
+ghost use Rattle.policy.specs.AsLists.{lists_of};
+ghost use Rattle.index.specs.Lent.{SameLists};
+ghost use Rattle.index.specs.Appending.{lists_in};
+ghost use Rattle.search.specs.InnerRows.{RoundsReady, RoundsDone, RestReady, RestDone, RunReady, RunDone};
+ghost use Rattle.search.specs.Call.{lent_in, Accepted, SearchDone, Searched};
 
-use index::{Appended, POLICIES};
+use compare::LoadedPolicies;
+use fields::Tables;
+use index::{POLICIES, RowLists};
 use listed_rows::Progress;
-use loaded::{Nodes, Tests};
-use packet::Tested;
-use packet_set::Mask;
+use policy::lent::PolicyLists;
 use row_handling::Handled;
 use verdict::{Ended, Stop, Verdict};
-
-// Where an index leads to. Inner.
-#[derive(Drop)]
-pub enum Level {
-    Ended(Stop),
-    // the row order has come so far, and the index may have no room for the successors of the next row
-    Outgrown(Progress),
-}
 
 // Inner: whether an index of so many slots has room for all rows lent, or for a successor at each packet.
 fn has_room(lent: usize, slots: usize, progress: Progress) -> bool
@@ -30,111 +23,70 @@ fn has_room(lent: usize, slots: usize, progress: Progress) -> bool
     ensures { (result ≡ true → (i : ℕ) → i < lent → i < progress.listed + progress.count → i < slots / 3) × (result ≡ false → slots / 3 < lent) }
 {
     let size = slots / 3;
-    if lent <= size {
-        return true;
-    }
-    progress.listed + progress.count as usize <= size
+    lent <= size || progress.listed + usize::from(progress.count) <= size
 }
 
-// Inner: handles row after row while the index has room.
+// Inner: handles row after row while the index has room. It ends where the row order does, or, as an error, where the index may have no room
+// for the successors of the next row: how far the row order has come.
 fn rounds(
-    sizes: &[u16],
-    nodes: &[Nodes; POLICIES],
-    tests: &[Tests; POLICIES],
-    packets: &mut [u16],
-    lefts: &mut [Mask],
-    rights: &mut [Mask],
-    parents: &mut [u16],
+    policies: LoadedPolicies,
+    rows: &mut RowLists,
     trees: &mut [u16],
     start: Progress,
     work: &mut [u32],
-) -> Level
-    requires { RoundsReady sizes.now nodes.now tests.now (lists packets.old lefts.old rights.old parents.old trees.old) start work.old }
-    ensures { RoundsDone sizes.now nodes.now tests.now (lists_at_entry packets lefts rights parents trees) (lists_at_exit packets lefts rights parents trees) start work.old result work.new }
+) -> Result<Stop, Progress>
+    requires { RoundsReady policies.sizes.now policies.nodes.now policies.tests.now (lists_in rows.old trees.old) start work.old }
+    ensures same_lists { SameLists rows.old rows.new }
+    ensures rounds { let p = policies.entry in RoundsDone p.sizes.now p.nodes.now p.tests.now (lists_in rows.old trees.old) (lists_in rows.new trees.new) start work.old result work.new }
 {
     let mut next = [[0; 1056]; POLICIES];
     let mut progress = start;
-    while has_room(packets.len(), trees.len(), progress) {
-        match row_handling::handle(
-            sizes, nodes, tests, packets, lefts, rights, parents, trees, progress, &mut next, work,
-        ) {
+    while has_room(rows.packets.len(), trees.len(), progress) {
+        match row_handling::handle(policies, rows, trees, progress, &mut next, work) {
             Handled::Stopped(ended) => {
-                return Level::Ended(Stop {
+                return Ok(Stop {
                     row: progress.handled,
                     listed: progress.listed,
                     ended,
                 });
             }
             Handled::Open(listed) => {
-                let count = progress.count;
-                let handled = progress.handled + 1;
-                progress = Progress {
-                    count,
-                    listed,
-                    handled,
-                };
+                progress.listed = listed;
+                progress.handled += 1;
             }
         }
     }
-    Level::Outgrown(progress)
+    Err(progress)
 }
 
 // Inner: the rest of a row order, on an index for as many rows as can be lent.
 fn run_on(
-    sizes: &[u16],
-    nodes: &[Nodes; POLICIES],
-    tests: &[Tests; POLICIES],
-    packets: &mut [u16],
-    lefts: &mut [Mask],
-    rights: &mut [Mask],
-    parents: &mut [u16],
+    policies: LoadedPolicies,
+    rows: &mut RowLists,
     reached: Progress,
     work: &mut [u32],
 ) -> Stop
-    requires { RestReady sizes.now nodes.now tests.now (lists packets.old lefts.old rights.old parents.old []) reached work.old }
-    ensures { RestDone sizes.now nodes.now tests.now (columns_at_entry packets lefts rights parents) (columns_at_exit packets lefts rights parents) reached work.old result work.new }
+    requires { RestReady policies.sizes.now policies.nodes.now policies.tests.now (lists_in rows.old []) reached work.old }
+    ensures same_lists { SameLists rows.old rows.new }
+    ensures rest { let p = policies.entry in RestDone p.sizes.now p.nodes.now p.tests.now (lists_in rows.old []) (lists_in rows.new []) reached work.old result work.new }
 {
     let mut trees = [0u16; 196608];
-    index::index_rows(
-        packets,
-        lefts,
-        rights,
-        reached.listed,
-        reached.count,
-        &mut trees,
-    );
-    match rounds(
-        sizes, nodes, tests, packets, lefts, rights, parents, &mut trees, reached, work,
-    ) {
-        Level::Ended(stop) => stop,
-        // never: this index is for 65,536 rows
-        Level::Outgrown(_) => Stop {
-            row: 0,
-            listed: 0,
-            ended: Ended::Unstarted,
-        },
+    index::index_rows(rows.columns(), reached.listed, reached.count, &mut trees);
+    match rounds(policies, rows, &mut trees, reached, work) {
+        Ok(stop) => stop,
+        // this index is for 65,536 rows
+        Err(_) => unreachable!(),
     }
 }
 
 // Inner: the row order from its start to its end. It starts on a small index, so that a search of few rows need not set a large one to 0.
-fn run(
-    sizes: &[u16],
-    count: u16,
-    nodes: &[Nodes; POLICIES],
-    tests: &[Tests; POLICIES],
-    packets: &mut [u16],
-    lefts: &mut [Mask],
-    rights: &mut [Mask],
-    parents: &mut [u16],
-    work: &mut [u32],
-) -> Stop
-    requires { RunReady sizes.now nodes.now tests.now (lists packets.old lefts.old rights.old parents.old []) count work.old }
-    ensures { RunDone sizes.now nodes.now tests.now (columns_at_entry packets lefts rights parents) (columns_at_exit packets lefts rights parents) count work.old result work.new }
+fn run(policies: LoadedPolicies, count: u16, rows: &mut RowLists, work: &mut [u32]) -> Stop
+    requires { RunReady policies.sizes.now policies.nodes.now policies.tests.now (lists_in rows.old []) count work.old }
+    ensures same_lists { SameLists rows.old rows.new }
+    ensures runs { let p = policies.entry in RunDone p.sizes.now p.nodes.now p.tests.now (lists_in rows.old []) (lists_in rows.new []) count work.old result work.new }
 {
     let mut trees = [0u16; 12288];
-    let Appended::Rows(listed) = listed_rows::start(
-        packets, lefts, rights, parents, count, &mut trees,
-    ) else {
+    let Some(listed) = listed_rows::start(rows, count, &mut trees) else {
         return Stop {
             row: 0,
             listed: 0,
@@ -146,13 +98,9 @@ fn run(
         listed,
         handled: 0,
     };
-    match rounds(
-        sizes, nodes, tests, packets, lefts, rights, parents, &mut trees, progress, work,
-    ) {
-        Level::Ended(stop) => stop,
-        Level::Outgrown(reached) => run_on(
-            sizes, nodes, tests, packets, lefts, rights, parents, reached, work,
-        ),
+    match rounds(policies, rows, &mut trees, progress, work) {
+        Ok(stop) => stop,
+        Err(reached) => run_on(policies, rows, reached, work),
     }
 }
 
@@ -160,105 +108,59 @@ fn run(
 fn search_accepted(
     sizes: &[u16],
     count: u16,
-    left_kind: &[u8],
-    left_first: &[u16],
-    left_second: &[u16],
-    right_kind: &[u8],
-    right_first: &[u16],
-    right_second: &[u16],
-    packets: &mut [u16],
-    lefts: &mut [Mask],
-    rights: &mut [Mask],
-    parents: &mut [u16],
+    left: PolicyLists,
+    right: PolicyLists,
+    rows: &mut RowLists,
     trace: &mut [u16],
     work: &mut [u32],
 ) -> Verdict
-    requires { Accepted sizes.now (as_lists left_kind.now left_first.now left_second.now) (as_lists right_kind.now right_first.now right_second.now) count (lent packets.old lefts.old rights.old parents.old trace.old work.old) }
-    ensures { SearchDone sizes.now (policy_at_entry left_kind left_first left_second) (policy_at_entry right_kind right_first right_second) (lent_at_entry packets lefts rights parents trace work) result (lent_at_exit packets lefts rights parents trace work) }
+    requires { Accepted sizes.now (lists_of left) (lists_of right) count (lent_in rows.old trace.old work.old) }
+    ensures same_lists { SameLists rows.old rows.new }
+    ensures done { SearchDone sizes.now (lists_of left.entry) (lists_of right.entry) (lent_in rows.old trace.old work.old) result (lent_in rows.new trace.new work.new) }
 {
     lent_lists::clear(work);
-    let mut nodes = [[0u64; 576]; POLICIES];
-    let mut tests = [[0u32; 8224]; POLICIES];
-    compare::load(
+    let mut nodes = [[0; 576]; POLICIES];
+    let mut tests = [[0; 8224]; POLICIES];
+    compare::load(sizes, count, left, right, &mut nodes, &mut tests);
+    let policies = LoadedPolicies {
         sizes,
-        count,
-        left_kind,
-        left_first,
-        left_second,
-        right_kind,
-        right_first,
-        right_second,
-        &mut nodes,
-        &mut tests,
-    );
-    let stop = run(
-        sizes, count, &nodes, &tests, packets, lefts, rights, parents, work,
-    );
-    verdict::conclude(packets, parents, stop, trace)
+        nodes: &nodes,
+        tests: &tests,
+    };
+    let stop = run(policies, count, rows, work);
+    verdict::conclude_rows(rows, stop, trace)
 }
 
 // Whether two policies have the same traces from every packet: equal, or a shortest trace that one of them alone has, written to the trace list.
 // The row lists hold the rows of the row order listed so far, the work list is 0; refusals up to 10 leave all lists as they were.
 pub fn search(
-    left_names: &[u8],
-    left_sizes: &[u16],
-    right_names: &[u8],
-    right_sizes: &[u16],
-    left_kind: &[u8],
-    left_first: &[u16],
-    left_second: &[u16],
-    right_kind: &[u8],
-    right_first: &[u16],
-    right_second: &[u16],
-    packets: &mut [u16],
-    lefts: &mut [Mask],
-    rights: &mut [Mask],
-    parents: &mut [u16],
+    tables: Tables,
+    left: PolicyLists,
+    right: PolicyLists,
+    rows: &mut RowLists,
     trace: &mut [u16],
     work: &mut [u32],
 ) -> Verdict
-    ensures { Searched (tables_at_entry left_names left_sizes right_names right_sizes) (policy_at_entry left_kind left_first left_second) (policy_at_entry right_kind right_first right_second) (lent_at_entry packets lefts rights parents trace work) result (lent_at_exit packets lefts rights parents trace work) }
+    ensures same_lists { SameLists rows.old rows.new }
+    ensures searched { Searched (lent_tables tables.entry) (lists_of left.entry) (lists_of right.entry) (lent_in rows.old trace.old work.old) result (lent_in rows.new trace.new work.new) }
 {
-    let lists = lent_lists::search_lists(
-        packets.len(),
-        lefts.len(),
-        rights.len(),
-        parents.len(),
+    let lists = lent_lists::lists_stage(
+        &[
+            rows.packets.len(),
+            rows.left.len(),
+            rows.right.len(),
+            rows.parents.len(),
+        ],
         work.len(),
     );
-    let found = legality::front(
-        left_names,
-        left_sizes,
-        right_names,
-        right_sizes,
-        1,
-        left_kind,
-        left_first,
-        left_second,
-        right_kind,
-        right_first,
-        right_second,
-        lists,
-    );
-    let tested = found.tested;
-    let count = found.packets;
-    let fields = found.count;
-    let core = found.core;
-    match tested {
-        Tested::Refused(r) => Verdict::Refused(r),
-        Tested::Passed => search_accepted(
-            &core[..fields],
-            count,
-            left_kind,
-            left_first,
-            left_second,
-            right_kind,
-            right_first,
-            right_second,
-            packets,
-            lefts,
-            rights,
-            parents,
+    match legality::front(tables, 1, left, right, lists) {
+        Err(r) => Verdict::Refused(r),
+        Ok(found) => search_accepted(
+            &found.core[..found.count],
+            found.packets,
+            left,
+            right,
+            rows,
             trace,
             work,
         ),

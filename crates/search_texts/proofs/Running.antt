@@ -3,14 +3,14 @@ use Prim.Native.Nat.{ℕ, ◌<◌, ◌≤◌}
 use native.Mathlib.Omega.{arith}
 use mathlib.Core.List.{List, [], ◌∷◌}
 use mathlib.Core.Logic.{◌↔◌}
-use mathlib.Core.Path.{◌≡◌, refl, sym, ◌∙◌, ap, subst}
+use mathlib.Core.Path.{◌≡◌, sym, ◌∙◌, ap, subst}
 use lib.ListN.{length, take}
 use Rattle.packet.specs.declared.Refusal.{Refusal}
-use Rattle.packet.specs.declared.Tested.{Tested}
-use Rattle.packet.specs.declared.Tested.TheVariants.{Passed, Refused as Stopped}
+use Rattle.packet.specs.Refusals.{Tested}
+use Rattle.std.specs.Prelude.{Result, Ok, Err}
 use Rattle.packet.specs.Refusals.{first_refused}
 use Rattle.packet.specs.Packets.{Declared}
-use Rattle.packet.proofs.Stages.{first_refused_next, first_refused_last, first_refused_refused, first_refused_passed}
+use Rattle.packet.proofs.Stages.{first_refused_next, first_refused_last, first_refused_refused}
 use Rattle.fields.specs.Tables.{Table, joint_sizes, tables_stage}
 use Rattle.policy.specs.Order.{in_order, stages_of, pair_of}
 use Rattle.policy.proofs.OrderLaws as order
@@ -26,51 +26,26 @@ use Rattle.verdict.specs.declared.Verdict.{Verdict}
 use Rattle.verdict.specs.declared.Verdict.TheVariants.{Refused}
 use Rattle.search.specs.Call.{SearchLists, verdict_after, lent_after, search_tests, search_verdict, search_leaves, Searched}
 use Rattle.search.proofs.Answering.{refused_equal, refused_telling, refused_full}
-use Rattle.search_texts.specs.Call.{text_nodes, text_stage, text_tables, left_names, right_names, text_policies, texts_classes, TextsTell, texts_tests, texts_answer, texts_rows, texts_verdict, texts_leaves, TextsSearched, Ran}
+use Rattle.search_texts.specs.Call.{text_nodes, text_stage, text_tables, left_names, right_names, text_policies, texts_classes, TextsTell, texts_tests, texts_answer, texts_rows, texts_verdict, texts_leaves, TextsSearched, TextRead, TextsRead, held_nodes}
+use Rattle.search_texts.specs.declared.TextNodes.{TextNodes}
 use Rattle.search_texts.proofs.Reading.{stage_answer}
 
 zero≢one : ◌≡◌ {A = ℕ} 0 1 → ⊥
 zero≢one z = omega arith
 
-passed≢stopped : {r : Refusal} → Passed ≡ Stopped r → ⊥
+passed≢stopped : {r : Refusal} → ◌≡◌ {A = Tested} (Ok tt) (Err r) → ⊥
 passed≢stopped e = zero≢one (let z : ◌≡◌ {A = ℕ} 0 1 = cc in z)
-
--- ---- inner runs
-
-module _ {ts : List Table} {L R : NodeLists} {x : SearchLists} where
-  pub ran_stopped : {before : Tested} {r : Refusal} → before ≡ Stopped r → Ran before ts L R x (Refused r) x
-  ran_stopped {before} {r} e =
-      record {
-        stopped = λ q f. (ap Refused (let same : r ≡ q = (let t : Stopped r ≡ Stopped q = sym e ∙ f in cc) in same), refl);
-        searched = λ p. absurd (passed≢stopped (sym p ∙ e));
-      }
-
-  pub ran_searched : {before : Tested} {L' R' : NodeLists} {v : Verdict} {y : SearchLists} → before ≡ Passed → L' ≡ L → R' ≡ R → Searched ts L' R' x v y → Ran before ts L R x v y
-  ran_searched {L' = L'} {v = v} {y = y} e p q s =
-      record {
-        stopped = λ r f. absurd (passed≢stopped (sym e ∙ f));
-        searched = λ _. subst (λ (M : NodeLists). Searched ts M R x v y) p (subst (λ (M : NodeLists). Searched ts L' M x v y) q s);
-      }
-
-  -- the left text passes
-  pub ran_left : {a b : Tested} {L' : NodeLists} {v : Verdict} {y : SearchLists} → a ≡ Passed → L' ≡ L → Ran b ts L' R x v y → Ran (first_refused (a ∷ b ∷ [])) ts L R x v y
-  ran_left {a} {b} {L'} {v} {y} e p s =
-      subst (λ (t : Tested). Ran t ts L R x v y) (sym (first_refused_next a (b ∷ []) e ∙ first_refused_last b)) (subst (λ (M : NodeLists). Ran b ts M R x v y) p s)
-
-  -- it does not
-  pub left_stopped : {a : Tested} (b : Tested) {r : Refusal} → a ≡ Stopped r → Ran (first_refused (a ∷ b ∷ [])) ts L R x (Refused r) x
-  left_stopped {a} b {r} e = ran_stopped (first_refused_refused a (b ∷ []) r e)
 
 -- ---- the traces of the nodes are those of the text
 
-module _ (left_table right_table : Table) (left-text right-text : List ℕ) (el : text_stage (left_names left_table right_table) left-text ≡ Passed) (er : text_stage (right_names left_table right_table) right-text ≡ Passed) where
+module _ (left_table right_table : Table) (left-text right-text : List ℕ) (el : text_stage (left_names left_table right_table) left-text ≡ Ok tt) (er : text_stage (right_names left_table right_table) right-text ≡ Ok tt) where
   abbrev ln : List (List ℕ)
   ln = left_names left_table right_table
 
   abbrev rn : List (List ℕ)
   rn = right_names left_table right_table
 
-  tree_traces : (names : List (List ℕ)) (text : List ℕ) → text_stage names text ≡ Passed → Traces declared (policy_of (text_nodes names text)) ≡ Traces declared (text_tree names text)
+  tree_traces : (names : List (List ℕ)) (text : List ℕ) → text_stage names text ≡ Ok tt → Traces declared (policy_of (text_nodes names text)) ≡ Traces declared (text_tree names text)
   unfolding text_nodes
   tree_traces names text e = text_traces names text 512 (tree_size (text_tree names text)) (stage_answer names text e) declared
 
@@ -107,10 +82,18 @@ module _ (left_table right_table : Table) (left-text right-text : List ℕ) (el 
       → TextsTell left_table right_table left-text right-text s α t
   texts_tell_over s α t d = record { inside = d.inside; shown = texts_tell _ s _ _ d.shown; along = λ β e f. texts_tell _ s _ _ (d.along β e f) }
 
+-- ---- the texts as they are read
+
+pub renamed : {ns ms : List (List ℕ)} (text : List ℕ) (r : Result TextNodes Refusal) → ns ≡ ms → TextRead ns text r → TextRead ms text r
+renamed text r p h = subst (λ (ks : List (List ℕ)). TextRead ks text r) p h
+
+pub texts_handed : (left_table right_table : Table) (left-text right-text : List ℕ) {e : Refusal} (r : Result (TextNodes × TextNodes) Refusal) → r ≡ Err e → ((x : SearchLists) → texts_tests left_table right_table left-text right-text x ≡ Err e) → TextsRead left_table right_table left-text right-text r
+texts_handed left_table right_table left-text right-text r is h = subst (λ (a : Result (TextNodes × TextNodes) Refusal). TextsRead left_table right_table left-text right-text a) (sym is) h
+
 -- ---- the public call
 
 module _ (left_table right_table : Table) (left-text right-text : List ℕ) (x : SearchLists) where
-  refused_by : {r : Refusal} → texts_tests left_table right_table left-text right-text x ≡ Stopped r → TextsSearched left_table right_table left-text right-text x (Refused r) x
+  pub refused_by : {r : Refusal} → texts_tests left_table right_table left-text right-text x ≡ Err r → TextsSearched left_table right_table left-text right-text x (Refused r) x
   unfolding texts_verdict texts_leaves verdict_after lent_after
   refused_by {r} e =
       record {
@@ -139,45 +122,40 @@ module _ (left_table right_table : Table) (left-text right-text : List ℕ) (x :
   abbrev text_tests : Tested
   text_tests = first_refused (text_stage lnames left-text ∷ text_stage rnames right-text ∷ [])
 
-  pub tables_refused : {r : Refusal} → tables_stage ts ≡ Stopped r → TextsSearched left_table right_table left-text right-text x (Refused r) x
-  unfolding texts_tests
-  tables_refused e = refused_by (order.tables_refused ts _ _ _ _ e)
-
-  tables_passed : {v : Verdict} {y : SearchLists} → tables_stage ts ≡ Passed → Ran text_tests ts (text_nodes lnames left-text) (text_nodes rnames right-text) x v y → TextsSearched left_table right_table left-text right-text x v y
+  texts_passed : text_stage lnames left-text ≡ Ok tt → text_stage rnames right-text ≡ Ok tt → {v : Verdict} {y : SearchLists} → Searched ts (text_nodes lnames left-text) (text_nodes rnames right-text) x v y → TextsSearched left_table right_table left-text right-text x v y
   unfolding texts_tests search_tests lent_tests search_verdict search_leaves texts_verdict texts_leaves
-  tables_passed {v} {y} e ran = go text_tests refl
-    where
-      searched : text_tests ≡ Passed → Searched ts (text_nodes lnames left-text) (text_nodes rnames right-text) x v y → TextsSearched left_table right_table left-text right-text x v y
-      searched q s =
-          let p = first_refused_passed (text_stage lnames left-text) (text_stage rnames right-text ∷ []) q in
-          let l : text_stage lnames left-text ≡ Passed = p.0 in
-          let r : text_stage rnames right-text ≡ Passed = (first_refused_passed (text_stage rnames right-text) [] p.1).0 in
-          let same : texts_tests left_table right_table left-text right-text x ≡ search_tests ts (text_nodes lnames left-text) (text_nodes rnames right-text) x =
-          ap (λ (u : Tested). in_order (stages_of ts u (pair_of (text_nodes lnames left-text) (text_nodes rnames right-text)) lists Passed)) q in
-          record {
-            answers = s.answers ∙ sym (ap (λ (t : Tested). verdict_after t (texts_answer left_table right_table left-text right-text x)) same);
-            leaves = s.leaves ∙ sym (ap (λ (t : Tested). lent_after t (texts_rows left_table right_table left-text right-text x) (texts_answer left_table right_table left-text right-text x) x) same);
-            equal_same = λ rows f. (texts_same left_table right_table left-text right-text l r (joint_sizes ts)).0 (s.equal_same rows f);
-            same_equal = λ f g. s.same_equal (sym same ∙ f) ((texts_same left_table right_table left-text right-text l r (joint_sizes ts)).1 g);
-            different_tells = λ sd n α f. (let t = s.different_tells sd n α f in record { long = t.long; tells = texts_tell_over left_table right_table left-text right-text l r sd α (take n y.trace) t.tells });
-            full_exactly = λ f. s.full_exactly (sym same ∙ f);
-            full_place = s.full_place;
-            full_same = λ r' d f. texts_short left_table right_table left-text right-text l r (joint_sizes ts) d (s.full_same r' d f);
-          }
+  texts_passed l r {v} {y} s =
+      let q : text_tests ≡ Ok tt = first_refused_next (text_stage lnames left-text) (text_stage rnames right-text ∷ []) l ∙ first_refused_last (text_stage rnames right-text) ∙ r in
+      let same : texts_tests left_table right_table left-text right-text x ≡ search_tests ts (text_nodes lnames left-text) (text_nodes rnames right-text) x =
+      ap (λ (u : Tested). in_order (stages_of ts u (pair_of (text_nodes lnames left-text) (text_nodes rnames right-text)) lists (Ok tt))) q in
+      record {
+        answers = s.answers ∙ sym (ap (λ (t : Tested). verdict_after t (texts_answer left_table right_table left-text right-text x)) same);
+        leaves = s.leaves ∙ sym (ap (λ (t : Tested). lent_after t (texts_rows left_table right_table left-text right-text x) (texts_answer left_table right_table left-text right-text x) x) same);
+        equal_same = λ rows f. (texts_same left_table right_table left-text right-text l r (joint_sizes ts)).0 (s.equal_same rows f);
+        same_equal = λ f g. s.same_equal (sym same ∙ f) ((texts_same left_table right_table left-text right-text l r (joint_sizes ts)).1 g);
+        different_tells = λ sd n α f. (let t = s.different_tells sd n α f in record { long = t.long; tells = texts_tell_over left_table right_table left-text right-text l r sd α (take n y.trace) t.tells });
+        full_exactly = λ f. s.full_exactly (sym same ∙ f);
+        full_place = s.full_place;
+        full_same = λ r' d f. texts_short left_table right_table left-text right-text l r (joint_sizes ts) d (s.full_same r' d f);
+      }
 
-      go : (t : Tested) → text_tests ≡ t → TextsSearched left_table right_table left-text right-text x v y
-      go Passed q = searched q (ran.searched q)
-      go (Stopped r) q =
-          let p = ran.stopped r q in
-          subst (λ (z : SearchLists). TextsSearched left_table right_table left-text right-text x v z) (sym p.1)
-          (subst (λ (w : Verdict). TextsSearched left_table right_table left-text right-text x w x) (sym p.0)
-          (refused_by (order.texts_refused ts _ _ _ _ e q)))
+  -- the nodes as they were read
+  pub searched : (p q : TextNodes) → TextRead lnames left-text (Ok p) → TextRead rnames right-text (Ok q) → {L R : NodeLists} → L ≡ held_nodes p → R ≡ held_nodes q → {v : Verdict} {y : SearchLists} → Searched ts L R x v y → TextsSearched left_table right_table left-text right-text x v y
+  searched p q f g {L} l r {v} {y} s =
+      texts_passed f.0 g.0 (subst (λ (M : NodeLists). Searched ts M (text_nodes rnames right-text) x v y) (l ∙ f.2) (subst (λ (M : NodeLists). Searched ts L M x v y) (r ∙ g.2) s))
 
-  -- the names as each side may use them
-  pub words_passed : {ln' rn' : List (List ℕ)} → ln' ≡ lnames → rn' ≡ rnames → {v : Verdict} {y : SearchLists} → tables_stage ts ≡ Passed
-      → Ran (first_refused (text_stage ln' left-text ∷ text_stage rn' right-text ∷ [])) ts (text_nodes ln' left-text) (text_nodes rn' right-text) x v y
-      → TextsSearched left_table right_table left-text right-text x v y
-  words_passed {ln'} {rn'} p q {v} {y} e ran =
-      tables_passed e
-      (subst (λ (ns : List (List ℕ)). Ran (first_refused (text_stage lnames left-text ∷ text_stage ns right-text ∷ [])) ts (text_nodes lnames left-text) (text_nodes ns right-text) x v y) q
-      (subst (λ (ns : List (List ℕ)). Ran (first_refused (text_stage ns left-text ∷ text_stage rn' right-text ∷ [])) ts (text_nodes ns left-text) (text_nodes rn' right-text) x v y) p ran))
+  -- ---- what refuses the call
+
+  pub tables_refused : {r : Refusal} → tables_stage ts ≡ Err r → texts_tests left_table right_table left-text right-text x ≡ Err r
+  unfolding texts_tests
+  tables_refused e = order.tables_refused ts _ _ _ _ e
+
+  texts_refused : {r : Refusal} → tables_stage ts ≡ Ok tt → text_tests ≡ Err r → texts_tests left_table right_table left-text right-text x ≡ Err r
+  unfolding texts_tests
+  texts_refused e q = order.texts_refused ts _ _ _ _ e q
+
+  pub left_refused : {r : Refusal} → tables_stage ts ≡ Ok tt → text_stage lnames left-text ≡ Err r → texts_tests left_table right_table left-text right-text x ≡ Err r
+  left_refused {r} e f = texts_refused e (first_refused_refused (text_stage lnames left-text) (text_stage rnames right-text ∷ []) r f)
+
+  pub right_refused : {r : Refusal} → tables_stage ts ≡ Ok tt → text_stage lnames left-text ≡ Ok tt → text_stage rnames right-text ≡ Err r → texts_tests left_table right_table left-text right-text x ≡ Err r
+  right_refused e l f = texts_refused e (first_refused_next (text_stage lnames left-text) (text_stage rnames right-text ∷ []) l ∙ first_refused_last (text_stage rnames right-text) ∙ f)

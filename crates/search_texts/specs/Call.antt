@@ -1,9 +1,10 @@
 -- The search on two texts: a text policy is the nodes that the section Text gives it (document 01, "Causes, in the order tested"; document 02, A.6).
-use Rattle.std.specs.Prelude.{ℕ, List, [], ◌∷◌, ◌↔◌, ◌≡◌, length, take}
+use Rattle.std.specs.Prelude.{ℕ, ◌≤◌, List, [], ◌∷◌, ◌↔◌, ◌≡◌, length, take, Result}
 use Rattle.packet.specs.declared.Refusal.{Refusal}
-use Rattle.packet.specs.declared.Tested.{Tested}
-use Rattle.packet.specs.declared.Tested.TheVariants.{Passed, Refused as Stopped}
+use Rattle.packet.specs.Refusals.{Tested}
+use Rattle.std.specs.Prelude.{Ok, Err}
 use Rattle.packet.specs.Refusals.{first_refused}
+use Rattle.policy.specs.AsLists.{as_lists}
 use Rattle.policy.specs.Order.{in_order, stages_of, pair_of, pair_core}
 use Rattle.classes.specs.Classing.{Classing, TellsOver}
 use Rattle.classes.specs.Mentioned.{pair_classes}
@@ -18,9 +19,10 @@ use Rattle.lent_lists.specs.LentLists.{lists_stage}
 use Rattle.fields.specs.Tables.{Table, joint_sizes}
 use Rattle.grammar.specs.Answer.{text_tree, tested, text_names}
 use Rattle.verdict.specs.declared.Verdict.{Verdict}
-use Rattle.verdict.specs.declared.Verdict.TheVariants.{Equal, Full, Refused}
+use Rattle.verdict.specs.declared.Verdict.TheVariants.{Equal, Full}
 use Rattle.verdict.specs.Verdicts.{telling_verdict}
-use Rattle.search.specs.Call.{SearchLists, verdict_after, lent_after, answer_here, rows_here, full_here, Searched}
+use Rattle.search.specs.Call.{SearchLists, verdict_after, lent_after, answer_here, rows_here, full_here}
+use Rattle.search_texts.specs.declared.TextNodes.{TextNodes}
 
 -- the nodes of a text
 unfoldable pub text_nodes : List (List ℕ) → List ℕ → NodeLists
@@ -85,7 +87,7 @@ module _ (left_table right_table : Table) (left right : List ℕ) (x : SearchLis
   texts_tests =
       in_order
       (stages_of (text_tables left_table right_table) (first_refused (text_stage (left_names left_table right_table) left ∷ text_stage (right_names left_table right_table) right ∷ [])) (pair_of L R)
-      (lists_stage (length x.packets ∷ length x.lefts ∷ length x.rights ∷ length x.parents ∷ []) (length x.work)) Passed)
+      (lists_stage (length x.packets ∷ length x.lefts ∷ length x.rights ∷ length x.parents ∷ []) (length x.work)) (Ok tt))
 
   -- the theory's answer and rows, as for the search on the texts' nodes
   abbrev pub texts_answer : SearchAnswer
@@ -116,17 +118,32 @@ module _ (left_table right_table : Table) (left right : List ℕ) (x : SearchLis
     -- demand 2: equal only if both texts have the same traces from every packet
     pub equal_same : (rows : ℕ) → verdict ≡ Equal rows → SameTracesDeclared sizes (text_tree (left_names left_table right_table) left) (text_tree (right_names left_table right_table) right)
     -- and equal wherever they have, if the row order needs no more rows than were lent
-    pub same_equal : texts_tests ≡ Passed → SameTracesDeclared sizes (text_tree (left_names left_table right_table) left) (text_tree (right_names left_table right_table) right) → (NeedsMore (pair_system core (policies L R)) (length x.packets) → ⊥) → (rows : ℕ) × (verdict ≡ Equal rows)
+    pub same_equal : texts_tests ≡ Ok tt → SameTracesDeclared sizes (text_tree (left_names left_table right_table) left) (text_tree (right_names left_table right_table) right) → (NeedsMore (pair_system core (policies L R)) (length x.packets) → ⊥) → (rows : ℕ) × (verdict ≡ Equal rows)
     -- different only with a packet and trace that exactly one of them has, and no shorter trace tells the two apart from any packet
     pub different_tells : (s : Side) (n α : ℕ) → verdict ≡ telling_verdict s n α → TextsTelling s n α y.trace
     -- where no cause tested earlier holds, full comes exactly when the row order needs more rows than were lent
-    pub full_exactly : texts_tests ≡ Passed → (verdict ≡ texts_full) ↔ NeedsMore (pair_system core (policies L R)) (length x.packets)
+    pub full_exactly : texts_tests ≡ Ok tt → (verdict ≡ texts_full) ↔ NeedsMore (pair_system core (policies L R)) (length x.packets)
     -- and it names the rows lent, and the depth of the row being handled
     pub full_place : (r : Refusal) (d : ℕ) → verdict ≡ Full r d → Full r d ≡ texts_full
     -- document 02, A.3: both texts have the same traces of d packets or fewer from every packet
     pub full_same : (r : Refusal) (d : ℕ) → verdict ≡ Full r d → SameShortTracesDeclared sizes d (text_tree (left_names left_table right_table) left) (text_tree (right_names left_table right_table) right)
 
--- Inner: after these tests the search on node lists has run; where they refuse, nothing was done.
-pub record Ran (before : Tested) (ts : List Table) (L R : NodeLists) (x : SearchLists) (verdict : Verdict) (y : SearchLists) : Type 0 where
-  pub stopped : (r : Refusal) → before ≡ Stopped r → (verdict ≡ Refused r) × (y ≡ x)
-  pub searched : before ≡ Passed → Searched ts L R x verdict y
+-- ---- the texts as they are read
+
+-- the entries counted are there
+abbrev pub few_nodes : TextNodes → Type 0
+few_nodes q = (q.count ≤ length q.kind) × (q.count ≤ length q.first) × (q.count ≤ length q.second)
+
+-- the nodes held
+abbrev pub held_nodes : TextNodes → NodeLists
+held_nodes q = as_lists (take q.count q.kind) (take q.count q.first) (take q.count q.second)
+
+-- the nodes of a text over these names, or what refuses it
+abbrev pub TextRead : List (List ℕ) → List ℕ → Result TextNodes Refusal → Type 0
+TextRead names text (Ok q) = (text_stage names text ≡ Ok tt) × few_nodes q × (held_nodes q ≡ text_nodes names text)
+TextRead names text (Err r) = text_stage names text ≡ Err r
+
+-- the nodes of both texts, or what refuses the call whatever lists are lent
+abbrev pub TextsRead : Table → Table → List ℕ → List ℕ → Result (TextNodes × TextNodes) Refusal → Type 0
+TextsRead left_table right_table left right (Ok q) = TextRead (left_names left_table right_table) left (Ok q.0) × TextRead (right_names left_table right_table) right (Ok q.1)
+TextsRead left_table right_table left right (Err r) = (x : SearchLists) → texts_tests left_table right_table left right x ≡ Err r

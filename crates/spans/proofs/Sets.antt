@@ -1,23 +1,27 @@
 -- Sets in spans, slots and marks by their words. Assumes nothing.
-use Prim.Native.Nat.{ℕ, zero, suc, ◌+◌, ◌*◌, ◌/◌, ◌%◌, ◌≤◌, ◌<◌}
-use mathlib.Core.Bool.{Bool, true, false, not, ◌&&◌, ◌||◌, cond, and-false, or-false}
+use Prim.Native.Nat.{ℕ, zero, suc, ◌+◌, ◌-◌, ◌*◌, ◌/◌, ◌%◌, ◌^◌, ◌≤◌, ◌<◌}
+use mathlib.Core.Bool.{Bool, true, false, not, ◌&&◌, ◌||◌, cond, true≢false, and-false, or-false}
 use mathlib.Core.List.{List}
 use mathlib.Core.Logic.{◌⊎◌, inl, inr, ⊎_elim}
-use mathlib.Core.Path.{◌≡◌, refl, sym, ap, ap₂, ◌∙◌}
-use native.Mathlib.Decide.{dec_lt, ℕ_discrete}
+use mathlib.Core.Path.{◌≡◌, refl, sym, ap, ap₂, ◌∙◌, subst}
+use native.Mathlib.Decide.{dec_lt}
 use native.Mathlib.Omega.{arith}
 use borrow.Author.Tests.{eqb-true, eq-eqb, lt-ltb, le-ltb}
-use lib.Bits.{bit_or, bit_and, bit_xor, and_zero_l, or_zero_r}
-use lib.Dec.{eqb, ltb}
+use lib.Bits.{bit_or, bit_and, bit_xor, and_zero_l, and_le_l, or_zero_r}
+use lib.Dec.{eqb}
 use lib.ListN as L
 use lib.ListN.{length, get_or, replicate, length-replicate}
 use lib.Seq.{get_or-set_other, ext_get_or}
+use Rattle.std.specs.Bool.{MatchBool}
+use Rattle.std.specs.List.{range_with_len, AllWithin}
+use Rattle.std.proofs.lemmas.List.FromFn.{get_or-range_with_len, length-range_with_len}
+use Rattle.packet.proofs.Tests.{true_T}
 use Rattle.packet_set.specs.Bits.{bit}
 use Rattle.packet_set.specs.InnerMembers.{Members, member, empty_set, with_packet, without}
 use Rattle.packet_set.proofs.Digits.{bit_or_lem, bit_and_lem, bit_without, bit_of_zero}
-use Rattle.packet_set.proofs.Words.{length_with, member_with}
-use Rattle.spans.specs.Spans.{slot, Spanned, Rewritten, Hull, Holds, TellsMember, Left, Noted}
-use Rattle.spans.proofs.Rewriting.{Doing, none_done, one_done, all_done, Any, none_seen, one_seen, all_seen, all_zero}
+use Rattle.packet_set.proofs.Words.{length_with, member_with, member_in_word}
+use Rattle.spans.specs.Spans.{slot, Spanned, Rewritten, Hull, Holds, Left, Noted}
+use Rattle.spans.proofs.Rewriting.{Doing, none_done, one_done, all_done, Any, none_seen, one_seen, all_zero, and_complement}
 
 -- ---- a word is in the span or outside
 
@@ -124,22 +128,19 @@ module _ (from to : ℕ) (set : List ℕ) (s : Spanned from to set) (f : ℕ →
   pub words_start : Doing f set set from
   words_start = none_done f set from (λ j l. same_zero j (below_span from to set s j l))
 
-  pub words_seen : Any f 0 from
+  pub words_seen : Any f false from
   words_seen = none_seen f from (λ j l. zeros j (below_span from to set s j l))
 
   module _ (now : List ℕ) (i : ℕ) (l : to ≤ i) where
     pub words_end : Doing f set now i → Rewritten f set now
     words_end d = all_done f set now i d (λ j h. same_zero j (above_span from to set s j (omega arith)))
 
-    pub words_tell : (any : ℕ) → Any f any i → (X : Members) → ((γ : ℕ) → X γ ≡ bit (f (γ / 32)) (γ % 32)) → (r : Bool) → TellsMember r (λ b. ltb b 32 && bit any b) → TellsMember r X
-    words_tell any a = all_seen f any i a (λ j h. zeros j (above_span from to set s j (omega arith)))
-
     -- what is left, if the loop leaves f of the words
-    pub words_left : (any : ℕ) → Any f any i → Rewritten f set now → (r : Bool) → TellsMember r (λ b. ltb b 32 && bit any b) × (r ≡ false → any ≡ 0) → Left r now
+    pub words_left : (any : Bool) → Any f any i → Rewritten f set now → Left any now
     unfolding member
-    words_left any a w r t = record {
-      none = λ e. record { wide = w.long ∙ s.wide; within = omega arith; outside = λ j o. w.words j ∙ all_zero f any i a (λ k h. zeros k (above_span from to set s k (omega arith))) (t.1 e) j };
-      found = (words_tell any a (member now) (λ γ. ap (λ (x : ℕ). bit x (γ % 32)) (w.words (γ / 32))) r t.0).found;
+    words_left any a w = record {
+      none = λ e. record { wide = w.long ∙ s.wide; within = omega arith; outside = λ j o. w.words j ∙ all_zero f any i a (λ k h. zeros k (above_span from to set s k (omega arith))) e j };
+      found = λ e. let h = a.some e in (h.0 * 32 + h.1, true_T (member_in_word now h.0 h.1 h.2 ∙ ap (λ (x : ℕ). bit x h.1) (w.words h.0) ∙ h.3));
     }
 
   module _ (now : List ℕ) (r : Rewritten f set now) where
@@ -155,50 +156,44 @@ module _ (from to : ℕ) (set : List ℕ) (s : Spanned from to set) (f : ℕ →
 
 -- ---- the set has nothing that a slot has
 
--- so far, in the words below i
-pub record Apart (set tests : List ℕ) (k i : ℕ) : Type 0 where
-  pub words : (j : ℕ) → j < i → common_word set tests k j ≡ 0
+-- what an answer `false` says of all numbers of a range
+pub in_range : (P : ℕ → Type 0) (Q : Type 0) (from to : ℕ) (r : Bool) → MatchBool r Q (AllWithin P (range_with_len from (to - from)) 0 (length (range_with_len from (to - from)))) → r ≡ false → (i : ℕ) → from ≤ i → i < to → P i
+in_range P Q from to true h e i l k = absurd (true≢false e)
+in_range P Q from to false h f i l k =
+    let e : get_or (range_with_len from (to - from)) (i - from) 0 ≡ from + (i - from) = get_or-range_with_len from (to - from) (i - from) 0 (omega arith) in
+    let q : from + (i - from) ≡ i = omega arith in
+    subst P (e ∙ q) (h (i - from) 0 (omega arith) (omega (arith, length-range_with_len from (to - from))))
 
 module _ (from to : ℕ) (set tests : List ℕ) (k : ℕ) (s : Spanned from to set) where
-  pub apart_start : Apart set tests k from
-  apart_start = record { words = λ j l. common_zero set tests k j (below_span from to set s j l) }
-
-  module _ (i : ℕ) (a : Apart set tests k i) where
-    pub apart_turn : bit_and (get_or set i 0) (get_or tests (32 * k + i) 0) ≡ 0 → Apart set tests k (i + 1)
-    unfolding common_word
-    apart_turn e = record { words = λ j l. go j l (ℕ_discrete j i) }
-      where
-        go : (j : ℕ) → j < i + 1 → Dec (j ≡ i) → common_word set tests k j ≡ 0
-        go j l (yes h) = ap (common_word set tests k) h ∙ e
-        go j l (no h) = a.words j (omega arith)
-
-    pub apart_end : to ≤ i → (γ : ℕ) → (member set γ && slot tests k γ) ≡ false
-    apart_end l γ = common_members from to set s tests k γ ∙ ap (λ (x : ℕ). bit x (γ % 32)) (go (dec_lt (γ / 32) i)) ∙ bit_of_zero (γ % 32)
-      where
-        go : Dec (γ / 32 < i) → common_word set tests k (γ / 32) ≡ 0
-        go (yes h) = a.words (γ / 32) h
-        go (no h) = common_zero set tests k (γ / 32) (above_span from to set s (γ / 32) (omega arith))
+  pub apart : ((i : ℕ) → from ≤ i → i < to → bit_and (get_or set i 0) (get_or tests (32 * k + i) 0) ≡ 0) → (γ : ℕ) → (member set γ && slot tests k γ) ≡ false
+  unfolding common_word
+  apart words γ = common_members from to set s tests k γ ∙ ap (λ (x : ℕ). bit x (γ % 32)) (go (dec_lt (γ / 32) from) (dec_lt (γ / 32) to)) ∙ bit_of_zero (γ % 32)
+    where
+      go : Dec (γ / 32 < from) → Dec (γ / 32 < to) → bit_and (get_or set (γ / 32) 0) (get_or tests (32 * k + γ / 32) 0) ≡ 0
+      go (yes l) h = common_zero set tests k (γ / 32) (below_span from to set s (γ / 32) l)
+      go (no l) (yes h) = words (γ / 32) (omega arith) h
+      go (no l) (no h) = common_zero set tests k (γ / 32) (above_span from to set s (γ / 32) (omega arith))
 
 -- ---- the set keeps what a slot has
 
-pub record Keeping (set tests : List ℕ) (k : ℕ) (now : List ℕ) (any i : ℕ) : Type 0 where
+pub record Keeping (set tests : List ℕ) (k : ℕ) (now : List ℕ) (any : Bool) (i : ℕ) : Type 0 where
   pub words : Doing (common_word set tests k) set now i
   pub seen : Any (common_word set tests k) any i
 
 module _ (from to : ℕ) (set tests : List ℕ) (k : ℕ) (s : Spanned from to set) where
-  pub keeping_start : Keeping set tests k set 0 from
+  pub keeping_start : Keeping set tests k set false from
   keeping_start = record {
     words = words_start from to set s (common_word set tests k) (common_zero set tests k);
     seen = words_seen from to set s (common_word set tests k) (common_zero set tests k);
   }
 
-  module _ (now : List ℕ) (any i : ℕ) (w : Keeping set tests k now any i) where
-    pub keeping_turn : i < to
-        → Keeping set tests k (L.set now i (bit_and (get_or now i 0) (get_or tests (32 * k + i) 0))) (bit_or any (bit_and (get_or now i 0) (get_or tests (32 * k + i) 0))) (i + 1)
+  module _ (now : List ℕ) (any : Bool) (i : ℕ) (w : Keeping set tests k now any i) where
+    pub keeping_turn : i < to → get_or now i 0 < 2 ^ 32
+        → Keeping set tests k (L.set now i (bit_and (get_or now i 0) (get_or tests (32 * k + i) 0))) (any || not (eqb (bit_and (get_or now i 0) (get_or tests (32 * k + i) 0)) 0)) (i + 1)
     unfolding common_word
-    keeping_turn l = record {
+    keeping_turn l fits = record {
       words = one_done (common_word set tests k) set now i w.words word (i + 1) (omega (arith, s.within, s.wide)) is refl;
-      seen = one_seen (common_word set tests k) any i w.seen word is;
+      seen = one_seen (common_word set tests k) any i w.seen word is (omega (arith, and_le_l (get_or now i 0) (get_or tests (32 * k + i) 0)));
     }
       where
         word : ℕ
@@ -207,11 +202,11 @@ module _ (from to : ℕ) (set tests : List ℕ) (k : ℕ) (s : Spanned from to s
         is : bit_and (get_or now i 0) (get_or tests (32 * k + i) 0) ≡ common_word set tests k i
         is = ap (λ (x : ℕ). bit_and x (get_or tests (32 * k + i) 0)) (w.words.left i (omega arith))
 
-    pub keeping_end : to ≤ i → (r : Bool) → TellsMember r (λ b. ltb b 32 && bit any b) × (r ≡ false → any ≡ 0) → Holds from to now (λ γ. member set γ && slot tests k γ) × Left r now
-    keeping_end l r t =
+    pub keeping_end : to ≤ i → Holds from to now (λ γ. member set γ && slot tests k γ) × Left any now
+    keeping_end l =
         let w' = words_end from to set s (common_word set tests k) (common_zero set tests k) now i l w.words in (
           holds_now from to set s (common_word set tests k) (common_zero set tests k) now w' (λ γ. member set γ && slot tests k γ) (common_members from to set s tests k),
-          words_left from to set s (common_word set tests k) (common_zero set tests k) now i l any w.seen w' r t,
+          words_left from to set s (common_word set tests k) (common_zero set tests k) now i l any w.seen w',
         )
 
 -- ---- a set enters a slot
@@ -220,7 +215,7 @@ module _ (from to : ℕ) (set tests : List ℕ) (k : ℕ) (s : Spanned from to s
 unfoldable pub taken_word : List ℕ → ℕ → List ℕ → ℕ → ℕ
 taken_word work n set i = cond (eqb (i / 32) n) (bit_or (get_or work i 0) (get_or set (i % 32) 0)) (get_or work i 0)
 
-pub record Noting (work : List ℕ) (n : ℕ) (set work' set' : List ℕ) (any i : ℕ) : Type 0 where
+pub record Noting (work : List ℕ) (n : ℕ) (set work' set' : List ℕ) (any : Bool) (i : ℕ) : Type 0 where
   pub stored : Doing (taken_word work n set) work work' (32 * n + i)
   pub fresh : Doing (new_word set work n) set set' i
   pub seen : Any (new_word set work n) any i
@@ -242,24 +237,24 @@ module _ (work : List ℕ) (n : ℕ) (set : List ℕ) where
       ap₂ (λ (x y : ℕ). cond (eqb x n) (bit_or (get_or work (32 * m + i) 0) (get_or set y 0)) (get_or work (32 * m + i) 0)) q r
 
   module _ (from to : ℕ) (s : Spanned from to set) where
-    pub noting_start : Noting work n set work set 0 from
+    pub noting_start : Noting work n set work set false from
     noting_start = record {
       stored = none_done (taken_word work n set) work (32 * n + from) (λ j l. taken_same j (λ e. below_span from to set s (j % 32) (omega arith)));
       fresh = words_start from to set s (new_word set work n) (new_zero set work n);
       seen = words_seen from to set s (new_word set work n) (new_zero set work n);
     }
 
-    module _ (work' set' : List ℕ) (any i : ℕ) (w : Noting work n set work' set' any i) where
-      pub noting_turn : i < to → 32 * n + 32 ≤ length work
-          → Noting work n set (L.set work' (32 * n + i) (bit_or (get_or work' (32 * n + i) 0) (get_or set' i 0))) (L.set set' i (without (get_or set' i 0) (get_or work' (32 * n + i) 0)))
-          (bit_or any (without (get_or set' i 0) (get_or work' (32 * n + i) 0))) (i + 1)
+    module _ (work' set' : List ℕ) (any : Bool) (i : ℕ) (w : Noting work n set work' set' any i) where
+      pub noting_turn : i < to → 32 * n + 32 ≤ length work → get_or set' i 0 < 2 ^ 32 → get_or work' (32 * n + i) 0 < 2 ^ 32
+          → Noting work n set (L.set work' (32 * n + i) (bit_or (get_or work' (32 * n + i) 0) (get_or set' i 0))) (L.set set' i (bit_and (get_or set' i 0) (2 ^ 32 - 1 - get_or work' (32 * n + i) 0)))
+          (any || not (eqb (bit_and (get_or set' i 0) (2 ^ 32 - 1 - get_or work' (32 * n + i) 0)) 0)) (i + 1)
       unfolding new_word
-      noting_turn l room = record {
+      noting_turn l room sf wf = record {
         stored =
             one_done (taken_word work n set) work work' (32 * n + i) w.stored (bit_or (get_or work' (32 * n + i) 0) (get_or set' i 0)) (32 * n + (i + 1)) (omega (arith, s.within))
             (ap₂ bit_or old left ∙ sym (taken_here n i (omega (arith, s.within)) ∙ ap (λ (b : Bool). cond b (bit_or (get_or work (32 * n + i) 0) (get_or set i 0)) (get_or work (32 * n + i) 0)) (eq-eqb n n refl))) (omega arith);
-        fresh = one_done (new_word set work n) set set' i w.fresh (without (get_or set' i 0) (get_or work' (32 * n + i) 0)) (i + 1) (omega (arith, s.within, s.wide)) new refl;
-        seen = one_seen (new_word set work n) any i w.seen (without (get_or set' i 0) (get_or work' (32 * n + i) 0)) new;
+        fresh = one_done (new_word set work n) set set' i w.fresh v (i + 1) (omega (arith, s.within, s.wide)) new refl;
+        seen = one_seen (new_word set work n) any i w.seen v new (omega (arith, and_le_l (get_or set' i 0) (2 ^ 32 - 1 - get_or work' (32 * n + i) 0)));
       }
         where
           old : get_or work' (32 * n + i) 0 ≡ get_or work (32 * n + i) 0
@@ -268,17 +263,20 @@ module _ (work : List ℕ) (n : ℕ) (set : List ℕ) where
           left : get_or set' i 0 ≡ get_or set i 0
           left = w.fresh.left i (omega arith)
 
-          new : without (get_or set' i 0) (get_or work' (32 * n + i) 0) ≡ new_word set work n i
-          new = ap₂ (λ (x y : ℕ). without x y) left old
+          v : ℕ
+          v = bit_and (get_or set' i 0) (2 ^ 32 - 1 - get_or work' (32 * n + i) 0)
+
+          new : bit_and (get_or set' i 0) (2 ^ 32 - 1 - get_or work' (32 * n + i) 0) ≡ new_word set work n i
+          new = and_complement 32 _ _ sf wf ∙ ap₂ (λ (x y : ℕ). without x y) left old
 
       pub noting_end : to ≤ i → n < 512 → (seen seen' : List ℕ) → length seen ≡ 16 → seen' ≡ with_packet seen n
-          → (r : Bool) → TellsMember r (λ b. ltb b 32 && bit any b) × (r ≡ false → any ≡ 0) → Noted n from to work seen set r work' seen' set'
+          → Noted n from to work seen set any work' seen' set'
       unfolding member
-      noting_end l small seen seen' wide e r t = record {
+      noting_end l small seen seen' wide e = record {
         slots = λ m γ. slots m γ (dec_lt γ 1024);
         seen_nodes = λ m. ap (λ (x : List ℕ). member x m) e ∙ member_with seen n m (omega arith);
         new = holds_now from to set s (new_word set work n) (new_zero set work n) set' fresh (λ γ. member set γ && not (slot work n γ)) (new_members from to set s work n);
-        told = words_left from to set s (new_word set work n) (new_zero set work n) set' i l any w.seen fresh r t;
+        told = words_left from to set s (new_word set work n) (new_zero set work n) set' i l any w.seen fresh;
         beyond = λ j b. stored.words j ∙ taken_same j (λ q. absurd (omega arith));
         long = ap length e ∙ length_with seen n;
       }

@@ -1,25 +1,27 @@
 -- Slots become 0, one and all that were seen. Assumes nothing.
-use Prim.Native.Nat.{ℕ, ◌+◌, ◌*◌, ◌/◌, ◌%◌, ◌≤◌, ◌<◌}
+use Prim.Native.Nat.{ℕ, ◌+◌, ◌-◌, ◌*◌, ◌/◌, ◌%◌, ◌≤◌, ◌<◌}
 use mathlib.Core.Bool.{Bool, false, cond}
-use mathlib.Core.List.{List}
+use mathlib.Core.List.{List, ◌++◌}
 use mathlib.Core.Path.{◌≡◌, sym, ap, ap₂, ◌∙◌, subst}
 use native.Mathlib.Decide.{dec_lt, ℕ_discrete}
 use native.Mathlib.Omega.{arith}
 use borrow.Author.Tests.{eq-eqb, ne_eqb, lt-ltb, le-ltb}
 use lib.Dec.{T, ltb, lit<}
-use lib.ListN.{get_or}
+use lib.ListN.{length, get_or, take, drop, replicate, length-append, length-drop, length-replicate}
+use lib.Seq.{length-take-le}
+use borrow.Rule.Slice.PartMut.{put_mid}
+use Rattle.std.proofs.lemmas.List.{get_or_append_left, get_or-append_right, get_or-take, get_or-drop}
 use mir.Syntax.{w32}
 use mir.Val.{Fits}
 use Rattle.packet.proofs.Tests.{T_false}
 use Rattle.packet_set.specs.Bits.{bit}
-use Rattle.packet_set.specs.InnerMembers.{member, lowest_in, lowest_answer}
-use Rattle.packet_set.specs.declared.Lowest.{Lowest}
-use Rattle.packet_set.specs.declared.Lowest.TheVariants.{At, Nothing}
+use Rattle.std.specs.Prelude.{Option, Some, None}
+use Rattle.packet_set.specs.InnerMembers.{member, lowest_in}
 use Rattle.packet_set.proofs.Digits.{bits_same, bit_of_zero}
 use Rattle.packet_set.proofs.Walk.{LowestIn, found_at, found_none}
 use Rattle.spans.specs.Spans.{slot, Rewritten, cleared_word, Unseen}
 use Rattle.spans.proofs.Rewriting.{Doing, none_done, all_done}
-use Rattle.spans.proofs.Sets.{slot_word}
+use Rattle.spans.proofs.Sets.{slot_word, zero_word}
 
 -- ---- one slot
 
@@ -31,6 +33,35 @@ module _ (work : List ℕ) (n i : ℕ) where
   pub cleared_else : (i / 32 ≡ n → ⊥) → cleared_word work n i ≡ get_or work i 0
   unfolding cleared_word
   cleared_else h = ap (λ (b : Bool). cond b 0 (get_or work i 0)) (ne_eqb (i / 32) n h)
+
+-- the slot's 32 words are filled with 0
+pub cleared : (work zeros : List ℕ) (n : ℕ) → 32 * n + 32 ≤ length work → zeros ≡ replicate 32 0 → Rewritten (cleared_word work n) work (put_mid (32 * n) 32 work zeros)
+cleared work zeros n room e = record {
+  long = omega (arith, length-append (take (32 * n) work) (zeros ++ drop 32 (drop (32 * n) work)), length-append zeros (drop 32 (drop (32 * n) work)), length-drop 32 (drop (32 * n) work), length-drop (32 * n) work, before, filled);
+  words = λ j. word j (dec_lt j (32 * n)) (dec_lt j (32 * n + 32));
+}
+  where
+    before : length (take (32 * n) work) ≡ 32 * n
+    before = length-take-le (32 * n) work (omega arith)
+
+    filled : length zeros ≡ 32
+    filled = ap length e ∙ length-replicate {A = ℕ} 32 0
+
+    rest : (j : ℕ) → 32 * n ≤ j → get_or (put_mid (32 * n) 32 work zeros) j 0 ≡ get_or (zeros ++ drop 32 (drop (32 * n) work)) (j - 32 * n) 0
+    rest j l = get_or-append_right (take (32 * n) work) (zeros ++ drop 32 (drop (32 * n) work)) (32 * n) j 0 before l
+
+    word : (j : ℕ) → Dec (j < 32 * n) → Dec (j < 32 * n + 32) → get_or (put_mid (32 * n) 32 work zeros) j 0 ≡ cleared_word work n j
+    word j (yes l) h =
+        get_or_append_left (take (32 * n) work) (zeros ++ drop 32 (drop (32 * n) work)) 0 j (omega (arith, before)) ∙ get_or-take (32 * n) work j 0 l
+        ∙ sym (cleared_else work n j (λ q. omega arith))
+    word j (no l) (yes h) =
+        rest j (omega arith) ∙ get_or_append_left zeros (drop 32 (drop (32 * n) work)) 0 (j - 32 * n) (omega (arith, filled))
+        ∙ ap (λ (z : List ℕ). get_or z (j - 32 * n) 0) e ∙ zero_word 32 (j - 32 * n) ∙ cleared_here work n j (omega arith)
+    word j (no l) (no h) =
+        let q : 32 * n + (32 + (j - 32 * n - 32)) ≡ j = omega arith in
+        rest j (omega arith) ∙ get_or-append_right zeros (drop 32 (drop (32 * n) work)) 32 (j - 32 * n) 0 filled (omega arith)
+        ∙ get_or-drop 32 (drop (32 * n) work) (j - 32 * n - 32) 0 ∙ get_or-drop (32 * n) work (32 + (j - 32 * n - 32)) 0
+        ∙ ap (λ (x : ℕ). get_or work x 0) q ∙ sym (cleared_else work n j (λ q. omega arith))
 
 -- ---- all slots
 
@@ -69,11 +100,11 @@ module _ (work seen : List ℕ) (fits : (i : ℕ) → Fits w32 (get_or work i 0)
       go (yes l) = zeroed_here work i l ∙ sym (unseen_zero i l (h l))
       go (no l) = zeroed_else work i (omega arith)
 
-  module _ (now : List ℕ) (from : ℕ) (d : Doing (zeroed_word work) work now (32 * from)) (r : Lowest) (e : r ≡ lowest_answer (lowest_in 16 from seen)) where
-    pub unseeing_at : (n : ℕ) → r ≡ At n → LowestIn 16 from seen n
+  module _ (now : List ℕ) (from : ℕ) (d : Doing (zeroed_word work) work now (32 * from)) (r : Option ℕ) (e : r ≡ lowest_in 16 from seen) where
+    pub unseeing_at : (n : ℕ) → r ≡ Some n → LowestIn 16 from seen n
     unseeing_at n h = found_at 16 from seen r e n h
 
-    pub unseeing_turn : (n : ℕ) → r ≡ At n → (now' : List ℕ) → Rewritten (cleared_word now n) now now' → Doing (zeroed_word work) work now' (32 * (n + 1))
+    pub unseeing_turn : (n : ℕ) → r ≡ Some n → (now' : List ℕ) → Rewritten (cleared_word now n) now now' → Doing (zeroed_word work) work now' (32 * (n + 1))
     unseeing_turn n h now' w = record {
       long = w.long ∙ d.long;
       done = λ j l. w.words j ∙ word j l (ℕ_discrete (j / 32) n) (dec_lt j (32 * from));
@@ -85,7 +116,7 @@ module _ (work seen : List ℕ) (fits : (i : ℕ) → Fits w32 (get_or work i 0)
         word j l (no q) (yes b) = cleared_else now n j q ∙ d.done j b
         word j l (no q) (no b) = cleared_else now n j q ∙ d.left j (omega arith) ∙ sym (unseen_same j (λ k. (unseeing_at n h).first (j / 32) (omega arith) (omega arith)))
 
-    pub unseeing_end : r ≡ Nothing → Unseen work now
+    pub unseeing_end : r ≡ None → Unseen work now
     unseeing_end h =
         let w = all_done (zeroed_word work) work now (32 * from) d (λ j l. unseen_same j (λ k. found_none 16 from seen r e h (j / 32) (omega arith) (omega arith))) in
         record { clear = λ i l. w.words i ∙ zeroed_here work i l; beyond = λ i l. w.words i ∙ zeroed_else work i l }

@@ -45,11 +45,6 @@ pub record Holds (from to : ℕ) (set : List ℕ) (X : Members) : Type 0 where
   pub spanned : Spanned from to set
   pub members : (γ : ℕ) → member set γ ≡ X γ
 
--- an answer says whether there is a member: `false` says that there is none
-pub record TellsMember (some : Bool) (X : Members) : Type 0 where
-  pub none : some ≡ false → (γ : ℕ) → X γ ≡ false
-  pub found : some ≡ true → (γ : ℕ) × T (X γ)
-
 -- what is left of a set; `some` false: its words are 0
 pub record Left (some : Bool) (set : List ℕ) : Type 0 where
   pub none : some ≡ false → Spanned 0 0 set

@@ -3,7 +3,7 @@ use mathlib.Core.Path.{◌≡◌, refl, sym, ◌∙◌, subst, ap}
 use mathlib.Core.Bool.{Bool, true, false}
 use mathlib.Core.List.{List}
 use mathlib.Core.Logic.{◌⊎◌, inl, inr, ⊎_elim}
-use mathlib.Core.Option.{Option, none, some}
+use Rattle.std.specs.Prelude.{Option, None, Some}
 use Prim.Native.Nat.{ℕ, zero, suc, ◌≤◌, ◌<◌}
 use native.Mathlib.Nat.{not-suc-le-zero, le_of_suc-le-suc}
 use native.Mathlib.Omega.{arith}
@@ -42,12 +42,12 @@ module _ (S : System) where
   unfolding turn lowest_telling
   turned x = go (ltb x.handled (length x.rows)) refl
     where
-      row : x.handled < length x.rows → (o : Option ℕ) → Found (tells S (current S x)) S.packets o → Turned x (elim o [ some γ ↦ telling γ | none ↦ handling ])
-      row h none f = at_row h f
-      row h (some γ) l = at_telling h l
+      row : x.handled < length x.rows → (o : Option ℕ) → Found (tells S (current S x)) S.packets o → Turned x (elim o [ Some γ ↦ telling γ | None ↦ handling ])
+      row h None f = at_row h f
+      row h (Some γ) l = at_telling h l
 
       go : (b : Bool) → ltb x.handled (length x.rows) ≡ b
-          → Turned x (elim b [ true ↦ elim (lowest (tells S (current S x)) S.packets) [ some γ ↦ telling γ | none ↦ handling ] | false ↦ finished ])
+          → Turned x (elim b [ true ↦ elim (lowest (tells S (current S x)) S.packets) [ Some γ ↦ telling γ | None ↦ handling ] | false ↦ finished ])
       go true e = row (ltb-true x.handled (length x.rows) e) (lowest (tells S (current S x)) S.packets) (lowest_is (tells S (current S x)) S.packets)
       go false e = at_end (ltb-false x.handled (length x.rows) e)
 
@@ -84,7 +84,7 @@ module _ (S : System) where
 
   pub turn_telling : (x : Run S) (γ : ℕ) → x.handled < length x.rows → IsLowest (tells S (current S x)) S.packets γ → turn S x ≡ telling γ
   unfolding turn lowest_telling
-  turn_telling x γ h l = rw (lt-ltb x.handled (length x.rows) h, lowest_only (tells S (current S x)) S.packets (some γ) l, turn)
+  turn_telling x γ h l = rw (lt-ltb x.handled (length x.rows) h, lowest_only (tells S (current S x)) S.packets (Some γ) l, turn)
 
   pub turn_row : (x : Run S) → x.handled < length x.rows → ((γ : ℕ) → γ < S.packets → tells S (current S x) γ ≡ false) → turn S x ≡ handling
   unfolding turn lowest_telling

@@ -1,6 +1,6 @@
 -- The row order of document 01, "States and rows", over any deterministic system, and the search's answer as a function of the rows lent.
 use Rattle.std.specs.Prelude.{Bool, true, false, ◌&&◌, ◌||◌, List, [], ◌∷◌, ◌++◌, ℕ, zero, suc, ◌<◌, eqb, ltb, length, get_or, take}
-use Rattle.std.proofs.Math.Option.{Option, none, some}
+use Rattle.std.specs.Prelude.{Option, None, Some}
 use Rattle.packet.specs.Lowest.{lowest}
 use Rattle.system.specs.System.{System, Row, start_row, next_row, tells}
 
@@ -66,7 +66,7 @@ module _ (S : System) where
   unfoldable pub turn : Run S → Turn
   turn x =
       elim (ltb x.handled (length x.rows)) [
-        | true ↦ elim (lowest_telling (current x)) [ some γ ↦ telling γ | none ↦ handling ]
+        | true ↦ elim (lowest_telling (current x)) [ Some γ ↦ telling γ | None ↦ handling ]
         | false ↦ finished
       ]
 

@@ -1,15 +1,17 @@
 -- Writing entries one after the other, as far as there is room.
 use Prim.Native.Nat.{ℕ, zero, suc, pred, ◌+◌, ◌-◌, ◌≤◌, ◌<◌}
 use native.Mathlib.Nat.{add-zero, zero-add}
-use native.Mathlib.Numerals.{add-one, sub-one}
+use native.Mathlib.Numerals.{sub-one}
 use native.Mathlib.Omega.{arith}
-use mathlib.Core.Bool.{Bool, true, false}
+use mathlib.Core.Bool.{Bool, true, false, cond}
 use mathlib.Core.List.{List, [], ◌∷◌, ◌++◌}
-use mathlib.Core.Path.{◌≡◌, refl, sym, ◌∙◌, ap, ap₂}
+use mathlib.Core.Path.{◌≡◌, refl, sym, ◌∙◌, ap, ap₂, subst}
 use lib.Dec.{ltb}
-use lib.ListN.{length, set, drop, length-append, length-map}
+use lib.ListN.{length, set, drop, length-append, length-map, length-set}
 use lib.Seq.{sets, sets-eq}
 use borrow.Author.Tests.{lt-ltb, le-ltb, ltb-true}
+use Rattle.std.specs.Prelude.{Result, Ok, Err, OkIff}
+use Rattle.std.specs.Result.{result_unwrap_or}
 use Rattle.policy.specs.AsLists.{as_lists}
 use Rattle.policy.specs.Tree.{Policy, star}
 use Rattle.policy.specs.NodeLists.{NodeLists}
@@ -17,7 +19,8 @@ use Rattle.policy.specs.NodesOfTree.{NodeEntry, node_entry, tree_size, entries_f
 use Rattle.policy.proofs.Nodes.{entries_length}
 use Rattle.grammar.specs.Reading.{negated}
 use Rattle.packet.specs.Written.{written}
-use Rattle.text.specs.Inner.{put_at, put_entry, put_all, put_negations}
+use Rattle.text.specs.declared.Lists as Lent
+use Rattle.text.specs.Inner.{put_at, put_entry, put_all, put_negations, SameLists, HasRoom}
 
 pub put_append : (room n : ℕ) (xs ys : List NodeEntry) (L : NodeLists) → put_all room n (xs ++ ys) L ≡ put_all room (n + length xs) ys (put_all room n xs L)
 unfolding put_all
@@ -49,10 +52,9 @@ negated_size zero p = omega arith
 negated_size (suc k) p = omega (arith, negated_size k p)
 
 pub negations_more : (room n k : ℕ) (L : NodeLists) {L₁ L₂ : NodeLists} → L₁ ≡ put_negations room n k L → L₂ ≡ put_entry room (n + k) (node_entry 9 (n + k - 1) 0) L₁
-    → L₂ ≡ put_negations room n (k + 1) L
+    → L₂ ≡ put_negations room n (suc k) L
 unfolding put_negations
-negations_more room n k L e f =
-    f ∙ ap (put_entry room (n + k) (node_entry 9 (n + k - 1) 0)) e ∙ ap (λ (m : ℕ). put_negations room n m L) (sym (add-one k))
+negations_more room n k L e f = f ∙ ap (put_entry room (n + k) (node_entry 9 (n + k - 1) 0)) e
 
 pub put_negated : (room n m k : ℕ) (p : Policy) (L : NodeLists) → m ≡ n + tree_size p
     → put_negations room m k (put_all room n (entries_from n p) L) ≡ put_all room n (entries_from n (negated k p)) L
@@ -129,3 +131,41 @@ module _ (room n k a b : ℕ) (K F S : List ℕ) where
   pub put_no : room ≤ n → as_lists K F S ≡ put_entry room n (node_entry k a b) (as_lists K F S)
   unfolding put_entry put_at node_entry
   put_no h = rw (le-ltb n room h)
+
+-- the lists keep their lengths
+at_length : (room n v : ℕ) (xs : List ℕ) → length (put_at room n v xs) ≡ length xs
+unfolding put_at
+at_length room n v xs = go (ltb n room)
+  where
+    go : (t : Bool) → length (cond t (set xs n v) xs) ≡ length xs
+    go true = length-set xs n v
+    go false = refl
+
+pub room_entry : {room : ℕ} (n : ℕ) (e : NodeEntry) {L L' : NodeLists} → HasRoom room L → L' ≡ put_entry room n e L → HasRoom room L'
+unfolding put_entry
+room_entry {room} n e {L} h q =
+    subst (HasRoom room) (sym q)
+    (record {
+      kinds = omega (arith, h.kinds, at_length room n e.kind L.kind);
+      firsts = omega (arith, h.firsts, at_length room n e.first L.first);
+      seconds = omega (arith, h.seconds, at_length room n e.second L.second);
+    })
+
+room_puts : (room n : ℕ) (es : List NodeEntry) (L : NodeLists) → HasRoom room L → HasRoom room (put_all room n es L)
+unfolding put_all
+room_puts room n [] L h = h
+room_puts room n (e ∷ es) L h = room_puts room (suc n) es (put_entry room n e L) (room_entry n e h refl)
+
+pub room_all : {room : ℕ} (n : ℕ) (es : List NodeEntry) {L L' : NodeLists} → HasRoom room L → L' ≡ put_all room n es L → HasRoom room L'
+room_all {room} n es {L} h q = subst (HasRoom room) (sym q) (room_puts room n es L h)
+
+-- a number that fits 16 bits
+pub narrow : {E : Type 0} {n q : ℕ} (r : Result ℕ E) → OkIff r (n < 65536) n → q ≡ result_unwrap_or r 0 → n < 65536 → q ≡ n
+narrow (Ok x) o e l = e ∙ o.1
+narrow (Err d) o e l = absurd (o l)
+
+pub same_lists : {out : Lent.Lists} → SameLists out out
+same_lists = record { kind = refl; first = refl; second = refl }
+
+pub same_then : {a b c : Lent.Lists} → SameLists a b → SameLists b c → SameLists a c
+same_then h k = record { kind = k.kind ∙ h.kind; first = k.first ∙ h.first; second = k.second ∙ h.second }

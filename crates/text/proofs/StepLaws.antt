@@ -1,137 +1,196 @@
 -- What each way out of a reader shows.
-use Prim.Native.Nat.{ℕ, ◌+◌, ◌-◌, ◌<◌}
+use Prim.Native.Nat.{ℕ, ◌+◌, ◌-◌, ◌^◌, ◌≤◌, ◌<◌}
 use native.Mathlib.Omega.{arith}
-use mathlib.Core.Bool.{Bool, true, false, true≢false}
 use mathlib.Core.List.{List, [], ◌∷◌}
-use mathlib.Core.Option.{Option, none, some}
+use Rattle.std.specs.Prelude.{Option, Some, None}
 use mathlib.Core.Path.{◌≡◌, refl, sym, ◌∙◌, ap, ap₂, subst}
 use lib.ListN.{length}
 use Rattle.policy.specs.Tree.{Policy}
 use Rattle.policy.specs.Tree
 use Rattle.policy.specs.NodeLists.{NodeLists}
 use Rattle.policy.specs.NodesOfTree.{NodeEntry, node_entry, action_entry, tree_size, entries_from}
-use Rattle.grammar.specs.Tokens.{Placed, Constant, Comparison, dropped, passed, recorded, equals, differs, assigned, tokens_from}
-use Rattle.grammar.specs.InnerKinds.{front_kind, constant_kind, comparison_kind}
+use Rattle.policy.proofs.Postfix.{size_positive}
+use Rattle.grammar.specs.declared.Token.{Token}
+use Rattle.grammar.specs.declared.Token.TheVariants.{Keyword, Field, Number, Operator, Plus, Semicolon, Asterisk, Opening, Closing, Exclamation}
+use Rattle.grammar.specs.declared.Constant.{Constant}
+use Rattle.grammar.specs.declared.Constant.TheVariants.{Drop, Id, Dup}
+use Rattle.grammar.specs.declared.Comparison.{Comparison}
+use Rattle.grammar.specs.declared.Comparison.TheVariants.{Equal, Different, Assigned}
+use Rattle.grammar.specs.Tokens.{Placed, tokens_from}
+use Rattle.grammar.specs.InnerKinds.{front, front_place, constant_kind, comparison_kind}
 use Rattle.grammar.specs.Grammar.{constant_policy, field_action}
 use Rattle.grammar.specs.Reading.{Before, nothing, join_sequence, join_sum, up_to, whole, negated, State, wants, named, compared, has, negating, item_read, stop, read_on}
-use Rattle.tokens.specs.Inner.{TokenFrom}
-use Rattle.text.specs.Inner.{ReaderLevel, bare, item, starred, joined, sequence, added, sum, Entered, After, Past, put_entry, put_all, put_negations, more_negations, Scanned, GotLeaf, LeafDone, ClosingRead, NodeJoined, Negated, Got, Done}
-use Rattle.tokens.specs.declared.Token as Found
+use Rattle.tokens.specs.Inner.{FirstAt}
+use Rattle.text.specs.Inner.{ReaderLevel, bare, item, starred, joined, sequence, added, sum, Entered, After, Past, put_entry, put_all, put_negations, more_negations, HasRoom, ReaderReady, MarkAt, Stuck, Scanned, GotLeaf, Shut, Got, Stops, NodeJoined, Negated}
+use Rattle.tokens.specs.declared.Placed as Found
 use Rattle.text.specs.declared.NegationRun as Scan
 use Rattle.text.specs.declared.Step as Stepped
 use Rattle.text.specs.declared.Leaf as Leaves
-use Rattle.grammar.proofs.ReadLaws.{constant_at, comparison_at, constant_small, comparison_small, wants_stops, named_stops, compared_stops, at_constant, at_field, at_comparison, at_number, at_opening, at_exclamation, at_asterisk, at_semicolon, at_plus, at_closing, open_stops, collapse_sequence, collapse_sum}
-use Rattle.text.proofs.PutLaws.{put_star, negated_size, put_negated, put_join, joined_entries}
+use Rattle.grammar.proofs.ReadLaws.{wants_stops, named_stops, compared_stops, wants_ends, named_ends, compared_ends, at_keyword, at_field, at_operator, at_number, at_opening, at_exclamation, at_asterisk, at_semicolon, at_plus, at_closing, open_stops, collapse_sequence, collapse_sum}
+use Rattle.text.proofs.PutLaws.{put_star, negated_size, put_negated, put_join, joined_entries, room_all}
 
 constant_size : (c : Constant) → tree_size (constant_policy c) ≡ 1
 unfolding constant_policy tree_size
-constant_size dropped = refl
-constant_size passed = refl
-constant_size recorded = refl
+constant_size Drop = refl
+constant_size Id = refl
+constant_size Dup = refl
 
 constant_entries : (n : ℕ) (c : Constant) → entries_from n (constant_policy c) ≡ node_entry (constant_kind c) 0 0 ∷ []
 unfolding constant_policy entries_from constant_kind
-constant_entries n dropped = refl
-constant_entries n passed = refl
-constant_entries n recorded = refl
+constant_entries n Drop = refl
+constant_entries n Id = refl
+constant_entries n Dup = refl
 
 action_entries : (n : ℕ) (c : Comparison) (f v : ℕ) → entries_from n (Tree.field (field_action c f v)) ≡ node_entry (comparison_kind c) f v ∷ []
 unfolding entries_from field_action action_entry comparison_kind
-action_entries n equals f v = refl
-action_entries n differs f v = refl
-action_entries n assigned f v = refl
+action_entries n Equal f v = refl
+action_entries n Different f v = refl
+action_entries n Assigned f v = refl
 
-module _ (names : List (List ℕ)) (text : List ℕ) (room : ℕ) where
+-- where no token is left
+pub front_none : {ts : List Placed} {k : Token} → ts ≡ [] → front ts ≡ Some k → ⊥
+unfolding front
+front_none {k = k} e f = let y : None ≡ Some k = sym (ap front e) ∙ f in let z : ◌≡◌ {A = ℕ} 0 1 = cc in omega arith
+
+pub end_place : {ts : List Placed} {end place : ℕ} → (ts ≡ []) × (place ≡ end) → place ≡ front_place end ts
+unfolding front_place
+end_place {end = end} h = h.1 ∙ sym (ap (front_place end) h.0)
+
+module _ (names : List (List ℕ)) (text : List ℕ) where
   abbrev toks : ℕ → List Placed
   toks at = tokens_from names text at
 
   abbrev end : ℕ
   end = length text
 
-  -- the front token's kind, as the reader has it
-  pub kind_at : {at k : ℕ} {t : Found.Token} → TokenFrom names text at t → t.kind ≡ k → front_kind (toks at) ≡ k
-  kind_at t e = sym t.kind_is ∙ e
+  -- the tokens from a byte on, by the one that is first
+  pub token_at : {at : ℕ} {t : Found.Placed} {k : Token} → FirstAt names text at t → t.token ≡ k → toks at ≡ record { token = k; start = t.start } ∷ toks t.next
+  token_at {t = t} f e = f.tokens_are ∙ ap (λ (x : Token). record { token = x; start = t.start } ∷ toks t.next) e
 
-  pub kind_not : {at k : ℕ} {t : Found.Token} → TokenFrom names text at t → (t.kind ≡ k → ⊥) → front_kind (toks at) ≡ k → ⊥
-  kind_not t h e = h (t.kind_is ∙ e)
+  pub first_onward : {at : ℕ} {t : Found.Placed} → FirstAt names text at t → at < t.next
+  first_onward f = omega (arith, f.low, f.onward)
+
+  pub mark_first : {at : ℕ} {t : Found.Placed} {k : Token} → FirstAt names text at t → t.token ≡ k → MarkAt names text k at t.next
+  mark_first {t = t} f e = record { place = t.start; tokens_are = token_at f e; onward = first_onward f; within = f.within }
+
+  pub front_is : {at : ℕ} {t : Found.Placed} → FirstAt names text at t → front (toks at) ≡ Some t.token
+  unfolding front
+  front_is f = ap front f.tokens_are
+
+  pub place_is : {at : ℕ} {t : Found.Placed} → FirstAt names text at t → t.start ≡ front_place end (toks at)
+  unfolding front_place
+  place_is f = sym (ap (front_place end) f.tokens_are)
+
+  -- the first token is no other than it is, and none where there is no token
+  pub front_other : {at : ℕ} {t : Found.Placed} {k : Token} → FirstAt names text at t → (t.token ≡ k → ⊥) → front (toks at) ≡ Some k → ⊥
+  front_other {t = t} {k} f h e = h (let y : Some t.token ≡ Some k = sym (front_is f) ∙ e in cc)
+
+  pub not_ended : {at : ℕ} {t : Found.Placed} → FirstAt names text at t → front (toks at) ≡ None → ⊥
+  not_ended {t = t} f e = let y : Some t.token ≡ None = sym (front_is f) ∙ e in let z : ◌≡◌ {A = ℕ} 0 1 = cc in omega arith
 
   -- ---- an item that is one node
 
-  onward_of : {at k : ℕ} {t : Found.Token} → TokenFrom names text at t → t.kind ≡ k → (k ≡ 1 → ⊥) → at < t.next
-  onward_of {t = t} k e h = let l : t.start < t.next = k.onward (λ q. h (sym e ∙ q)) in omega (arith, k.low)
+  module _ {at : ℕ} {t : Found.Placed} (f : FirstAt names text at t) where
+    pub leaf_keyword : {c : Constant} {k : ℕ} → t.token ≡ Keyword c → k ≡ constant_kind c → GotLeaf names text at (record { at = t.next; kind = k; first = 0; second = 0 })
+    leaf_keyword {c} e q =
+        record {
+          policy = constant_policy c;
+          moves = λ b cs. at_keyword end b cs (token_at f e);
+          one = constant_size c;
+          entries = λ n. constant_entries n c ∙ ap (λ (x : ℕ). node_entry x 0 0 ∷ []) (sym q);
+          onward = first_onward f;
+          within = f.within;
+        }
 
-  pub leaf_constant : {at k : ℕ} {t : Found.Token} → TokenFrom names text at t → t.kind ≡ 2 → (t.value < 256 → k ≡ t.value)
-      → LeafDone names text at (record { ok = true; at = t.next; kind = k; first = 0; second = 0 })
-  leaf_constant {at} {k} {t} f e h =
-      let c = constant_at (toks at) (kind_at f e) in
-      let v : t.value ≡ constant_kind c.0 = f.value_is ∙ c.1 in
-      let q : k ≡ constant_kind c.0 = h (rw v (constant_small c.0)) ∙ v in
-      record {
-        got = λ _.
-            record {
-              policy = constant_policy c.0;
-              moves = λ b cs. at_constant end b cs (toks at) (kind_at f e) ∙ ap₂ (λ (x : Constant) (l : List Placed). read_on end (item_read b cs (constant_policy x)) l) c.2 (sym f.rest);
-              one = constant_size c.0;
-              entries = λ n. constant_entries n c.0 ∙ ap (λ (x : ℕ). node_entry x 0 0 ∷ []) (sym q);
-              onward = onward_of f e (λ z. omega arith);
-              within = f.within;
-            };
-        stopped = λ x. absurd (true≢false x);
-      }
+    pub leaf_none : ((c : Constant) → t.token ≡ Keyword c → ⊥) → ((n : ℕ) → t.token ≡ Field n → ⊥) → (t.token ≡ Opening → ⊥) → (t.token ≡ Exclamation → ⊥) → Stuck names text at t.start
+    leaf_none x y z w b cs = wants_stops end b cs f.tokens_are x y z w
 
-  leaf_stopped : {at place : ℕ} → ((b : Before) (cs : List Before) → read_on end (wants b cs) (toks at) ≡ stop place) → LeafDone names text at (record { ok = false; at = place; kind = 0; first = 0; second = 0 })
-  leaf_stopped h = record { got = λ x. absurd (true≢false (sym x)); stopped = λ _. h }
+    module _ {n : ℕ} (e : t.token ≡ Field n) where
+      past_name : (b : Before) (cs : List Before) → read_on end (wants b cs) (toks at) ≡ read_on end (named b cs n) (toks t.next)
+      past_name b cs = at_field end b cs (token_at f e)
 
-  pub leaf_none : {at : ℕ} {t : Found.Token} → TokenFrom names text at t → (t.kind ≡ 2 → ⊥) → (t.kind ≡ 3 → ⊥) → (front_kind (toks at) ≡ 9 → ⊥) → (front_kind (toks at) ≡ 11 → ⊥)
-      → LeafDone names text at (record { ok = false; at = t.start; kind = 0; first = 0; second = 0 })
-  leaf_none {at} f x y z w = leaf_stopped (λ b cs. wants_stops end b cs (toks at) (kind_not f x) (kind_not f y) z w ∙ ap stop (sym f.start_is))
+      pub name_ends : {place : ℕ} → (toks t.next ≡ []) × (place ≡ end) → Stuck names text at place
+      name_ends h b cs = past_name b cs ∙ named_ends end b cs n h.0 ∙ ap stop (sym h.1)
 
-  module _ {at : ℕ} {t : Found.Token} (f : TokenFrom names text at t) (e : t.kind ≡ 3) {c : Found.Token} (g : TokenFrom names text t.next c) where
-    past_name : (b : Before) (cs : List Before) → read_on end (wants b cs) (toks at) ≡ read_on end (named b cs t.value) (toks t.next)
-    past_name b cs = at_field end b cs (toks at) (kind_at f e) ∙ ap₂ (λ (x : ℕ) (l : List Placed). read_on end (named b cs x) l) (sym f.value_is) (sym f.rest)
+      module _ {o : Found.Placed} (g : FirstAt names text t.next o) where
+        pub name_stops : ((c : Comparison) → o.token ≡ Operator c → ⊥) → Stuck names text at o.start
+        name_stops x b cs = past_name b cs ∙ named_stops end b cs n g.tokens_are x
 
-    pub leaf_named : (c.kind ≡ 5 → ⊥) → LeafDone names text at (record { ok = false; at = c.start; kind = 0; first = 0; second = 0 })
-    leaf_named x = leaf_stopped (λ b cs. past_name b cs ∙ named_stops end b cs t.value (toks t.next) (kind_not g x) ∙ ap stop (sym g.start_is))
+        module _ {c : Comparison} (e' : o.token ≡ Operator c) where
+          past_operator : (b : Before) (cs : List Before) → read_on end (wants b cs) (toks at) ≡ read_on end (compared b cs n c) (toks o.next)
+          past_operator b cs = past_name b cs ∙ at_operator end b cs n (token_at g e')
 
-    module _ (e' : c.kind ≡ 5) {v : Found.Token} (w : TokenFrom names text c.next v) where
-      past_comparison : (b : Before) (cs : List Before) → read_on end (wants b cs) (toks at) ≡ read_on end (compared b cs t.value (comparison_at (toks t.next) (kind_at g e')).0) (toks c.next)
-      past_comparison b cs =
-          past_name b cs ∙ at_comparison end b cs t.value (toks t.next) (kind_at g e')
-          ∙ ap₂ (λ (x : Comparison) (l : List Placed). read_on end (compared b cs t.value x) l) (comparison_at (toks t.next) (kind_at g e')).2 (sym g.rest)
+          pub operator_ends : {place : ℕ} → (toks o.next ≡ []) × (place ≡ end) → Stuck names text at place
+          operator_ends h b cs = past_operator b cs ∙ compared_ends end b cs n c h.0 ∙ ap stop (sym h.1)
 
-      pub leaf_compared : (v.kind ≡ 4 → ⊥) → LeafDone names text at (record { ok = false; at = v.start; kind = 0; first = 0; second = 0 })
-      leaf_compared x =
-          leaf_stopped
-          (λ b cs. past_comparison b cs ∙ compared_stops end b cs t.value (comparison_at (toks t.next) (kind_at g e')).0 (toks c.next) (kind_not w x) ∙ ap stop (sym w.start_is))
+          module _ {v : Found.Placed} (w : FirstAt names text o.next v) where
+            pub operator_stops : ((m : ℕ) → v.token ≡ Number m → ⊥) → Stuck names text at v.start
+            operator_stops x b cs = past_operator b cs ∙ compared_stops end b cs n c w.tokens_are x
 
-      pub leaf_action : {k : ℕ} → v.kind ≡ 4 → (c.value < 256 → k ≡ c.value) → LeafDone names text at (record { ok = true; at = v.next; kind = k; first = t.value; second = v.value })
-      unfolding tree_size
-      leaf_action {k} x h =
-          let m = comparison_at (toks t.next) (kind_at g e') in
-          let y : c.value ≡ comparison_kind m.0 = g.value_is ∙ m.1 in
-          let q : k ≡ comparison_kind m.0 = h (rw y (comparison_small m.0)) ∙ y in
-          record {
-            got = λ _.
+            pub leaf_action : {m k : ℕ} → v.token ≡ Number m → k ≡ comparison_kind c → GotLeaf names text at (record { at = v.next; kind = k; first = n; second = m })
+            unfolding tree_size
+            leaf_action {m} {k} x q =
                 record {
-                  policy = Tree.field (field_action m.0 t.value v.value);
-                  moves = λ b cs.
-                      past_comparison b cs ∙ at_number end b cs t.value m.0 (toks c.next) (kind_at w x)
-                      ∙ ap₂ (λ (z : ℕ) (l : List Placed). read_on end (item_read b cs (Tree.field (field_action m.0 t.value z))) l) (sym w.value_is) (sym w.rest);
+                  policy = Tree.field (field_action c n m);
+                  moves = λ b cs. past_operator b cs ∙ at_number end b cs n c (token_at w x);
                   one = refl;
-                  entries = λ n. action_entries n m.0 t.value v.value ∙ ap (λ (z : ℕ). node_entry z t.value v.value ∷ []) (sym q);
-                  onward =
-                      let l₁ : at < t.next = onward_of f e (λ z. omega arith) in
-                      let l₂ : t.next < c.next = onward_of g e' (λ z. omega arith) in
-                      let l₃ : c.next < v.next = onward_of w x (λ z. omega arith) in
-                      omega arith;
+                  entries = λ i. action_entries i c n m ∙ ap (λ (z : ℕ). node_entry z n m ∷ []) (sym q);
+                  onward = omega (arith, first_onward f, first_onward g, first_onward w);
                   within = w.within;
-                };
-            stopped = λ z. absurd (true≢false z);
-          }
+                }
 
+  -- ---- a run of !
+
+  pub scanned_none : (at : ℕ) (b : Before) (cs : List Before) → read_on end (wants b cs) (toks at) ≡ read_on end (wants (more_negations 0 b) cs) (toks at)
+  unfolding more_negations
+  scanned_none at b cs = ap (λ (n : ℕ). read_on end (wants (record { summed = b.summed; sequenced = b.sequenced; negations = n }) cs) (toks at)) (omega arith)
+
+  pub scanned_more : (count : ℕ) {at : ℕ} {t : Found.Placed} → FirstAt names text at t → t.token ≡ Exclamation → (b : Before) (cs : List Before)
+      → read_on end (wants (more_negations count b) cs) (toks at) ≡ read_on end (wants (more_negations (count + 1) b) cs) (toks t.next)
+  unfolding more_negations negating
+  scanned_more count {t = t} f e b cs =
+      at_exclamation end (more_negations count b) cs (token_at f e)
+      ∙ ap (λ (n : ℕ). read_on end (wants (record { summed = b.summed; sequenced = b.sequenced; negations = n }) cs) (toks t.next)) (omega arith)
+
+  -- what stands after a run of ! is negated by each of them
+  read_negated : (n : ℕ) (b : Before) (cs : List Before) (p : Policy) → b.negations ≡ 0 → item_read (more_negations n b) cs p ≡ has b cs (negated n p)
+  unfolding item_read more_negations
+  read_negated n b cs p h =
+      ap₂ (λ (m k : ℕ). has (record { summed = b.summed; sequenced = b.sequenced; negations = m }) cs (negated k p)) (sym h) (omega arith)
+
+  -- so many ! stand between the bytes at and i, where the token t is
+  pub record Marked (at count : ℕ) (t : Found.Placed) : Type 0 where
+    pub place : ℕ
+    pub moves : (b : Before) (cs : List Before) → read_on end (wants b cs) (toks at) ≡ read_on end (wants (more_negations count b) cs) (toks place)
+    pub token_is : FirstAt names text place t
+    pub few : at + count ≤ place
+
+  pub marked_none : {at : ℕ} {t : Found.Placed} → FirstAt names text at t → Marked at 0 t
+  marked_none {at} f = record { place = at; moves = scanned_none at; token_is = f; few = omega arith }
+
+  module _ {at count : ℕ} {t : Found.Placed} (m : Marked at count t) where
+    pub marked_more : {u : Found.Placed} → t.token ≡ Exclamation → FirstAt names text t.next u → Marked at (count + 1) u
+    marked_more e g =
+        record {
+          place = t.next;
+          moves = λ b cs. m.moves b cs ∙ scanned_more count m.token_is e b cs;
+          token_is = g;
+          few = omega (arith, m.few, first_onward m.token_is);
+        }
+
+    pub marked_ends : {place : ℕ} → t.token ≡ Exclamation → (toks t.next ≡ []) × (place ≡ end) → Stuck names text at place
+    marked_ends e h b cs = m.moves b cs ∙ scanned_more count m.token_is e b cs ∙ wants_ends end (more_negations (count + 1) b) cs h.0 ∙ ap stop (sym h.1)
+
+    pub marked_over : (t.token ≡ Exclamation → ⊥) → Scanned names text at (record { count = count; token = t })
+    marked_over h = record { place = m.place; moves = m.moves; token_is = m.token_is; over = h; few = m.few }
+
+  pub none_ends : (at : ℕ) {place : ℕ} → (toks at ≡ []) × (place ≡ end) → Stuck names text at place
+  none_ends at h b cs = wants_ends end b cs h.0 ∙ ap stop (sym h.1)
+
+module _ (names : List (List ℕ)) (text : List ℕ) (room : ℕ) where
   pub leaf_item : {at nodes : ℕ} {L L' : NodeLists} {w : Leaves.Leaf} → GotLeaf names text at w
       → L' ≡ put_entry room nodes (node_entry w.kind w.first w.second) L
-      → Got bare names text at nodes room L (record { ok = true; at = w.at; nodes = nodes + 1 }) L'
+      → Got names text bare at nodes room L L' (record { at = w.at; nodes = nodes + 1 })
   unfolding Past After put_all
   leaf_item {nodes = n} {L = L} g l =
       record {
@@ -147,281 +206,213 @@ module _ (names : List (List ℕ)) (text : List ℕ) (room : ℕ) where
 
   -- ---- a sum in parentheses
 
-  pub opened : {at nodes : ℕ} {L L' : NodeLists} {t : Found.Token} {s r : Stepped.Step} → TokenFrom names text at t → t.kind ≡ 9 → Done sum names text t.next nodes room L s L' → ClosingRead names text s r
-      → Done bare names text at nodes room L r L'
-  unfolding Entered After Past
-  opened {at} {nodes} {L} {L'} {t} {s} {r} k e d c = go s.ok refl
-    where
-      inner : (b : Before) (cs : List Before) → read_on end (wants b cs) (toks at) ≡ read_on end (wants nothing (b ∷ cs)) (toks t.next)
-      inner b cs = at_opening end b cs (toks at) (kind_at k e) ∙ ap (read_on end (wants nothing (b ∷ cs))) (sym k.rest)
+  module _ {at : ℕ} {t : Found.Placed} (f : FirstAt names text at t) (e : t.token ≡ Opening) where
+    inner : (b : Before) (cs : List Before) → read_on (length text) (wants b cs) (tokens_from names text at) ≡ read_on (length text) (wants nothing (b ∷ cs)) (tokens_from names text t.next)
+    inner b cs = at_opening (length text) b cs (token_at names text f e)
 
-      low : at < t.next
-      low = let h : t.start < t.next = k.onward (λ q. omega (arith, e, q)) in omega (arith, k.low)
+    pub opened : {nodes : ℕ} {L L' : NodeLists} {s r : Stepped.Step} → Got names text sum t.next nodes room L L' s → Shut names text s r → Got names text bare at nodes room L L' r
+    unfolding Entered After Past
+    opened {s = s} g c =
+        record {
+          policy = g.policy;
+          moves = λ b h cs. inner b cs ∙ g.moves nothing refl (b ∷ cs) ∙ at_closing (length text) b cs g.policy c.mark.tokens_are;
+          past = tt;
+          nodes_is = c.nodes_is ∙ g.nodes_is;
+          lists_are = g.lists_are;
+          onward = omega (arith, first_onward names text f, g.onward, c.mark.onward);
+          within = c.mark.within;
+          few = omega (arith, first_onward names text f, g.few, c.mark.onward, c.nodes_is);
+        }
 
-      go : (o : Bool) → s.ok ≡ o → Done bare names text at nodes room L r L'
-      go false q =
-          record {
-            got = λ x. absurd (true≢false (sym x ∙ ap (λ (z : Stepped.Step). z.ok) (c.failed q) ∙ q));
-            stopped = λ x b h cs. inner b cs ∙ d.stopped q nothing refl (b ∷ cs) ∙ ap (λ (z : Stepped.Step). stop z.at) (sym (c.failed q));
-          }
-      go true q =
-          let g = d.got q in
-          record {
-            got = λ x.
-                let y = c.shut q x in
-                record {
-                  policy = g.policy;
-                  moves = λ b h cs. inner b cs ∙ g.moves nothing refl (b ∷ cs) ∙ at_closing end b cs g.policy (toks s.at) y.0 ∙ ap (read_on end (item_read b cs g.policy)) (sym y.1);
-                  past = tt;
-                  nodes_is = y.4 ∙ g.nodes_is;
-                  lists_are = g.lists_are;
-                  onward = omega (arith, low, g.onward, y.2);
-                  within = y.3;
-                  few = omega (arith, low, g.few, y.2, y.4);
-                };
-            stopped = λ x b h cs.
-                let y = c.unshut q x in
-                inner b cs ∙ g.moves nothing refl (b ∷ cs)
-                ∙ open_stops end nothing b cs g.policy (toks s.at) y.0 g.past.0 g.past.1 g.past.2
-                ∙ ap stop (sym y.1);
-          }
+    pub opened_stops : {place : ℕ} → Stops names text sum t.next place → Stuck names text at place
+    unfolding Entered
+    opened_stops d b cs = inner b cs ∙ d nothing refl (b ∷ cs)
 
-  -- ---- a run of !
+    pub unclosed : {nodes place : ℕ} {L L' : NodeLists} {s : Stepped.Step} → Got names text sum t.next nodes room L L' s
+        → (front (tokens_from names text s.at) ≡ Some Closing → ⊥) × (place ≡ front_place (length text) (tokens_from names text s.at)) → Stuck names text at place
+    unfolding Entered After Past
+    unclosed {s = s} g h b cs =
+        inner b cs ∙ g.moves nothing refl (b ∷ cs)
+        ∙ open_stops (length text) nothing b cs g.policy (tokens_from names text s.at) h.0 g.past.0 g.past.1 g.past.2
+        ∙ ap stop (sym h.1)
 
-  pub scanned_none : (at : ℕ) (b : Before) (cs : List Before) → read_on end (wants b cs) (toks at) ≡ read_on end (wants (more_negations 0 b) cs) (toks at)
-  unfolding more_negations
-  scanned_none at b cs = ap (λ (n : ℕ). read_on end (wants (record { summed = b.summed; sequenced = b.sequenced; negations = n }) cs) (toks at)) (omega arith)
+  -- ---- an item with its !
 
-  pub scanned_more : (count : ℕ) {at : ℕ} {t : Found.Token} → TokenFrom names text at t → t.kind ≡ 11 → (b : Before) (cs : List Before)
-      → read_on end (wants (more_negations count b) cs) (toks at) ≡ read_on end (wants (more_negations (count + 1) b) cs) (toks t.next)
-  unfolding more_negations negating
-  scanned_more count {at} f e b cs =
-      at_exclamation end (more_negations count b) cs (toks at) (kind_at f e)
-      ∙ ap₂ (λ (n : ℕ) (l : List Placed). read_on end (wants (record { summed = b.summed; sequenced = b.sequenced; negations = n }) cs) l) (omega arith) (sym f.rest)
+  module _ {at : ℕ} {x : Scan.NegationRun} (s : Scanned names text at x) where
+    pub item_turn : {nodes : ℕ} {L L₁ L₂ : NodeLists} {r r' : Stepped.Step} → Got names text bare s.place nodes room L L₁ r → Negated x.count room r L₁ r' L₂
+        → Got names text item at nodes room L L₂ r'
+    unfolding Entered After Past
+    item_turn {nodes} {L} {L₂ = L₂} {r = r} g n =
+        subst (Got names text item at nodes room L L₂) (sym n.step_is)
+        (record {
+          policy = negated x.count g.policy;
+          moves = λ b h cs.
+              s.moves b cs ∙ g.moves (more_negations x.count b) tt cs
+              ∙ ap (λ (z : State). read_on (length text) z (tokens_from names text r.at)) (read_negated names text x.count b cs g.policy h);
+          past = tt;
+          nodes_is = omega (arith, g.nodes_is, negated_size x.count g.policy);
+          lists_are = n.lists_are ∙ ap (put_negations room r.nodes x.count) g.lists_are ∙ put_negated room nodes r.nodes x.count g.policy L g.nodes_is;
+          onward = omega (arith, s.few, g.onward);
+          within = g.within;
+          few = omega (arith, s.few, g.few);
+        })
 
-  -- what stands after a run of ! is negated by each of them
-  read_negated : (n : ℕ) (b : Before) (cs : List Before) (p : Policy) → b.negations ≡ 0 → item_read (more_negations n b) cs p ≡ has b cs (negated n p)
-  unfolding item_read more_negations
-  read_negated n b cs p h =
-      ap₂ (λ (m k : ℕ). has (record { summed = b.summed; sequenced = b.sequenced; negations = m }) cs (negated k p)) (sym h) (omega arith)
+    pub item_stops : {place : ℕ} → Stuck names text s.place place → Stops names text item at place
+    item_stops d b h cs = s.moves b cs ∙ d (more_negations x.count b) cs
 
-  item_turn : {at nodes : ℕ} {L L₁ L₂ : NodeLists} {x : Scan.NegationRun} {r : Stepped.Step} → Scanned names text at x → Got bare names text x.at nodes room L r L₁
-      → L₂ ≡ put_negations room r.nodes x.count L₁ → Got item names text at nodes room L (record { ok = true; at = r.at; nodes = r.nodes + x.count }) L₂
-  unfolding Entered After Past
-  item_turn {nodes = nodes} {L = L} {x = x} {r = r} s g l =
-      record {
-        policy = negated x.count g.policy;
-        moves = λ b h cs.
-            s.moves b cs ∙ g.moves (more_negations x.count b) tt cs
-            ∙ ap (λ (z : State). read_on end z (toks r.at)) (read_negated x.count b cs g.policy h);
-        past = tt;
-        nodes_is = omega (arith, g.nodes_is, negated_size x.count g.policy);
-        lists_are = l ∙ ap (put_negations room r.nodes x.count) g.lists_are ∙ put_negated room nodes r.nodes x.count g.policy L g.nodes_is;
-        onward = omega (arith, s.few, g.onward);
-        within = g.within;
-        few = omega (arith, s.few, g.few);
-      }
+    -- what the sum after a parenthesis asks
+    pub ready_open : {nodes : ℕ} {L : NodeLists} → ReaderReady text at nodes room L → ReaderReady text x.token.next nodes room L
+    ready_open r =
+        record { within = s.token_is.within; few = omega (arith, r.few, s.few, first_onward names text s.token_is); fits = r.fits }
+
+    -- what negating asks
+    pub negate_ready : {nodes : ℕ} {L L₁ : NodeLists} {r : Stepped.Step} → length text < 2 ^ 63 → ReaderReady text at nodes room L → Got names text bare s.place nodes room L L₁ r
+        → HasRoom room L₁ × (0 < r.nodes) × (r.nodes + x.count < 2 ^ 63)
+    negate_ready big y g = (
+      room_all _ _ y.fits g.lists_are,
+      omega (arith, g.nodes_is, size_positive g.policy),
+      omega (arith, g.few, g.within, s.few, y.few),
+    )
+
+  module _ {l : ReaderLevel} {at nodes : ℕ} {L L₁ : NodeLists} {s : Stepped.Step} (g : Got names text l at nodes room L L₁ s) where
+    pub nodes_pos : 0 < s.nodes
+    nodes_pos = omega (arith, g.nodes_is, size_positive g.policy)
+
+    -- what a reader asks after a mark
+    pub ready_next : {k : Token} {next : ℕ} → ReaderReady text at nodes room L → MarkAt names text k s.at next → ReaderReady text next s.nodes room L₁
+    ready_next r m = record { within = m.within; few = omega (arith, r.few, g.few, m.onward); fits = room_all _ _ r.fits g.lists_are }
+
+    -- what joining asks
+    pub join_ready : {m : ReaderLevel} {k : Token} {next : ℕ} {L₂ : NodeLists} {r : Stepped.Step} → length text < 2 ^ 63 → ReaderReady text at nodes room L → MarkAt names text k s.at next
+        → Got names text m next s.nodes room L₁ L₂ r → HasRoom room L₂ × (s.nodes - 1 < r.nodes) × (r.nodes < 2 ^ 63)
+    join_ready big y m h = (
+      room_all _ _ (room_all _ _ y.fits g.lists_are) h.lists_are,
+      omega (arith, nodes_pos, h.nodes_is),
+      omega (arith, h.few, h.within, m.onward, g.few, y.few),
+    )
 
   -- ---- one more *
 
-  pub star_turn : {at nodes : ℕ} {L L₁ L₂ : NodeLists} {s : Stepped.Step} {t : Found.Token} → Got item names text at nodes room L s L₁ → TokenFrom names text s.at t → t.kind ≡ 8
+  pub star_turn : {at nodes next : ℕ} {L L₁ L₂ : NodeLists} {s : Stepped.Step} → Got names text item at nodes room L L₁ s → MarkAt names text Asterisk s.at next
       → L₂ ≡ put_entry room s.nodes (node_entry 8 (s.nodes - 1) 0) L₁
-      → Got item names text at nodes room L (record { ok = true; at = t.next; nodes = s.nodes + 1 }) L₂
+      → Got names text item at nodes room L L₂ (record { at = next; nodes = s.nodes + 1 })
   unfolding Past After tree_size
-  star_turn {at} {nodes} {L} {s = s} {t = t} g k e l =
-      let h : t.start < t.next = k.onward (λ q. omega (arith, e, q)) in
+  star_turn {nodes = nodes} {L = L} {s = s} g m l =
       record {
         policy = Tree.star g.policy;
-        moves = λ b h cs. g.moves b h cs ∙ at_asterisk end b cs g.policy (toks s.at) (kind_at k e) ∙ ap (read_on end (has b cs (Tree.star g.policy))) (sym k.rest);
+        moves = λ b h cs. g.moves b h cs ∙ at_asterisk (length text) b cs g.policy m.tokens_are;
         past = tt;
         nodes_is = omega (arith, g.nodes_is);
         lists_are = l ∙ ap (put_entry room s.nodes (node_entry 8 (s.nodes - 1) 0)) g.lists_are ∙ put_star room nodes s.nodes g.policy L g.nodes_is;
-        onward = omega (arith, g.onward, k.low);
-        within = k.within;
-        few = omega (arith, g.few, k.low);
+        onward = omega (arith, g.onward, m.onward);
+        within = m.within;
+        few = omega (arith, g.few, m.onward);
       }
 
-  pub star_ends : {at nodes : ℕ} {L L₁ : NodeLists} {s : Stepped.Step} → Got item names text at nodes room L s L₁ → (front_kind (toks s.at) ≡ 8 → ⊥) → Got starred names text at nodes room L s L₁
+  pub star_ends : {at nodes : ℕ} {L L₁ : NodeLists} {s : Stepped.Step} → Got names text item at nodes room L L₁ s → (front (tokens_from names text s.at) ≡ Some Asterisk → ⊥) → Got names text starred at nodes room L L₁ s
   unfolding Past Entered After
   star_ends g h =
       record { policy = g.policy; moves = g.moves; past = h; nodes_is = g.nodes_is; lists_are = g.lists_are; onward = g.onward; within = g.within; few = g.few }
 
+  pub star_stops : (at : ℕ) {place : ℕ} → Stops names text item at place → Stops names text starred at place
+  unfolding Entered
+  star_stops at d = d
+
   -- ---- one more starred item
 
-  pub sequence_starts : {at nodes : ℕ} {L L₁ : NodeLists} {s : Stepped.Step} → Got starred names text at nodes room L s L₁ → Got joined names text at nodes room L s L₁
+  pub sequence_starts : {at nodes : ℕ} {L L₁ : NodeLists} {s : Stepped.Step} → Got names text starred at nodes room L L₁ s → Got names text joined at nodes room L L₁ s
   unfolding Past Entered After
   sequence_starts g =
       record { policy = g.policy; moves = λ b h cs. g.moves b h.1 cs; past = g.past; nodes_is = g.nodes_is; lists_are = g.lists_are; onward = g.onward; within = g.within; few = g.few }
 
-  pub sequence_ends : {at nodes : ℕ} {L L₁ : NodeLists} {s : Stepped.Step} → Got joined names text at nodes room L s L₁ → (front_kind (toks s.at) ≡ 7 → ⊥) → Got sequence names text at nodes room L s L₁
+  pub sequence_stops : (at : ℕ) {place : ℕ} → Stops names text starred at place → Stops names text sequence at place
+  unfolding Entered
+  sequence_stops at d b h cs = d b h.1 cs
+
+  pub sequence_ends : {at nodes : ℕ} {L L₁ : NodeLists} {s : Stepped.Step} → Got names text joined at nodes room L L₁ s → (front (tokens_from names text s.at) ≡ Some Semicolon → ⊥) → Got names text sequence at nodes room L L₁ s
   unfolding Past Entered After
   sequence_ends g h =
       record { policy = g.policy; moves = g.moves; past = (g.past, h); nodes_is = g.nodes_is; lists_are = g.lists_are; onward = g.onward; within = g.within; few = g.few }
 
-  -- up to the ; and past it
-  past_semicolon : {at nodes : ℕ} {L L₁ : NodeLists} {s : Stepped.Step} {t : Found.Token} (g : Got joined names text at nodes room L s L₁) → TokenFrom names text s.at t → t.kind ≡ 7 → (m : Option Policy) (cs : List Before)
-      → read_on end (wants (record { summed = m; sequenced = none; negations = 0 }) cs) (toks at) ≡ read_on end (wants (record { summed = m; sequenced = some g.policy; negations = 0 }) cs) (toks t.next)
-  unfolding Entered After up_to join_sequence
-  past_semicolon {s = s} g k e m cs =
-      g.moves (record { summed = m; sequenced = none; negations = 0 }) (refl, refl) cs ∙ at_semicolon end (record { summed = m; sequenced = none; negations = 0 }) cs g.policy (toks s.at) (kind_at k e)
-      ∙ ap (read_on end (wants (record { summed = m; sequenced = some g.policy; negations = 0 }) cs)) (sym k.rest)
-
   -- what holds where nothing is sequenced before holds as the level asks
-  as_joined : (P : Before → Type 0) → ((m : Option Policy) → P (record { summed = m; sequenced = none; negations = 0 })) → (b : Before) → (b.sequenced ≡ none) × (b.negations ≡ 0) → P b
+  as_joined : (P : Before → Type 0) → ((m : Option Policy) → P (record { summed = m; sequenced = None; negations = 0 })) → (b : Before) → (b.sequenced ≡ None) × (b.negations ≡ 0) → P b
   as_joined P f b h = subst P (λ i. record { summed = b.summed; sequenced = sym h.0 i; negations = sym h.1 i }) (f b.summed)
 
-  pub sequence_turn : {at nodes : ℕ} {L L₁ L₂ L₃ : NodeLists} {s r : Stepped.Step} {t : Found.Token} → Got joined names text at nodes room L s L₁ → TokenFrom names text s.at t → t.kind ≡ 7
-      → Got starred names text t.next s.nodes room L₁ r L₂ → L₃ ≡ put_entry room r.nodes (node_entry 7 (s.nodes - 1) (r.nodes - 1)) L₂
-      → Got joined names text at nodes room L (record { ok = true; at = r.at; nodes = r.nodes + 1 }) L₃
-  unfolding Past Entered After tree_size entries_from joined_entries
-  sequence_turn {at} {nodes} {L} {L₁} {L₂} {s = s} {r = r} {t = t} g k e y l =
-      let h : t.start < t.next = k.onward (λ q. omega (arith, e, q)) in
-      record {
-        policy = Tree.seq g.policy y.policy;
-        moves = λ b h cs.
-            as_joined (λ x. read_on end (wants x cs) (toks at) ≡ read_on end (has x cs (Tree.seq g.policy y.policy)) (toks r.at))
-            (λ m. past_semicolon g k e m cs ∙ y.moves (record { summed = m; sequenced = some g.policy; negations = 0 }) refl cs ∙ collapse_sequence end m cs g.policy y.policy (toks r.at) y.past) b h;
-        past = y.past;
-        nodes_is = omega (arith, g.nodes_is, y.nodes_is);
-        lists_are = l ∙ ap (put_entry room r.nodes (node_entry 7 (s.nodes - 1) (r.nodes - 1))) (y.lists_are ∙ ap (put_all room s.nodes (entries_from s.nodes y.policy)) g.lists_are) ∙ put_join 7 room nodes s.nodes r.nodes g.policy y.policy L g.nodes_is y.nodes_is;
-        onward = omega (arith, g.onward, k.low, y.onward);
-        within = y.within;
-        few = omega (arith, g.few, y.few, k.low, y.onward, y.nodes_is);
-      }
+  module _ {at nodes next : ℕ} {L L₁ : NodeLists} {s : Stepped.Step} (g : Got names text joined at nodes room L L₁ s) (k : MarkAt names text Semicolon s.at next) where
+    -- up to the ; and past it
+    past_semicolon : (m : Option Policy) (cs : List Before)
+        → read_on (length text) (wants (record { summed = m; sequenced = None; negations = 0 }) cs) (tokens_from names text at) ≡ read_on (length text) (wants (record { summed = m; sequenced = Some g.policy; negations = 0 }) cs) (tokens_from names text next)
+    unfolding Entered After up_to join_sequence
+    past_semicolon m cs =
+        g.moves (record { summed = m; sequenced = None; negations = 0 }) (refl, refl) cs ∙ at_semicolon (length text) (record { summed = m; sequenced = None; negations = 0 }) cs g.policy k.tokens_are
+
+    pub sequence_turn : {L₂ L₃ : NodeLists} {r r' : Stepped.Step} → Got names text starred next s.nodes room L₁ L₂ r → NodeJoined 7 (s.nodes - 1) room r L₂ r' L₃
+        → Got names text joined at nodes room L L₃ r'
+    unfolding Past Entered After tree_size entries_from joined_entries
+    sequence_turn {L₃ = L₃} {r = r} y j =
+        subst (Got names text joined at nodes room L L₃) (sym j.step_is)
+        (record {
+          policy = Tree.seq g.policy y.policy;
+          moves = λ b h cs.
+              as_joined (λ x. read_on (length text) (wants x cs) (tokens_from names text at) ≡ read_on (length text) (has x cs (Tree.seq g.policy y.policy)) (tokens_from names text r.at))
+              (λ m. past_semicolon m cs ∙ y.moves (record { summed = m; sequenced = Some g.policy; negations = 0 }) refl cs ∙ collapse_sequence (length text) m cs g.policy y.policy (tokens_from names text r.at) y.past) b h;
+          past = y.past;
+          nodes_is = omega (arith, g.nodes_is, y.nodes_is);
+          lists_are = j.lists_are ∙ ap (put_entry room r.nodes (node_entry 7 (s.nodes - 1) (r.nodes - 1))) (y.lists_are ∙ ap (put_all room s.nodes (entries_from s.nodes y.policy)) g.lists_are) ∙ put_join 7 room nodes s.nodes r.nodes g.policy y.policy L g.nodes_is y.nodes_is;
+          onward = omega (arith, g.onward, k.onward, y.onward);
+          within = y.within;
+          few = omega (arith, g.few, y.few, k.onward, y.onward, y.nodes_is);
+        })
+
+    pub sequence_broken : {place : ℕ} → Stops names text starred next place → Stops names text sequence at place
+    unfolding Entered
+    sequence_broken {place} d b h cs =
+        as_joined (λ x. read_on (length text) (wants x cs) (tokens_from names text at) ≡ stop place)
+        (λ m. past_semicolon m cs ∙ d (record { summed = m; sequenced = Some g.policy; negations = 0 }) refl cs) b h
 
   -- ---- one more sequence
 
-  pub sum_starts : {at nodes : ℕ} {L L₁ : NodeLists} {s : Stepped.Step} → Got sequence names text at nodes room L s L₁ → Got added names text at nodes room L s L₁
+  pub sum_starts : {at nodes : ℕ} {L L₁ : NodeLists} {s : Stepped.Step} → Got names text sequence at nodes room L L₁ s → Got names text added at nodes room L L₁ s
   unfolding Past Entered After nothing
   sum_starts g =
       record { policy = g.policy; moves = λ b h cs. g.moves b (ap (λ (x : Before). x.sequenced) h, ap (λ (x : Before). x.negations) h) cs; past = g.past; nodes_is = g.nodes_is; lists_are = g.lists_are; onward = g.onward; within = g.within; few = g.few }
 
-  pub sum_ends : {at nodes : ℕ} {L L₁ : NodeLists} {s : Stepped.Step} → Got added names text at nodes room L s L₁ → (front_kind (toks s.at) ≡ 6 → ⊥) → Got sum names text at nodes room L s L₁
+  pub sum_stops : (at : ℕ) {place : ℕ} → Stops names text sequence at place → Stops names text sum at place
+  unfolding Entered nothing
+  sum_stops at d b h cs = d b (ap (λ (x : Before). x.sequenced) h, ap (λ (x : Before). x.negations) h) cs
+
+  pub sum_ends : {at nodes : ℕ} {L L₁ : NodeLists} {s : Stepped.Step} → Got names text added at nodes room L L₁ s → (front (tokens_from names text s.at) ≡ Some Plus → ⊥) → Got names text sum at nodes room L L₁ s
   unfolding Past Entered After
   sum_ends g h =
       record { policy = g.policy; moves = g.moves; past = (g.past.0, g.past.1, h); nodes_is = g.nodes_is; lists_are = g.lists_are; onward = g.onward; within = g.within; few = g.few }
 
-  -- up to the + and past it
-  past_plus : {at nodes : ℕ} {L L₁ : NodeLists} {s : Stepped.Step} {t : Found.Token} (g : Got added names text at nodes room L s L₁) → TokenFrom names text s.at t → t.kind ≡ 6 → (cs : List Before)
-      → read_on end (wants nothing cs) (toks at) ≡ read_on end (wants (record { summed = some g.policy; sequenced = none; negations = 0 }) cs) (toks t.next)
-  unfolding Entered After whole up_to join_sequence join_sum nothing
-  past_plus {s = s} g k e cs =
-      g.moves nothing refl cs ∙ at_plus end nothing cs g.policy (toks s.at) (kind_at k e)
-      ∙ ap (read_on end (wants (record { summed = some g.policy; sequenced = none; negations = 0 }) cs)) (sym k.rest)
+  module _ {at nodes next : ℕ} {L L₁ : NodeLists} {s : Stepped.Step} (g : Got names text added at nodes room L L₁ s) (k : MarkAt names text Plus s.at next) where
+    -- up to the + and past it
+    past_plus : (cs : List Before)
+        → read_on (length text) (wants nothing cs) (tokens_from names text at) ≡ read_on (length text) (wants (record { summed = Some g.policy; sequenced = None; negations = 0 }) cs) (tokens_from names text next)
+    unfolding Entered After whole up_to join_sequence join_sum nothing
+    past_plus cs = g.moves nothing refl cs ∙ at_plus (length text) nothing cs g.policy k.tokens_are
 
-  pub sum_turn : {at nodes : ℕ} {L L₁ L₂ L₃ : NodeLists} {s r : Stepped.Step} {t : Found.Token} → Got added names text at nodes room L s L₁ → TokenFrom names text s.at t → t.kind ≡ 6
-      → Got sequence names text t.next s.nodes room L₁ r L₂ → L₃ ≡ put_entry room r.nodes (node_entry 6 (s.nodes - 1) (r.nodes - 1)) L₂
-      → Got added names text at nodes room L (record { ok = true; at = r.at; nodes = r.nodes + 1 }) L₃
-  unfolding Past Entered After tree_size entries_from joined_entries
-  sum_turn {at} {nodes} {L} {L₁} {L₂} {s = s} {r = r} {t = t} g k e y l =
-      let h : t.start < t.next = k.onward (λ q. omega (arith, e, q)) in
-      record {
-        policy = Tree.sum g.policy y.policy;
-        moves = λ b h cs.
-            subst (λ (x : Before). read_on end (wants x cs) (toks at) ≡ read_on end (has x cs (Tree.sum g.policy y.policy)) (toks r.at)) (sym h)
-            (past_plus g k e cs ∙ y.moves (record { summed = some g.policy; sequenced = none; negations = 0 }) (refl, refl) cs ∙ collapse_sum end cs g.policy y.policy (toks r.at) y.past.0 y.past.1);
-        past = y.past;
-        nodes_is = omega (arith, g.nodes_is, y.nodes_is);
-        lists_are = l ∙ ap (put_entry room r.nodes (node_entry 6 (s.nodes - 1) (r.nodes - 1))) (y.lists_are ∙ ap (put_all room s.nodes (entries_from s.nodes y.policy)) g.lists_are) ∙ put_join 6 room nodes s.nodes r.nodes g.policy y.policy L g.nodes_is y.nodes_is;
-        onward = omega (arith, g.onward, k.low, y.onward);
-        within = y.within;
-        few = omega (arith, g.few, y.few, k.low, y.onward, y.nodes_is);
-      }
+    pub sum_turn : {L₂ L₃ : NodeLists} {r r' : Stepped.Step} → Got names text sequence next s.nodes room L₁ L₂ r → NodeJoined 6 (s.nodes - 1) room r L₂ r' L₃
+        → Got names text added at nodes room L L₃ r'
+    unfolding Past Entered After tree_size entries_from joined_entries
+    sum_turn {L₃ = L₃} {r = r} y j =
+        subst (Got names text added at nodes room L L₃) (sym j.step_is)
+        (record {
+          policy = Tree.sum g.policy y.policy;
+          moves = λ b h cs.
+              subst (λ (x : Before). read_on (length text) (wants x cs) (tokens_from names text at) ≡ read_on (length text) (has x cs (Tree.sum g.policy y.policy)) (tokens_from names text r.at)) (sym h)
+              (past_plus cs ∙ y.moves (record { summed = Some g.policy; sequenced = None; negations = 0 }) (refl, refl) cs ∙ collapse_sum (length text) cs g.policy y.policy (tokens_from names text r.at) y.past.0 y.past.1);
+          past = y.past;
+          nodes_is = omega (arith, g.nodes_is, y.nodes_is);
+          lists_are = j.lists_are ∙ ap (put_entry room r.nodes (node_entry 6 (s.nodes - 1) (r.nodes - 1))) (y.lists_are ∙ ap (put_all room s.nodes (entries_from s.nodes y.policy)) g.lists_are) ∙ put_join 6 room nodes s.nodes r.nodes g.policy y.policy L g.nodes_is y.nodes_is;
+          onward = omega (arith, g.onward, k.onward, y.onward);
+          within = y.within;
+          few = omega (arith, g.few, y.few, k.onward, y.onward, y.nodes_is);
+        })
 
-  -- ---- a reader that has read, or stopped
-
-  -- what is known where s has read: nothing has stopped it
-  pub done_got : {l : ReaderLevel} {at nodes : ℕ} {L L₁ : NodeLists} {s : Stepped.Step} → s.ok ≡ true → Got l names text at nodes room L s L₁ → Done l names text at nodes room L s L₁
-  done_got o g = record { got = λ _. g; stopped = λ x. absurd (true≢false (sym o ∙ x)) }
-
-  pub done_stopped : {l : ReaderLevel} {at nodes : ℕ} {L L₁ : NodeLists} {s : Stepped.Step} → s.ok ≡ false
-      → ((b : Before) → Entered l b → (cs : List Before) → read_on end (wants b cs) (toks at) ≡ stop s.at) → Done l names text at nodes room L s L₁
-  done_stopped o f = record { got = λ x. absurd (true≢false (sym x ∙ o)); stopped = λ _. f }
-
-  -- a reader of one level, handed on as one of another
-  pub done_as : {l m : ReaderLevel} {at nodes : ℕ} {L L₁ : NodeLists} {s : Stepped.Step} → Done l names text at nodes room L s L₁
-      → (Got l names text at nodes room L s L₁ → Got m names text at nodes room L s L₁) → ((b : Before) → Entered m b → Entered l b) → Done m names text at nodes room L s L₁
-  done_as d f h = record { got = λ o. f (d.got o); stopped = λ o b x. d.stopped o b (h b x) }
-
-  -- an item with its !
-  pub item_negated : {at nodes : ℕ} {L L₁ L₂ : NodeLists} {x : Scan.NegationRun} {r r' : Stepped.Step} → Scanned names text at x → Done bare names text x.at nodes room L r L₁
-      → Negated x.count room r L₁ r' L₂ → Done item names text at nodes room L r' L₂
-  unfolding Entered
-  item_negated {at} {nodes} {L} {L₁} {L₂} {x} {r} {r'} s d n = go r.ok refl
-    where
-      go : (b : Bool) → r.ok ≡ b → Done item names text at nodes room L r' L₂
-      go true q =
-          subst (λ (z : Stepped.Step). Done item names text at nodes room L z L₂) (sym (n.made q).0) (done_got refl (item_turn s (d.got q) (n.made q).1))
-      go false q =
-          subst (λ (z : Stepped.Step). Done item names text at nodes room L z L₂) (sym (n.failed q).0)
-          (done_stopped q (λ b h cs. s.moves b cs ∙ d.stopped q (more_negations x.count b) tt cs))
-
-  -- one more operand: s has read, the mark stands there, r has read or stopped after it, and j joins the two
-  pub sequence_next : {at nodes : ℕ} {L L₁ L₂ L₃ : NodeLists} {s r s' : Stepped.Step} {t : Found.Token} → s.ok ≡ true → Done joined names text at nodes room L s L₁ → TokenFrom names text s.at t → t.kind ≡ 7
-      → Done starred names text t.next s.nodes room L₁ r L₂ → NodeJoined 7 (s.nodes - 1) room r L₂ s' L₃ → Done joined names text at nodes room L s' L₃
-  unfolding Entered
-  sequence_next {at} {nodes} {L} {L₁} {L₂} {L₃} {s} {r} {s'} {t} o d k e y j = go r.ok refl
-    where
-      go : (b : Bool) → r.ok ≡ b → Done joined names text at nodes room L s' L₃
-      go true q =
-          subst (λ (x : Stepped.Step). Done joined names text at nodes room L x L₃) (sym (j.made q).0)
-          (done_got refl (sequence_turn (d.got o) k e (y.got q) (j.made q).1))
-      go false q =
-          subst (λ (x : Stepped.Step). Done joined names text at nodes room L x L₃) (sym (j.failed q).0)
-          (done_stopped q
-          (λ b h cs. as_joined (λ x. read_on end (wants x cs) (toks at) ≡ stop r.at)
-          (λ m. past_semicolon (d.got o) k e m cs ∙ y.stopped q (record { summed = m; sequenced = some (d.got o).policy; negations = 0 }) refl cs) b h))
-
-  pub sum_next : {at nodes : ℕ} {L L₁ L₂ L₃ : NodeLists} {s r s' : Stepped.Step} {t : Found.Token} → s.ok ≡ true → Done added names text at nodes room L s L₁ → TokenFrom names text s.at t → t.kind ≡ 6
-      → Done sequence names text t.next s.nodes room L₁ r L₂ → NodeJoined 6 (s.nodes - 1) room r L₂ s' L₃ → Done added names text at nodes room L s' L₃
-  unfolding Entered
-  sum_next {at} {nodes} {L} {L₁} {L₂} {L₃} {s} {r} {s'} {t} o d k e y j = go r.ok refl
-    where
-      go : (b : Bool) → r.ok ≡ b → Done added names text at nodes room L s' L₃
-      go true q =
-          subst (λ (x : Stepped.Step). Done added names text at nodes room L x L₃) (sym (j.made q).0)
-          (done_got refl (sum_turn (d.got o) k e (y.got q) (j.made q).1))
-      go false q =
-          subst (λ (x : Stepped.Step). Done added names text at nodes room L x L₃) (sym (j.failed q).0)
-          (done_stopped q
-          (λ b h cs. subst (λ (x : Before). read_on end (wants x cs) (toks at) ≡ stop r.at) (sym h)
-          (past_plus (d.got o) k e cs ∙ y.stopped q (record { summed = some (d.got o).policy; sequenced = none; negations = 0 }) (refl, refl) cs)))
-
-  -- ---- the closing parenthesis
-
-  pub closed_shut : {s : Stepped.Step} {t : Found.Token} → s.ok ≡ true → TokenFrom names text s.at t → t.kind ≡ 10 → ClosingRead names text s (record { ok = true; at = t.next; nodes = s.nodes })
-  closed_shut o k e =
-      record {
-        failed = λ x. absurd (true≢false (sym o ∙ x));
-        shut = λ _ _. (kind_at k e, k.rest, onward_of k e (λ q. omega arith), k.within, refl);
-        unshut = λ _ x. absurd (true≢false x);
-      }
-
-  pub closed_unshut : {s : Stepped.Step} {t : Found.Token} → s.ok ≡ true → TokenFrom names text s.at t → (t.kind ≡ 10 → ⊥) → ClosingRead names text s (record { ok = false; at = t.start; nodes = s.nodes })
-  closed_unshut o k e =
-      record {
-        failed = λ x. absurd (true≢false (sym o ∙ x));
-        shut = λ _ x. absurd (true≢false (sym x));
-        unshut = λ _ _. (kind_not k e, k.start_is);
-      }
-
-  pub closed_failed : {s : Stepped.Step} → s.ok ≡ false → ClosingRead names text s s
-  closed_failed o =
-      record { failed = λ _. refl; shut = λ x. absurd (true≢false (sym x ∙ o)); unshut = λ x. absurd (true≢false (sym x ∙ o)) }
-
--- ---- the nodes that join and negate
-
-module _ (room : ℕ) where
-  pub joined_made : {k left : ℕ} {L L' : NodeLists} {r : Stepped.Step} → r.ok ≡ true → L' ≡ put_entry room r.nodes (node_entry k left (r.nodes - 1)) L
-      → NodeJoined k left room r L (record { ok = true; at = r.at; nodes = r.nodes + 1 }) L'
-  joined_made o l = record { failed = λ x. absurd (true≢false (sym o ∙ x)); made = λ _. (refl, l) }
-
-  pub joined_failed : {k left : ℕ} {L : NodeLists} {r : Stepped.Step} → r.ok ≡ false → NodeJoined k left room r L r L
-  joined_failed o = record { failed = λ _. (refl, refl); made = λ x. absurd (true≢false (sym x ∙ o)) }
-
-  pub negated_made : {count : ℕ} {L L' : NodeLists} {r : Stepped.Step} → r.ok ≡ true → L' ≡ put_negations room r.nodes count L
-      → Negated count room r L (record { ok = true; at = r.at; nodes = r.nodes + count }) L'
-  negated_made o l = record { failed = λ x. absurd (true≢false (sym o ∙ x)); made = λ _. (refl, l) }
-
-  pub negated_failed : {count : ℕ} {L : NodeLists} {r : Stepped.Step} → r.ok ≡ false → Negated count room r L r L
-  negated_failed o = record { failed = λ _. (refl, refl); made = λ x. absurd (true≢false (sym x ∙ o)) }
+    pub sum_broken : {place : ℕ} → Stops names text sequence next place → Stops names text sum at place
+    unfolding Entered
+    sum_broken {place} d b h cs =
+        subst (λ (x : Before). read_on (length text) (wants x cs) (tokens_from names text at) ≡ stop place) (sym h)
+        (past_plus cs ∙ d (record { summed = Some g.policy; sequenced = None; negations = 0 }) (refl, refl) cs)

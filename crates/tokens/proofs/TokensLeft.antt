@@ -8,10 +8,9 @@ use lib.ListN.{length, drop}
 use lib.Seq.{drop-drop}
 use borrow.Author.Tests.{ne_eqb}
 use Rattle.fields.specs.Bytes.{is_blank, is_capital, is_small, is_letter, is_digit, in_word}
-use Rattle.grammar.specs.Tokens.{Placed, is_double, word_of, rest_of_token, placed_from, tokens_from}
-use Rattle.grammar.specs.InnerKinds.{front_kind, after_front}
-use Rattle.tokens.specs.Inner.{TokenFrom}
-use Rattle.tokens.specs.declared.Token as Found
+use Rattle.grammar.specs.Tokens.{is_double, word_of, rest_of_token, placed_from, tokens_from}
+use Rattle.tokens.specs.Inner.{FirstAt}
+use Rattle.tokens.specs.declared.Placed as Found
 use Rattle.tokens.proofs.TokenLaws.{placed_over, placed_blank, placed_front}
 
 word_no_blank : (b : ℕ) → in_word b ≡ true → is_blank b ≡ false
@@ -119,12 +118,5 @@ module _ (names : List (List ℕ)) where
       omega (arith, there, placed_length 0 at (drop at text), (fewer (drop at text)).skipped (at' - at))
 
   -- a token read on from `at`, at once or later, leaves fewer
-  pub fewer_next : (text : List ℕ) {at at' k : ℕ} {t : Found.Token} → at ≤ at' → TokenFrom names text at' t → t.kind ≡ k → (k ≡ 1 → ⊥)
-      → length (tokens_from names text t.next) < length (tokens_from names text at)
-  unfolding front_kind after_front
-  fewer_next text {at} {at'} {t = t} h f e ne =
-      omega (arith, ap length f.rest, after (tokens_from names text at') (λ q. ne (sym e ∙ f.kind_is ∙ q)), no_more text at at' h)
-    where
-      after : (ts : List Placed) → (front_kind ts ≡ 1 → ⊥) → length (after_front ts) < length ts
-      after [] ne = absurd (ne refl)
-      after (t ∷ ts) ne = omega arith
+  pub fewer_next : (text : List ℕ) {at at' : ℕ} {t : Found.Placed} → at ≤ at' → FirstAt names text at' t → length (tokens_from names text t.next) < length (tokens_from names text at)
+  fewer_next text {at} {at'} h f = omega (arith, ap length f.tokens_are, no_more text at at' h)

@@ -1,60 +1,28 @@
 // Classes of bytes, by ranges of the byte. All functions here are inner.
-ghost use Rattle.std.specs.Prelude.{◌≡◌, ◌&&◌, leb};
-ghost use Rattle.fields.specs.Bytes.{is_blank, is_letter, is_digit, in_word};
-ghost use Rattle.grammar.specs.Tokens.{begins_double};
-
-// Whether the byte is one of a range.
-fn in_range(b: u8, low: u8, high: u8) -> bool
-    ensures { result ≡ (leb low b && leb b high) }
-{
-    if b < low {
-        return false;
-    }
-    b <= high
-}
+ghost use Rattle.std.specs.Prelude.{◌≡◌};
+ghost use Rattle.fields.specs.Bytes.{is_blank, in_word};
+ghost use Rattle.grammar.specs.Tokens.{is_double};
 
 // Inner: space or tab.
+#[tactic(auto, unfolding(fields::specs::Bytes::is_blank))]
 pub fn is_blank(b: u8) -> bool
     ensures { result ≡ is_blank b }
 {
-    if b == 32 {
-        return true;
-    }
-    b == 9
-}
-
-fn is_letter(b: u8) -> bool
-    ensures { result ≡ is_letter b }
-{
-    if in_range(b, 65, 90) {
-        return true;
-    }
-    in_range(b, 97, 122)
-}
-
-// Inner.
-pub fn is_digit(b: u8) -> bool
-    ensures { result ≡ is_digit b }
-{
-    in_range(b, 48, 57)
+    b == b' ' || b == b'\t'
 }
 
 // Inner: whether a word can have the byte.
+#[tactic(auto, using(crate::proofs::WordLaws::or_turn), unfolding(fields::specs::Bytes::in_word, fields::specs::Bytes::is_letter, fields::specs::Bytes::is_capital, fields::specs::Bytes::is_small, fields::specs::Bytes::is_digit))]
 pub fn in_word(b: u8) -> bool
     ensures { result ≡ in_word b }
 {
-    if is_letter(b) {
-        return true;
-    }
-    is_digit(b)
+    b.is_ascii_alphanumeric()
 }
 
-// Inner: whether a mark of two bytes can begin with the byte.
-pub fn begins_double(b: u8) -> bool
-    ensures { result ≡ begins_double b }
+// Inner: whether two bytes are one mark.
+#[tactic(auto, unfolding(grammar::specs::Tokens::is_double))]
+pub fn is_double(b: u8, after: u8) -> bool
+    ensures { result ≡ is_double b after }
 {
-    if b == 33 {
-        return true;
-    }
-    b == 60
+    (b == b'!' && after == b'=') || (b == b'<' && after == b'-')
 }

@@ -8,8 +8,8 @@ use native.Mathlib.Omega.{arith}
 use lib.Dec.{T}
 use lib.ListN.{length, get_or, replicate, get_or-replicate, length-replicate}
 use Rattle.packet.specs.declared.Refusal.{Refusal}
-use Rattle.packet.specs.declared.Tested.{Tested}
-use Rattle.packet.specs.declared.Tested.TheVariants.{Passed, Refused}
+use Rattle.packet.specs.Refusals.{Tested}
+use Rattle.std.specs.Prelude.{Ok, Err}
 use Rattle.packet.specs.Sizes.{product}
 use Rattle.packet.specs.Packets.{Declared}
 use Rattle.policy.specs.InnerEach.{Each}
@@ -68,10 +68,10 @@ not_refused both = refl
 not_refused neither = refl
 
 -- an answer is given where the tests pass
-unless_answer : (t : Tested) (a b : TraceAnswer) → checked_unless t a ≡ checked_as b → (t ≡ Passed) × (a ≡ b)
+unless_answer : (t : Tested) (a b : TraceAnswer) → checked_unless t a ≡ checked_as b → (t ≡ Ok tt) × (a ≡ b)
 unfolding checked_unless is_refused
-unless_answer Passed a b e = (refl, sym (answer_in_lem a) ∙ ap answer_in e ∙ answer_in_lem b)
-unless_answer (Refused r) a b e = absurd (true≢false (ap is_refused e ∙ not_refused b))
+unless_answer (Ok _) a b e = (refl, sym (answer_in_lem a) ∙ ap answer_in e ∙ answer_in_lem b)
+unless_answer (Err r) a b e = absurd (true≢false (ap is_refused e ∙ not_refused b))
 
 -- ---- of each
 
@@ -87,7 +87,7 @@ all_each P [] h = tt
 all_each P (x ∷ xs) h = (h 0 (omega arith), all_each P xs (λ i l. h (suc i) (suc-le-suc l)))
 
 module _ (ts : List Table) (L R : NodeLists) where
-  evaluable : (words : ℕ) → lists_tests ts L R words ≡ Passed → EvaluablePair (pair_core ts L R) (policies L R)
+  evaluable : (words : ℕ) → lists_tests ts L R words ≡ Ok tt → EvaluablePair (pair_core ts L R) (policies L R)
   evaluable words e = let h = lent_passed ts L R words e in legal_pair (pair_core ts L R) L R h.left_legal h.right_legal
 
   -- an answer says of each side whether Figure 1 gives it the trace
@@ -135,13 +135,13 @@ module _ (ts : List Table) (L R : NodeLists) where
         (iff_sym (subst (λ γ. Traces declared (at s (policies L R)).tree β (map (lifted (pair_classes ts L R) β) trace) ↔ Traces (numbered (pair_core ts L R)) (at s (policies L R)).tree γ trace) same (lifted_traced ts L R g _ (side_named ts L R g s) trace inside.1 β d)))
 
   -- a trace of length 0 is neither
-  pub empty_neither : (α words : ℕ) → trace_tests ts L R α [] words ≡ Passed → trace_call ts L R α [] words ≡ Neither
+  pub empty_neither : (α words : ℕ) → trace_tests ts L R α [] words ≡ Ok tt → trace_call ts L R α [] words ≡ Neither
   unfolding trace_call checked_unless checked_as
   empty_neither α words e = ap₂ checked_unless e (trace_empty (pair_core ts L R) (policies L R) α)
 
   -- ---- what following the trace asks, with a work list of so many words that is all 0
 
-  module _ (α : ℕ) (trace : List ℕ) (words : ℕ) (e : lists_tests ts L R words ≡ Passed) {work : List ℕ} (w : work ≡ replicate words 0) (q : packets_stage (product (pair_core ts L R)) α trace ≡ Passed) {count : ℕ} (c : count ≡ product (pair_core ts L R))
+  module _ (α : ℕ) (trace : List ℕ) (words : ℕ) (e : lists_tests ts L R words ≡ Ok tt) {work : List ℕ} (w : work ≡ replicate words 0) (q : packets_stage (product (pair_core ts L R)) α trace ≡ Ok tt) {count : ℕ} (c : count ≡ product (pair_core ts L R))
       {sizes : List ℕ} (same : sizes ≡ pair_core ts L R) where
     ready : (M : NodeLists) → Legal (pair_core ts L R) M → FollowReady (pair_core ts L R) M count α trace work
     ready M legal =
@@ -179,14 +179,14 @@ module _ (ts : List Table) (L R : NodeLists) where
           lifted_trace = λ a q s. answer_lifted α trace (length work) a (sym e ∙ q) s;
         }
 
-    pub lent_refused : (r : Refusal) → lists_tests ts L R (length work) ≡ Refused r → CheckedTrace ts L R α trace work (CheckRefused r) work
+    pub lent_refused : (r : Refusal) → lists_tests ts L R (length work) ≡ Err r → CheckedTrace ts L R α trace work (CheckRefused r) work
     unfolding trace_call checked_unless work_after
     lent_refused r e =
         checked
         (sym (ap (λ (t : Tested). checked_unless t (trace_answer (pair_core ts L R) (policies L R) α trace)) (trace_refused ts L R (length work) α trace r e)))
         (sym (ap (λ (t : Tested). work_after t work) e))
 
-    module _ (e : lists_tests ts L R (length work) ≡ Passed) {work' : List ℕ} (w : work' ≡ replicate (length work) 0) where
+    module _ (e : lists_tests ts L R (length work) ≡ Ok tt) {work' : List ℕ} (w : work' ≡ replicate (length work) 0) where
       cleared : work' ≡ work_after (lists_tests ts L R (length work)) work
       unfolding work_after
       cleared = w ∙ sym (ap (λ (t : Tested). work_after t work) e)
@@ -196,22 +196,22 @@ module _ (ts : List Table) (L R : NodeLists) where
       unfolding trace_call
       called t q = sym (ap (λ (u : Tested). checked_unless u (trace_answer (pair_core ts L R) (policies L R) α trace)) (trace_tested ts L R (length work) α trace e ∙ q))
 
-      pub packet_refused : (r : Refusal) → packets_stage (product (pair_core ts L R)) α trace ≡ Refused r → CheckedTrace ts L R α trace work (CheckRefused r) work'
+      pub packet_refused : (r : Refusal) → packets_stage (product (pair_core ts L R)) α trace ≡ Err r → CheckedTrace ts L R α trace work (CheckRefused r) work'
       unfolding checked_unless
-      packet_refused r q = checked (called (Refused r) q) cleared
+      packet_refused r q = checked (called (Err r) q) cleared
 
-      pub answered : packets_stage (product (pair_core ts L R)) α trace ≡ Passed → {sizes : List ℕ} → sizes ≡ pair_core ts L R → {l r : Bool} {work₁ work₂ : List ℕ} → Followed sizes L α trace work' l work₁ → Followed sizes R α trace work₁ r work₂
+      pub answered : packets_stage (product (pair_core ts L R)) α trace ≡ Ok tt → {sizes : List ℕ} → sizes ≡ pair_core ts L R → {l r : Bool} {work₁ work₂ : List ℕ} → Followed sizes L α trace work' l work₁ → Followed sizes R α trace work₁ r work₂
           → (answer : TraceChecked) → answer ≡ checked_as (answer_of l r) → CheckedTrace ts L R α trace work answer work₂
       unfolding checked_unless trace_answer side_has at
       answered q same {l} {r} {work₁} {work₂} f' g' answer a =
           let f = subst (λ (s : List ℕ). Followed s L α trace work' l work₁) same f' in
           let g = subst (λ (s : List ℕ). Followed s R α trace work₁ r work₂) same g' in
-          checked (a ∙ ap checked_as (ap₂ answer_of f.answers g.answers) ∙ called Passed q) (g.kept ∙ f.kept ∙ cleared)
+          checked (a ∙ ap checked_as (ap₂ answer_of f.answers g.answers) ∙ called (Ok tt) q) (g.kept ∙ f.kept ∙ cleared)
 
   -- ---- the search's trace
 
   -- where the causes up to 10 let the call pass, a trace with which the search answers left is answered left, and right, right
-  pub search_checked : (words : ℕ) → pair_tests ts L R ≡ Passed → 16384 ≤ words → (rows lent : ℕ) (s : Side) (α : ℕ) (trace : List ℕ)
+  pub search_checked : (words : ℕ) → pair_tests ts L R ≡ Ok tt → 16384 ≤ words → (rows lent : ℕ) (s : Side) (α : ℕ) (trace : List ℕ)
       → search_answer (pair_core ts L R) (policies L R) rows lent ≡ different s α trace → trace_call ts L R α trace words ≡ checked_as (only s)
   unfolding trace_call checked_unless SideTraces
   search_checked words e h rows lent s α trace d =

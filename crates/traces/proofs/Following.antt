@@ -52,7 +52,7 @@ module _ {sizes nodes tests : List ℕ} {count α : ℕ} {trace work : List ℕ}
   pub policy_followed : {answer : Bool} {work' : List ℕ} → LoadedFollowed sizes nodes tests α trace work answer work' → Followed sizes a.lists α trace work answer work'
   policy_followed f = record { answers = f.answers a.lists enters; kept = f.kept }
 
-  pub count_small : count ≤ 1024
+  count_small : count ≤ 1024
   count_small = let h = a.ready.packets in let k = a.ready.legal_sizes.small in omega arith
 
   pub following_none : Following sizes nodes tests α trace work (replicate 1056 0) 1 α work 0
@@ -85,9 +85,6 @@ module _ {sizes nodes tests : List ℕ} {count α : ℕ} {trace work : List ℕ}
 
       packet_inside : get_or trace i 0 < product sizes
       packet_inside = a.ready.inside i left_over
-
-      pub packet_small : get_or trace i 0 < 1024
-      packet_small = let h = packet_inside in let k = a.ready.legal_sizes.small in omega arith
 
       module _ {from to : ℕ} {out next' work₂ : List ℕ} (st : Stepped sizes nodes tests state β empty_set next work' from to out next' work₂) where
         -- what `forget` asks

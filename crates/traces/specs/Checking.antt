@@ -1,9 +1,7 @@
 -- The trace checker (document 01, "Row rules for evidence" and "Causes, in the order tested"; document 02, A.6).
-use Rattle.std.specs.Prelude.{ℕ, suc, ◌<◌, ◌≤◌, Bool, List, [], ◌∷◌, map, ◌↔◌, ◌≡◌, T, leb, length, get_or}
-use Rattle.packet.specs.declared.Tested.{Tested}
-use Rattle.packet.specs.declared.Tested.TheVariants.{Passed, Refused}
+use Rattle.std.specs.Prelude.{ℕ, suc, ◌<◌, ◌≤◌, Bool, List, [], ◌∷◌, map, ◌↔◌, ◌≡◌, T, leb, length, get_or, Ok, Err}
+use Rattle.packet.specs.Refusals.{Tested, refused_at}
 use Rattle.packet.specs.Lowest.{lowest}
-use Rattle.packet.specs.Refusals.{refused_at}
 use Rattle.packet.specs.Sizes.{product, LegalSizes}
 use Rattle.policy.specs.Legality.{Legal}
 use Rattle.policy.specs.Order.{in_order, stages_of, pair_of, pair_core}
@@ -40,8 +38,8 @@ checked_as neither = Neither
 
 -- each case's number and values: a refusal's are its own
 unfoldable pub checked_unless : Tested → TraceAnswer → TraceChecked
-checked_unless Passed a = checked_as a
-checked_unless (Refused r) a = CheckRefused r
+checked_unless (Ok _) a = checked_as a
+checked_unless (Err r) a = CheckRefused r
 
 module _ (ts : List Table) (L R : NodeLists) where
   -- the tests on what else is lent, with a work list of so many words: the causes up to 10
@@ -50,7 +48,7 @@ module _ (ts : List Table) (L R : NodeLists) where
 
   -- the order of causes: up to 10, then 13
   unfoldable pub trace_tests : ℕ → List ℕ → ℕ → Tested
-  trace_tests α trace words = in_order (stages_of ts Passed (pair_of L R) (lists_stage [] words) (packets_stage (product (pair_core ts L R)) α trace))
+  trace_tests α trace words = in_order (stages_of ts (Ok tt) (pair_of L R) (lists_stage [] words) (packets_stage (product (pair_core ts L R)) α trace))
 
   -- the trace checker's answer
   unfoldable pub trace_call : ℕ → List ℕ → ℕ → TraceChecked

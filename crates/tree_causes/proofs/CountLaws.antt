@@ -2,8 +2,8 @@
 use Prim.Native.Nat.{ℕ, zero, suc, ◌+◌, ◌<◌, ◌≤◌}
 use mathlib.Core.Bool.{Bool, true, false}
 use mathlib.Core.List.{List, [], ◌∷◌}
-use mathlib.Core.Logic.{◌≢◌}
-use mathlib.Core.Option.{none, some}
+use mathlib.Core.Logic.{◌≢◌, by_cases}
+use Rattle.std.specs.Prelude.{None, Ok, Err}
 use mathlib.Core.Path.{◌≡◌, refl, sym, ap, ap₂, subst, ◌∙◌}
 use native.Mathlib.Decide.{dec_lt, ℕ_discrete}
 use native.Mathlib.Omega.{arith}
@@ -11,8 +11,8 @@ use lib.ListN.{length, get_or, set, replicate, length-set, length-replicate, get
 use lib.Seq.{get_or-set_same, get_or-set_other}
 use borrow.Author.Tests.{lt-ltb, le-ltb, eq-eqb, ne_eqb}
 use lib.Dec.{eqb}
+use mir.Val.{bool_byte}
 use Rattle.packet.specs.Lowest.{lowest}
-use Rattle.packet.specs.declared.Place.TheVariants.{At, Nowhere}
 use Rattle.packet.proofs.Lowest.{lowest_more, lowest_found}
 use Rattle.policy.specs.declared.Node.{Node}
 use Rattle.policy.specs.declared.Node.TheVariants.{Drop, Id, Field, Dup, Sum, Seq, Star, Neg}
@@ -20,7 +20,7 @@ use Rattle.policy.specs.AsLists.{as_lists}
 use Rattle.policy.specs.InnerEach.{Each}
 use Rattle.policy.specs.NodeLists.{NodeLists, node_count, node_of, node_at, children, one, is_dup, dups_below}
 use Rattle.policy.specs.Legality.{bad_child, occurrences, times_child, not_once, too_many_dups, max_dups}
-use Rattle.tree_causes.specs.Counting.{CountableChildren, with_child, with_children, Countable, ChildCounts, DupWeight, DupCountOf}
+use Rattle.tree_causes.specs.Counting.{CountableChildren, with_child, with_children, Countable, ChildCounts, DupCountOf}
 use Rattle.policy.proofs.EachLaws.{each_map, below_each, one_same, one_other}
 
 -- ---- one more child
@@ -68,40 +68,6 @@ with_children_at (c ∷ cs) counts j e =
     let rest : Each (λ d. d < length (with_child counts c)) cs =
     each_map (λ d. d < length counts) (λ d. d < length (with_child counts c)) cs (λ d h. omega (arith, with_child_length counts c)) e.1 in
     omega (arith, with_children_at cs (with_child counts c) j rest, with_child_at counts c j e.0)
-
--- ---- the children of one node
-
-module _ (counts : List ℕ) (n : Node) where
-  pub none_counted : children n ≡ [] → counts ≡ with_children counts (children n)
-  unfolding with_children
-  none_counted e = sym (ap (with_children counts) e)
-
-  pub one_counted : (c : ℕ) {r : List ℕ} → children n ≡ c ∷ [] → r ≡ with_child counts c → r ≡ with_children counts (children n)
-  unfolding with_children
-  one_counted c e f = f ∙ sym (ap (with_children counts) e)
-
-  pub two_counted : (l r : ℕ) {m s : List ℕ} → children n ≡ l ∷ r ∷ [] → m ≡ with_child counts l → s ≡ with_child m r → s ≡ with_children counts (children n)
-  unfolding with_children
-  two_counted l r e f g = g ∙ ap (λ (m : List ℕ). with_child m r) f ∙ sym (ap (with_children counts) e)
-
-  countable_as : {cs : List ℕ} → children n ≡ cs → Countable counts (children n) → Countable counts cs
-  countable_as e h = subst (λ (cs : List ℕ). Countable counts cs) e h
-
-  pub one_room : (c : ℕ) → children n ≡ c ∷ [] → Countable counts (children n) → (c < length counts) × (get_or counts c 0 < 65535)
-  unfolding Each
-  one_room c e h = let k = countable_as e h in (k.small.0, omega (arith, k.room c))
-
-  pub left_room : (l r : ℕ) → children n ≡ l ∷ r ∷ [] → Countable counts (children n) → (l < length counts) × (get_or counts l 0 < 65535)
-  unfolding Each
-  left_room l r e h = let k = countable_as e h in (k.small.0, omega (arith, k.room l))
-
-  pub right_room : (l r : ℕ) {m : List ℕ} → children n ≡ l ∷ r ∷ [] → m ≡ with_child counts l → Countable counts (children n) → (r < length m) × (get_or m r 0 < 65535)
-  unfolding Each
-  right_room l r f e h =
-      let k = countable_as f h in (
-        subst (λ (m : List ℕ). r < length m) (sym e) (omega (arith, k.small.1.0, with_child_length counts l)),
-        subst (λ (m : List ℕ). get_or m r 0 < 65535) (sym e) (omega (arith, k.room r, with_child_most counts l r)),
-      )
 
 -- ---- all nodes
 
@@ -168,9 +134,6 @@ module _ (L : NodeLists) where
       → more ≡ with_children counts (children n) → ChildCounts L more (suc i)
   node_passed h counts more i e k cc f = one_passed h counts more i k cc (f ∙ ap (λ (n : Node). with_children counts (children n)) e)
 
-  pub all_passed : (counts : List ℕ) (i : ℕ) → ChildCounts L counts i → i ≡ node_count L → ChildCounts L counts (node_count L)
-  all_passed counts i cc e = subst (λ (m : ℕ). ChildCounts L counts m) e cc
-
   -- the count of node i, once all are passed
   pub is_once : (counts : List ℕ) (i : ℕ) → ChildCounts L counts (node_count L) → i < 512 → get_or counts i 0 ≡ 1 → not_once L i ≡ false
   unfolding not_once
@@ -181,10 +144,6 @@ module _ (L : NodeLists) where
   isn't_once counts i cc h d = rw (ne_eqb (times_child L i (node_count L)) 1 (λ e. d (cc.each i h ∙ e)))
 
 -- ---- dups
-
-pub weight_dup : (k : ℕ) → k ≡ 5 → DupWeight k 1
-unfolding is_dup node_of one
-weight_dup k e = record { each = λ a b. sym (ap (λ (m : ℕ). one (is_dup (node_of m a b))) e) }
 
 other_kind : (k a b : ℕ) → (k ≡ 5 → ⊥) → is_dup (node_of k a b) ≡ false
 unfolding is_dup node_of
@@ -200,18 +159,33 @@ other_kind (suc (suc (suc (suc (suc (suc (suc (suc zero)))))))) a b h = refl
 other_kind (suc (suc (suc (suc (suc (suc (suc (suc (suc zero))))))))) a b h = refl
 other_kind (suc (suc (suc (suc (suc (suc (suc (suc (suc (suc k)))))))))) a b h = refl
 
-pub weight_other : (k : ℕ) → (k ≡ 5 → ⊥) → DupWeight k 0
-unfolding one
-weight_other k h = record { each = λ a b. sym (ap one (other_kind k a b h)) }
+-- 1 for a node of the kind dup, else 0
+unfoldable pub DupWeight : ℕ → ℕ → Type 0
+DupWeight kind weight = (a b : ℕ) → weight ≡ one (is_dup (node_of kind a b))
 
-pub weight_small : {k w : ℕ} → DupWeight k w → w ≤ 1
-weight_small {k} {w} h = omega (arith, h.each 0 0, one_most (is_dup (node_of k 0 0)))
+byte_one : (b : Bool) → bool_byte b ≡ one b
+unfolding one
+byte_one true = refl
+byte_one false = refl
+
+pub weight_is : (k w : ℕ) → w ≡ bool_byte (eqb k 5) → DupWeight k w
+unfolding is_dup node_of DupWeight
+weight_is k w q = by_cases (ℕ_discrete k 5) dup other
+  where
+    e : w ≡ one (eqb k 5)
+    e = q ∙ byte_one (eqb k 5)
+
+    dup : k ≡ 5 → (a b : ℕ) → w ≡ one (is_dup (node_of k a b))
+    dup q a b = e ∙ ap one (eq-eqb k 5 q) ∙ sym (ap (λ (m : ℕ). one (is_dup (node_of m a b))) q)
+
+    other : (k ≡ 5 → ⊥) → (a b : ℕ) → w ≡ one (is_dup (node_of k a b))
+    other n a b = e ∙ ap one (ne_eqb k 5 n ∙ sym (other_kind k a b n))
 
 -- the dups of the first i nodes, which are not too many
 pub record DupsSoFar (kind : List ℕ) (d i : ℕ) : Type 0 where
   pub few : d ≤ max_dups
   pub count : (first second : List ℕ) → d ≡ dups_below (as_lists kind first second) i
-  pub place : (first second : List ℕ) → lowest (too_many_dups (as_lists kind first second)) i ≡ none
+  pub place : (first second : List ℕ) → lowest (too_many_dups (as_lists kind first second)) i ≡ None
 
 module _ (kind : List ℕ) where
   pub dups_none : DupsSoFar kind 0 0
@@ -220,8 +194,8 @@ module _ (kind : List ℕ) where
 
   module _ (d w i : ℕ) (so_far : DupsSoFar kind d i) (weight : DupWeight (get_or kind i 0) w) where
     count_next : (first second : List ℕ) → d + w ≡ dups_below (as_lists kind first second) (suc i)
-    unfolding dups_below node_at
-    count_next f s = ap₂ (λ (m n : ℕ). m + n) (so_far.count f s) (weight.each (get_or f i 0) (get_or s i 0))
+    unfolding dups_below node_at DupWeight
+    count_next f s = ap₂ (λ (m n : ℕ). m + n) (so_far.count f s) (weight (get_or f i 0) (get_or s i 0))
 
     pub dups_next : d + w ≤ max_dups → DupsSoFar kind (d + w) (suc i)
     unfolding too_many_dups
@@ -231,18 +205,9 @@ module _ (kind : List ℕ) where
       place = λ f s. lowest_more (too_many_dups (as_lists kind f s)) i (so_far.place f s) (le-ltb max_dups _ (subst (λ (m : ℕ). m ≤ max_dups) (count_next f s) h));
     }
 
-    pub dups_over : max_dups < d + w → i < length kind → DupCountOf kind record { count = d + w; extra = At i }
+    pub dups_over : max_dups < d + w → i < length kind → DupCountOf kind (Err i)
     unfolding too_many_dups
-    dups_over h l = record {
-      place = λ f s. sym (lowest_found (too_many_dups (as_lists kind f s)) i (length kind) (so_far.place f s) (lt-ltb max_dups _ (subst (λ (m : ℕ). max_dups < m) (count_next f s) h)) l);
-      count = λ e f s. absurd (some≢none e);
-    }
-      where
-        some≢none : {j : ℕ} → some j ≡ none → ⊥
-        some≢none {j} q = let z : ◌≡◌ {A = ℕ} 0 1 = cc in omega arith
+    dups_over h l f s = lowest_found (too_many_dups (as_lists kind f s)) i (length kind) (so_far.place f s) (lt-ltb max_dups _ (subst (λ (m : ℕ). max_dups < m) (count_next f s) h)) l
 
-  pub dups_whole : (d i : ℕ) → DupsSoFar kind d i → i ≡ length kind → DupCountOf kind record { count = d; extra = Nowhere }
-  dups_whole d i h e = record {
-    place = λ f s. sym (subst (λ (m : ℕ). lowest (too_many_dups (as_lists kind f s)) m ≡ none) e (h.place f s));
-    count = λ n f s. subst (λ (m : ℕ). d ≡ dups_below (as_lists kind f s) m) e (h.count f s);
-  }
+  pub dups_whole : (d : ℕ) → DupsSoFar kind d (length kind) → DupCountOf kind (Ok d)
+  dups_whole d h f s = (h.place f s, h.count f s)

@@ -1,49 +1,28 @@
 -- Nodes whose trees are made of tests alone, and cause 19.
 use Prim.Native.Nat.{ℕ, zero, suc, ◌+◌, ◌≤◌, ◌<◌}
 use mathlib.Core.Bool.{Bool, true, false, not, ◌&&◌}
-use mathlib.Core.List.{List, []}
+use mathlib.Core.List.{List}
 use mathlib.Core.Logic.{by_cases}
-use mathlib.Core.Option.{none}
+use Rattle.std.specs.Prelude.{None}
 use mathlib.Core.Path.{◌≡◌, refl, sym, ap, ap₂, ◌∙◌, subst}
 use native.Mathlib.Decide.{ℕ_discrete}
 use native.Mathlib.Omega.{arith}
 use lib.Dec.{eqb}
-use borrow.Author.Tests.{eq-eqb, ne_eqb}
+use borrow.Author.Tests.{ne_eqb}
 use lib.ListN.{length, get_or, set, length-set}
 use lib.Seq.{get_or-set_same, get_or-set_other}
 use Rattle.packet.specs.Lowest.{lowest}
 use Rattle.packet.proofs.Lowest.{none_lowest}
-use Rattle.policy.specs.declared.FieldAction.{FieldAction}
 use Rattle.policy.specs.declared.FieldAction.TheVariants.{Equals, Differs, Set}
 use Rattle.policy.specs.declared.Node.{Node}
 use Rattle.policy.specs.declared.Node.TheVariants.{Drop, Id, Field, Dup, Sum, Seq, Star, Neg}
 use Rattle.policy.specs.NodeLists.{NodeLists, node_count, node_at, children, dups_below, grow, one, node_of, tree_of}
 use Rattle.policy.proofs.EachLaws.{below_each, each_map}
 use Rattle.policy.proofs.Trees.{ChildrenBelow, two_below, one_below, tree_grow}
-use Rattle.tree_causes.specs.Alone.{ChildrenPlaced, and_flag, alone_of, NoNegation, Alone}
+use Rattle.tree_causes.specs.Alone.{ChildrenPlaced, and_flag, alone_of, Alone}
 use Rattle.tree_causes.specs.Counting.{CountableChildren}
 use Rattle.policy.specs.Legality.{bad_child, negates_other, bad_negation}
 use Rattle.policy.specs.Tests.{is_test}
-
--- ---- one node
-
-pub flag_is : (alone : List ℕ) (node d : Node) → node ≡ d → alone_of alone d ≡ alone_of alone node
-flag_is alone node d e = sym (ap (alone_of alone) e)
-
-pub flag_action : (alone : List ℕ) (a : FieldAction) → alone_of [] (Field a) ≡ alone_of alone (Field a)
-unfolding alone_of
-flag_action alone (Equals f v) = refl
-flag_action alone (Differs f v) = refl
-flag_action alone (Set f v) = refl
-
-pub and_none : (a b : ℕ) → a ≡ 0 → 0 ≡ and_flag a b
-unfolding and_flag
-and_none a b e = sym (ap (λ (x : ℕ). and_flag x b) e)
-
-pub and_some : (a b : ℕ) → (a ≡ 0 → ⊥) → b ≡ and_flag a b
-unfolding and_flag
-and_some zero b h = absurd (h refl)
-and_some (suc a) b h = refl
 
 -- ---- all nodes
 
@@ -128,32 +107,13 @@ no_negation L (suc (suc (suc (suc (suc (suc (suc (suc (suc zero))))))))) a b c n
 no_negation L (suc (suc (suc (suc (suc (suc (suc (suc (suc (suc k)))))))))) a b c n = sym (ap (λ (d : Bool). d && c) (ne_eqb _ 9 n))
 
 -- without a negation 19 has no place
-pub no_negations : (L : NodeLists) → NoNegation L.kind (node_count L) → none ≡ lowest (bad_negation L) (node_count L)
-unfolding NoNegation bad_negation node_at
+pub no_negations : (L : NodeLists) → ((i : ℕ) → i < node_count L → get_or L.kind i 0 ≡ 9 → ⊥) → None ≡ lowest (bad_negation L) (node_count L)
+unfolding bad_negation node_at
 no_negations L n = sym (none_lowest (bad_negation L) (node_count L) (λ i l. no_negation L _ _ _ false (n i l) ∙ and_none_right (eqb (get_or L.kind i 0) 9)))
   where
     and_none_right : (b : Bool) → b && false ≡ false
     and_none_right true = refl
     and_none_right false = refl
-
-pub no_negation_start : (kind : List ℕ) → NoNegation kind 0
-unfolding NoNegation
-no_negation_start kind i l = absurd (omega arith)
-
-pub no_negation_end : (kind : List ℕ) (n m : ℕ) → NoNegation kind n → m ≤ n → NoNegation kind m
-unfolding NoNegation
-no_negation_end kind n m h l i k = h i (omega arith)
-
-pub no_negation_more : (kind : List ℕ) (n : ℕ) → NoNegation kind n → (get_or kind n 0 ≡ 9 → ⊥) → NoNegation kind (n + 1)
-unfolding NoNegation
-no_negation_more kind n h o i l =
-    by_cases (ℕ_discrete i n) (λ e. subst (λ (j : ℕ). get_or kind j 0 ≡ 9 → ⊥) (sym e) o) (λ e. h i (omega arith))
-
-pub of_kind_9 : {k : ℕ} (b : Bool) → k ≡ 9 → b ≡ eqb k 9 && b
-of_kind_9 b e = sym (ap (λ (d : Bool). d && b) (eq-eqb _ 9 e))
-
-pub of_other_kind : {k : ℕ} (b : Bool) → (k ≡ 9 → ⊥) → false ≡ eqb k 9 && b
-of_other_kind b n = sym (ap (λ (d : Bool). d && b) (ne_eqb _ 9 n))
 
 module _ (L : NodeLists) (f : CountableChildren L) (alone : List ℕ) (m : Alone L alone) (i : ℕ) (l : i < node_count L) where
   -- cause 19 by kind and flag

@@ -29,10 +29,6 @@ alone_of alone (Seq l r) = and_flag (get_or alone l 0) (get_or alone r 0)
 alone_of alone (Star c) = 0
 alone_of alone (Neg c) = get_or alone c 0
 
--- none of the first n kinds is a negation's
-unfoldable pub NoNegation : List ℕ → ℕ → Type 0
-NoNegation kind n = (i : ℕ) → i < n → get_or kind i 0 ≡ 9 → ⊥
-
 -- the nodes whose trees are made of tests alone
 pub record Alone (L : NodeLists) (alone : List ℕ) : Type 0 where
   pub long : length alone ≡ 512

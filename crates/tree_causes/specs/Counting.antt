@@ -1,11 +1,10 @@
 -- How the counts of causes 8 and 9 are kept while the nodes are passed.
 use Rattle.std.specs.Prelude.{ℕ, ◌+◌, ◌<◌, ◌≤◌, false, List, [], ◌∷◌, ◌≡◌, length, get_or, set}
-use Rattle.std.proofs.Math.Option.{none}
-use Rattle.packet.specs.Lowest.{lowest, option_of}
-use Rattle.tree_causes.specs.declared.DupCount.{DupCount}
+use Rattle.std.specs.Prelude.{None, Some, Result, MatchResult}
+use Rattle.packet.specs.Lowest.{lowest}
 use Rattle.policy.specs.AsLists.{as_lists}
 use Rattle.policy.specs.InnerEach.{Each}
-use Rattle.policy.specs.NodeLists.{NodeLists, node_count, node_of, one, is_dup, dups_below}
+use Rattle.policy.specs.NodeLists.{NodeLists, node_count, dups_below}
 use Rattle.policy.specs.Legality.{bad_child, times_child, too_many_dups}
 
 -- three lists of at most 512 nodes, each child below its parent
@@ -32,11 +31,9 @@ pub record ChildCounts (L : NodeLists) (counts : List ℕ) (n : ℕ) : Type 0 wh
   pub long : length counts ≡ 512
   pub each : (j : ℕ) → j < 512 → get_or counts j 0 ≡ times_child L j n
 
--- 1 for a node of the kind dup, else 0
-pub record DupWeight (kind weight : ℕ) : Type 0 where
-  pub each : (a b : ℕ) → weight ≡ one (is_dup (node_of kind a b))
-
--- cause 9's place in the policies of these kinds, and the number of dups where it has none
-pub record DupCountOf (kind : List ℕ) (d : DupCount) : Type 0 where
-  pub place : (first second : List ℕ) → option_of d.extra ≡ lowest (too_many_dups (as_lists kind first second)) (length kind)
-  pub count : option_of d.extra ≡ none → (first second : List ℕ) → d.count ≡ dups_below (as_lists kind first second) (length kind)
+-- the number of dups, where cause 9 has no place in the policies of these kinds, and else its place
+abbrev pub DupCountOf : List ℕ → Result ℕ ℕ → Type 0
+DupCountOf kind d =
+    MatchResult d
+    (λ count. (first second : List ℕ) → (lowest (too_many_dups (as_lists kind first second)) (length kind) ≡ None) × (count ≡ dups_below (as_lists kind first second) (length kind)))
+    (λ place. (first second : List ℕ) → lowest (too_many_dups (as_lists kind first second)) (length kind) ≡ Some place)

@@ -1,20 +1,16 @@
 -- Turning packets: the causes of the tables and of both policies and 3, then 13 (document 01, "Packets" and "Causes, in the order tested"; document 02,
 -- A.4 and A.6).
-use Rattle.std.specs.Prelude.{ℕ, Bool, cond, not, List, [], ◌∷◌, leb, eqb, length, get_or}
-use Rattle.packet.specs.declared.Tested.{Tested}
-use Rattle.packet.specs.declared.Tested.TheVariants.{Passed, Refused}
+use Rattle.std.specs.Prelude.{ℕ, Bool, cond, not, List, [], ◌∷◌, Result, Ok, Err, leb, eqb, length, get_or}
+use Rattle.packet.specs.Refusals.{Tested}
+use Rattle.packet.specs.declared.Refusal.{Refusal}
 use Rattle.packet.specs.Lowest.{lowest}
 use Rattle.packet.specs.Refusals.{refused_at, at_place, at_zero, first_refused}
-use Rattle.packet.specs.Sizes.{product}
+use Rattle.packet.specs.Sizes.{product, counted}
 use Rattle.fields.specs.Tables.{Table, joint_sizes}
 use Rattle.policy.specs.NodeLists.{NodeLists}
 use Rattle.policy.specs.Order.{in_order, stages_of, pair_of, pair_core}
 use Rattle.classes.specs.Classing.{class_number, shown_packet}
 use Rattle.classes.specs.Mentioned.{pair_classes}
-use Rattle.turning.specs.declared.Values.{Values}
-use Rattle.turning.specs.declared.Values.TheVariants.{Written, Refused as ValuesRefused}
-use Rattle.turning.specs.declared.Number.{Number}
-use Rattle.turning.specs.declared.Number.TheVariants.{Packet, Refused as NumberRefused}
 
 -- a value list whose length is not k is refused by 13 with place k, before the rest of 13
 unfoldable pub length_test : ℕ → ℕ → Tested
@@ -26,17 +22,12 @@ number_stage k count number len = first_refused (length_test k len ∷ refused_a
 
 -- the tests of a number into values
 unfoldable pub values_tests : List Table → NodeLists → NodeLists → ℕ → ℕ → Tested
-values_tests ts L R number len = in_order (stages_of ts Passed (pair_of L R) Passed (number_stage (length (joint_sizes ts)) (product (pair_core ts L R)) number len))
-
--- the number and values of each answer: a refusal's are its own
-unfoldable pub values_answer : Tested → Values
-values_answer Passed = Written
-values_answer (Refused r) = ValuesRefused r
+values_tests ts L R number len = in_order (stages_of ts (Ok tt) (pair_of L R) (Ok tt) (number_stage (length (joint_sizes ts)) (product (pair_core ts L R)) number len))
 
 -- what the lent list holds after the tests: the values shown for the packet, or what it held before
 unfoldable pub kept_unless : Tested → List ℕ → List ℕ → List ℕ
-kept_unless Passed new old = new
-kept_unless (Refused r) new old = old
+kept_unless (Ok _) new old = new
+kept_unless (Err r) new old = old
 
 unfoldable pub values_left : List Table → NodeLists → NodeLists → ℕ → List ℕ → List ℕ
 values_left ts L R number old = kept_unless (values_tests ts L R number (length old)) (shown_packet (pair_classes ts L R) number) old
@@ -60,12 +51,8 @@ classes_in (c ∷ cs) (v ∷ vs) = class_in c v ∷ classes_in cs vs
 
 -- the tests of values into a number
 unfoldable pub number_tests : List Table → NodeLists → NodeLists → List ℕ → Tested
-number_tests ts L R values = in_order (stages_of ts Passed (pair_of L R) Passed (values_stage (joint_sizes ts) values))
-
-unfoldable pub number_answer : Tested → ℕ → Number
-number_answer Passed number = Packet number
-number_answer (Refused r) number = NumberRefused r
+number_tests ts L R values = in_order (stages_of ts (Ok tt) (pair_of L R) (Ok tt) (values_stage (joint_sizes ts) values))
 
 -- the answer to values: the number of the packet of classes that they belong to
-unfoldable pub number_call : List Table → NodeLists → NodeLists → List ℕ → Number
-number_call ts L R values = number_answer (number_tests ts L R values) (class_number (pair_classes ts L R) values)
+unfoldable pub number_call : List Table → NodeLists → NodeLists → List ℕ → Result ℕ Refusal
+number_call ts L R values = counted (number_tests ts L R values) (class_number (pair_classes ts L R) values)

@@ -1,14 +1,18 @@
 -- A field's named values as they are held: how many there are, the class of a value, and the value shown for a class. Assumes nothing.
-use Prim.Native.Nat.{ℕ, zero, suc, ◌<◌, ◌≤◌, ◌+◌, ◌-◌, ◌*◌, ◌%◌}
+use Prim.Native.Nat.{ℕ, zero, suc, ◌<◌, ◌≤◌, ◌+◌, ◌-◌, ◌%◌}
 use native.Mathlib.Omega.{arith}
 use native.Mathlib.Nat.{sub-zero}
 use native.Mathlib.Numerals.{add-one}
 use mathlib.Core.List.{List, [], ◌∷◌, map}
 use mathlib.Core.Path.{◌≡◌, refl, sym, ap, ◌∙◌, subst}
+use mathlib.Core.HLevel.{Unit-prop, ×_prop}
+use mathlib.Core.Logic.{∥∥₁_elim}
+use native.Mathlib.Bridge.{le_prop}
 use lib.ListN.{length, get_or, take, drop, length-map}
-use lib.Seq.{slice, take-nil, length-slice, get_or-drop, get_or-take}
+use lib.Seq.{slice, take-nil, length-slice}
 use borrow.Author.Tests.{lt-ltb, le-ltb}
 use Rattle.policy.specs.InnerAscending.{Ascending}
+use Rattle.policy.specs.InnerEach.{Each}
 use Rattle.policy.specs.NodeLists.{NodeLists}
 use Rattle.policy.specs.NamedValues.{named_values, class_count, core_sizes}
 use Rattle.policy.proofs.EachLaws.{each_at}
@@ -50,75 +54,73 @@ module _ {f : ℕ} {names keys : List ℕ} {from to : ℕ} (h : FieldNames f nam
   part_unnamed : (r : ℕ) → key_of f r ≡ unnamed_from (key_of f 0) (take (to - from) (drop from keys)) → r ≡ unnamed_from 0 names
   part_unnamed r e = omega (arith, e ∙ ap (unnamed_from (key_of f 0)) part_same ∙ unnamed_by_key f 0 names)
 
-  part_at : (x : ℕ) → x < to - from → get_or keys (from + x) 0 ≡ key_of f (get_or names x 0)
-  part_at x l =
-      sym (get_or-drop from (take to keys) x 0 ∙ get_or-take to keys (from + x) 0 (omega arith))
-      ∙ ap (λ (ks : List ℕ). get_or ks x 0) h.part.same
-      ∙ key_at names x (omega (arith, names_length))
+  part_long : length (take (to - from) (drop from keys)) ≡ length names
+  part_long = ap length part_same ∙ length-map names (key_of f)
+
+  part_at : (x : ℕ) → x < length names → get_or (take (to - from) (drop from keys)) x 0 ≡ key_of f (get_or names x 0)
+  part_at x l = ap (λ (ks : List ℕ). get_or ks x 0) part_same ∙ key_at names x l
     where
       key_at : (vs : List ℕ) (i : ℕ) → i < length vs → get_or (map (key_of f) vs) i 0 ≡ key_of f (get_or vs i 0)
       key_at [] i b = omega arith
       key_at (v ∷ vs) zero b = refl
       key_at (v ∷ vs) (suc i) b = key_at vs i (omega arith)
 
-  shown_at : (x : ℕ) → x < to - from → get_or keys (from + x) 0 % 65536 ≡ shown_in names x
+  shown_at : (x : ℕ) → x < length (take (to - from) (drop from keys)) → get_or (take (to - from) (drop from keys)) x 0 % 65536 ≡ shown_in names x
   unfolding shown_in
   shown_at x l =
-      rw (lt-ltb x (length names) (omega (arith, names_length)))
-      (let small : get_or names x 0 < 65536 = each_at (λ v. v < 65536) names 0 (omega arith) h.part.small x in omega (arith, part_at x l))
+      rw (lt-ltb x (length names) (omega (arith, part_long)))
+      (let small : get_or names x 0 < 65536 = each_at (λ v. v < 65536) names 0 (omega arith) h.part.small x in omega (arith, part_at x (omega (arith, part_long))))
 
-  shown_last : (x r : ℕ) → to - from ≤ x → key_of f r ≡ unnamed_from (key_of f 0) (take (to - from) (drop from keys)) → r ≡ shown_in names x
+  shown_last : (x r : ℕ) → length (take (to - from) (drop from keys)) ≤ x → key_of f r ≡ unnamed_from (key_of f 0) (take (to - from) (drop from keys)) → r ≡ shown_in names x
   unfolding shown_in
-  shown_last x r l e = rw (le-ltb x (length names) (omega (arith, names_length))) (part_unnamed r e)
+  shown_last x r l e = rw (le-ltb x (length names) (omega (arith, part_long))) (part_unnamed r e)
+
+-- ---- that numbers ascend has at most one proof, so it follows where names are merely there
+
+above_prop : (x : ℕ) (xs : List ℕ) → IsProp (Each (λ y. x < y) xs)
+unfolding Each
+above_prop x [] = Unit-prop
+above_prop x (y ∷ ys) = ×_prop le_prop (above_prop x ys)
+
+ascending_prop : (xs : List ℕ) → IsProp (Ascending xs)
+unfolding Ascending
+ascending_prop [] = Unit-prop
+ascending_prop (x ∷ xs) = ×_prop (above_prop x xs) (ascending_prop xs)
 
 -- ---- by the starts, as the code reads them
 
-module _ {keys starts : List ℕ} (some : SomeNames keys starts) {f : ℕ} (l : f < 8) where
-  field : FieldNames f (named_values some.policies f) keys (get_or starts f 0) (get_or starts (f + 1) 0)
-  field = rw add-one (some.names.each f l)
+module _ {keys starts : List ℕ} {f : ℕ} (l : f < 8) where
+  field : (some : SomeNames keys starts) → FieldNames f (named_values some.policies f) keys (get_or starts f 0) (get_or starts (f + 1) 0)
+  field some = rw add-one (some.names.each f l)
 
-  pub starts_order : get_or starts f 0 ≤ get_or starts (f + 1) 0
-  starts_order = field.order
+  module _ (named : ∥ SomeNames keys starts ∥₁) {part : List ℕ} (same : part ≡ part_of keys starts f) where
+    pub field_ascending : Ascending part
+    field_ascending = ∥∥₁_elim named (ascending_prop part) (λ some. subst Ascending (sym same) (part_ascending (field some)))
 
-  pub starts_inside : get_or starts (f + 1) 0 ≤ length keys
-  starts_inside = field.inside
-
-  pub starts_few : get_or starts (f + 1) 0 ≤ 1024
-  starts_few = omega (arith, field.inside, some.names.room)
-
-  pub field_ascending : Ascending (part_of keys starts f)
-  field_ascending = part_ascending field
-
-  pub field_few : length (part_of keys starts f) ≤ 1024
-  field_few = part_few field
+    pub field_few : length part ≤ 1024
+    field_few = ∥∥₁_elim named le_prop (λ some. subst (λ (p : List ℕ). length p ≤ 1024) (sym same) (part_few (field some)))
 
 module _ (keys starts : List ℕ) (f : ℕ) (l : f < 8) where
   of : (Ls : List NodeLists) → NamesOf Ls keys starts → FieldNames f (named_values Ls f) keys (get_or starts f 0) (get_or starts (f + 1) 0)
-  of Ls h = field (record { policies = Ls; names = h }) l
+  of Ls h = field l (record { policies = Ls; names = h })
 
-  pub class_is : (v k r : ℕ) → k ≡ key_of f v → r ≡ place_in k (part_of keys starts f) → ClassIs keys starts f v r
-  class_is v k r e p =
-      record { class = λ Ls h. p ∙ ap (λ n. place_in n (part_of keys starts f)) e ∙ part_place (of Ls h) v }
+  module _ {part : List ℕ} (same : part ≡ part_of keys starts f) where
+    pub class_is : (v k r : ℕ) → k ≡ key_of f v → r ≡ place_in k part → ClassIs keys starts f v r
+    class_is v k r e p = record { class = λ Ls h. p ∙ rw (e, same) (part_place (of Ls h) v) }
 
-  pub shown_is : (x : ℕ) → x < get_or starts (f + 1) 0 - get_or starts f 0 → ShownIs keys starts f x (get_or keys (get_or starts f 0 + x) 0 % 65536)
-  shown_is x b = record { shown = λ Ls h. shown_at (of Ls h) x b }
+    pub shown_is : (x : ℕ) → x < length part → ShownIs keys starts f x (get_or part x 0 % 65536)
+    shown_is x b = record { shown = λ Ls h. rw same (shown_at (of Ls h) x (rw same at b)) }
 
-  pub shown_lowest : (x r : ℕ) → get_or starts (f + 1) 0 - get_or starts f 0 ≤ x → key_of f r ≡ unnamed_from (key_of f 0) (part_of keys starts f)
-      → ShownIs keys starts f x r
-  shown_lowest x r b e = record { shown = λ Ls h. shown_last (of Ls h) x r b e }
+    pub shown_lowest : (x r : ℕ) → length part ≤ x → key_of f r ≡ unnamed_from (key_of f 0) part → ShownIs keys starts f x r
+    shown_lowest x r b e = record { shown = λ Ls h. shown_last (of Ls h) x r (rw same at b) (rw same at e) }
 
 -- ---- where fields start
 
--- the start of field f, as the code works it out
 abbrev pub StartAt : List ℕ → ℕ → ℕ → Type 0
-StartAt keys f r = r ≡ count_below (f * 65536) keys
+StartAt keys f r = r ≡ count_below (key_of f 0) keys
 
 pub starts_found : (keys starts : List ℕ) (n : ℕ) → 9 ≤ n → Filled (StartAt keys) 9 n starts → StartsOf keys starts
-starts_found keys starts n all filled =
-    record { nine = filled.long; each = λ f l. filled.each f (omega arith) ∙ ap (λ k. count_below k keys) (same f) }
-  where
-    same : (f : ℕ) → f * 65536 ≡ key_of f 0
-    same f = omega arith
+starts_found keys starts n all filled = record { nine = filled.long; each = λ f l. filled.each f (omega arith) }
 
 -- ---- class counts
 

@@ -1,12 +1,13 @@
 -- The keys of two policies, in order, hold the named values of each field. Assumes nothing.
-use Prim.Native.Nat.{ℕ, zero, suc, ◌<◌, ◌≤◌, ◌+◌}
+use Prim.Native.Nat.{ℕ, zero, suc, ◌<◌, ◌≤◌}
 use native.Mathlib.Omega.{arith}
+use native.Mathlib.Decide.{dec_lt}
 use mathlib.Core.Bool.{Bool, true, false, cond}
 use mathlib.Core.List.{List, [], ◌∷◌, ◌++◌, map}
 use mathlib.Core.Logic.{◌⊎◌, inl, inr, ⊎_elim, ◌↔◌}
 use mathlib.Core.Path.{◌≡◌, refl, sym, ap, ◌∙◌, subst}
 use lib.Dec.{eqb}
-use lib.ListN.{length, get_or, take, drop, replicate, length-map, length-take, length-replicate}
+use lib.ListN.{length, get_or, take, drop, replicate, length-map, length-take, length-replicate, get_or-eq_default}
 use lib.Seq.{slice, take-take, length-slice}
 use borrow.Author.Tests.{eqb-true, eqb-false}
 use Rattle.policy.specs.declared.Node.{Node}
@@ -75,6 +76,15 @@ module _ (f : ℕ) where
 
 abbrev pub Small : NodeLists → Type 0
 Small L = (i : ℕ) → get_or L.second i 0 < 65536
+
+-- past their end lists read as 0
+pub small_lists : {L : NodeLists} → Listed L → ((i : ℕ) → i < length L.kind → get_or L.second i 0 < 65536) → Small L
+unfolding node_count
+small_lists {L} h small i = go (dec_lt i (length L.kind))
+  where
+    go : Dec (i < length L.kind) → get_or L.second i 0 < 65536
+    go (yes l) = small i l
+    go (no d) = omega (arith, get_or-eq_default L.second 0 {n = i} (omega (arith, h.seconds)))
 
 module _ (L : NodeLists) (small : Small L) (f : ℕ) where
   at_small : (i : ℕ) → OfAction (λ a. value_of a < 65536) (node_at L i)
@@ -190,5 +200,10 @@ module _ {L R : NodeLists} where
       pub sorted_order : Ascending (take m out)
       sorted_order = subst Ascending (sym s.same) (sorted_ascending (take n found))
 
-      pub names_sorted : {starts : List ℕ} → Small L → Small R → length out ≡ 1024 → StartsOf (take m out) starts → NamesOf (L ∷ R ∷ []) out starts
-      names_sorted {starts} left right h at = names_found L R left right out starts m h sorted_few (s.same ∙ ap sorted g.all) at
+  pub names_sorted : {middle found out starts : List ℕ} {m n count : ℕ} → Listed L × Listed R
+      → KeysAdded (keys_below L (length L.kind)) (replicate 1024 0) 0 middle m × ((i : ℕ) → i < length L.kind → get_or L.second i 0 < 65536)
+      → KeysAdded (keys_below R (length R.kind)) middle m found n × ((i : ℕ) → i < length R.kind → get_or R.second i 0 < 65536)
+      → SortedInto (take n found) out count → length out ≡ 1024 → StartsOf (take count out) starts → NamesOf (L ∷ R ∷ []) out starts
+  names_sorted listed left right s long at =
+      let g = gathered listed.0 listed.1 left.0 right.0 in
+      names_found L R (small_lists listed.0 left.1) (small_lists listed.1 right.1) _ _ _ long (sorted_few g s) (s.same ∙ ap sorted g.all) at

@@ -1,30 +1,32 @@
 -- The place of a value among named values, and the lowest that is not named, found by keys. Assumes nothing.
-use Prim.Native.Nat.{ℕ, zero, suc, ◌<◌, ◌≤◌, ◌+◌, ◌-◌}
+use Prim.Native.Nat.{ℕ, zero, suc, ◌<◌, ◌≤◌, ◌+◌}
 use native.Mathlib.Omega.{arith}
 use native.Mathlib.Numerals.{add-one}
 use mathlib.Core.Bool.{Bool, true, false, cond}
 use mathlib.Core.List.{List, [], ◌∷◌, map}
-use mathlib.Core.Logic.{◌⊎◌, inl, inr, ⊎_elim}
+use mathlib.Core.Logic.{inl, inr, ⊎_elim}
 use mathlib.Core.Path.{◌≡◌, refl, sym, ap, ◌∙◌}
 use lib.Dec.{eqb}
 use lib.ListN.{length, get_or, drop, drop_of_length-le}
 use lib.Seq.{drop-cons}
 use borrow.Author.Tests.{eqb-true, eqb-false, eq-eqb, ne_eqb}
+use Rattle.std.specs.Prelude.{Ok, Err}
+use Rattle.std.specs.declared.result.Result.{Result}
+use Rattle.std.specs.Result.{result_unwrap_or}
+use Rattle.std.specs.Ordering.{nat_cmp}
+use Rattle.std.specs.List.{Contains}
+use Rattle.std.specs.List.Sorted.{IsBinarySearchResult}
+use Rattle.std.proofs.lemmas.List.{get_or_default}
+use Rattle.std.proofs.lemmas.List.Sorted.{searched}
+use Rattle.packet.proofs.Tests.{lt_or_le}
 use Rattle.policy.specs.InnerAscending.{Ascending, Among}
 use Rattle.policy.proofs.Ascending.{each_among}
 use Rattle.classes.specs.Named.{place_in, unnamed_from}
-use Rattle.ascending.specs.Sorting.{count_below}
-use Rattle.ascending.proofs.RankLaws.{count_below_none}
+use Rattle.ascending.proofs.RankLaws.{ascending_rise}
+use Rattle.ascending.proofs.SortLaws.{at_among, among_contains}
 use Rattle.value_classes.specs.Names.{key_of}
-use Rattle.value_classes.proofs.PartLaws.{below_first}
 
 -- ---- the place of a number
-
-at_among : (xs : List ℕ) (i : ℕ) → i < length xs → Among (get_or xs i 0) xs
-unfolding Among
-at_among [] i h = omega arith
-at_among (x ∷ xs) zero h = inl refl
-at_among (x ∷ xs) (suc i) h = inr (at_among xs i (omega arith))
 
 pub place_at : (k : ℕ) (xs : List ℕ) (i : ℕ) → Ascending xs → i < length xs → get_or xs i 0 ≡ k → place_in k xs ≡ i
 unfolding place_in Ascending
@@ -39,20 +41,17 @@ unfolding place_in Among
 no_place k [] h = refl
 no_place k (x ∷ xs) h = rw (ne_eqb k x (λ (s : k ≡ x). h (inl s))) (ap suc (no_place k xs (λ m. h (inr m))))
 
--- a number that is there stands where its rank says
-rank_at : (k : ℕ) (xs : List ℕ) → Ascending xs → Among k xs → (count_below k xs < length xs) × (get_or xs (count_below k xs) 0 ≡ k)
-unfolding Ascending Among
-rank_at k [] a m = absurd m
-rank_at k (x ∷ xs) a m = ⊎_elim first (λ later. next (each_among (λ y. x < y) xs a.0 k later) (rank_at k xs a.1 later)) m
+-- what a binary search answers, or the length
+pub place_found : (k : ℕ) (xs : List ℕ) (r : Result ℕ ℕ) → Ascending xs → IsBinarySearchResult (λ y. nat_cmp y k) xs r → result_unwrap_or r (length xs) ≡ place_in k xs
+place_found k xs (Ok i) a s = let found = searched xs k (Ok i) s (λ i j h l. ascending_rise xs a i j 0 h l) in sym (place_at k xs i a found.0 found.1)
+place_found k xs (Err i) a s =
+    let around = searched xs k (Err i) s (λ i j h l. ascending_rise xs a i j 0 h l) in
+    sym (no_place k xs (λ m. none (among_contains xs k m) around.1 around.2))
   where
-    first : k ≡ x → (count_below k (x ∷ xs) < length (x ∷ xs)) × (get_or (x ∷ xs) (count_below k (x ∷ xs)) 0 ≡ k)
-    first e = rw (count_below_none k x xs a (omega arith)) (omega arith, sym e)
-
-    next : x < k → (count_below k xs < length xs) × (get_or xs (count_below k xs) 0 ≡ k) → (count_below k (x ∷ xs) < length (x ∷ xs)) × (get_or (x ∷ xs) (count_below k (x ∷ xs)) 0 ≡ k)
-    next l r = rw (below_first k x xs l) (omega (arith, r.0), r.1)
-
-pub place_missing : (k : ℕ) (xs : List ℕ) (i : ℕ) → Ascending xs → i ≡ count_below k xs → (i < length xs → get_or xs i 0 ≡ k → ⊥) → place_in k xs ≡ length xs
-place_missing k xs i a e h = no_place k xs (λ m. let r = rank_at k xs a m in h (omega (arith, r.0)) (ap (λ n. get_or xs n 0) e ∙ r.1))
+    none : Contains xs k → ((j : ℕ) → j < i → get_or xs j 0 < k) → ((j : ℕ) → i ≤ j → j < length xs → k < get_or xs j 0) → ⊥
+    none (j, l, e) low high =
+        let same : get_or xs j 0 ≡ k = get_or_default xs j 0 k l ∙ e in
+        ⊎_elim (λ (h : j < i). let b = low j h in omega arith) (λ (h : i ≤ j). let b = high j h l in omega arith) (lt_or_le j i)
 
 -- ---- by keys
 

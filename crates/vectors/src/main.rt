@@ -8,163 +8,121 @@
 // entries it has, at least one, and these. An entry of 64 bits is its four quarters, the highest first.
 #![tactic(auto)]
 
-ghost use Rattle.std.specs.Prelude.{◌≡◌, ◌≤◌, length};
+ghost use Rattle.std.specs.Prelude.{◌≤◌, length};
 
-use harness::{Built, ScannedMask};
+use harness::{Entry, Input};
 use std::io::{Stdin, Stdout};
 
-// Where a list is being read: the parts and the turns of the part that are left, where the part's entries start and how many
-// they are, those left of this turn; whether there was a further entry, and which.
-#[derive(Drop)]
-struct Place {
-    parts: u32,
-    turns: u32,
-    start: usize,
-    count: u32,
-    left: u32,
-    at: usize,
-    more: bool,
-    entry: u64,
+// The tables of a call.
+#[derive(Clone, Copy)]
+struct Tables<'a> {
+    left_names: &'a [u8],
+    left_sizes: &'a [u16],
+    right_names: &'a [u8],
+    right_sizes: &'a [u16],
 }
 
-fn less(n: u32) -> u32 {
-    if n == 0 {
-        return 0;
-    }
-    n - 1
+// The two policies of a call.
+#[derive(Clone, Copy)]
+struct Pair<'a> {
+    left_kind: &'a [u8],
+    left_first: &'a [u16],
+    left_second: &'a [u16],
+    right_kind: &'a [u8],
+    right_first: &'a [u16],
+    right_second: &'a [u16],
 }
 
-fn list_at(input: &[u8], from: usize) -> Place {
-    let parts = harness::scan(input, from);
-    Place {
-        parts: parts.value,
-        turns: 0,
-        start: parts.at,
-        count: 0,
-        left: 0,
-        at: parts.at,
-        more: false,
-        entry: 0,
-    }
+// What is called.
+enum Call {
+    Values,
+    Number,
+    Policy,
+    Read,
+    Search,
+    Evidence,
+    Trace,
+    Texts,
+    Policies,
 }
 
-fn entry(input: &[u8], from: usize, wide: bool) -> ScannedMask {
-    if wide {
-        return harness::scan_mask(input, from);
-    }
-    let s = harness::scan(input, from);
-    ScannedMask {
-        value: harness::wide32(s.value),
-        at: s.at,
-    }
-}
-
-// With the next entry read, at a place where entries of the turn are left.
-fn taken(input: &[u8], p: Place, wide: bool) -> Place {
-    let e = entry(input, p.at, wide);
-    Place {
-        parts: p.parts,
-        turns: p.turns,
-        start: p.start,
-        count: p.count,
-        left: less(p.left),
-        at: e.at,
-        more: true,
-        entry: e.value,
-    }
-}
-
-// The next entry, in this turn, in the part's next turn or in the next part; or the list's end.
-fn next(input: &[u8], p: Place, wide: bool) -> Place {
-    if p.left != 0 {
-        return taken(input, p, wide);
-    }
-    if p.turns != 0 {
-        return taken(
-            input,
-            Place {
-                parts: p.parts,
-                turns: less(p.turns),
-                start: p.start,
-                count: p.count,
-                left: p.count,
-                at: p.start,
-                more: true,
-                entry: 0,
-            },
-            wide,
-        );
-    }
-    if p.parts != 0 {
-        let turns = harness::scan(input, p.at);
-        let count = harness::scan(input, turns.at);
-        return taken(
-            input,
-            Place {
-                parts: less(p.parts),
-                turns: less(turns.value),
-                start: count.at,
-                count: count.value,
-                left: count.value,
-                at: count.at,
-                more: true,
-                entry: 0,
-            },
-            wide,
-        );
-    }
-    Place {
-        parts: 0,
-        turns: 0,
-        start: p.start,
-        count: 0,
-        left: 0,
-        at: p.at,
-        more: false,
-        entry: 0,
-    }
-}
-
-fn fill16(input: &[u8], from: usize, list: &mut [u16]) -> Built
-    ensures { result.len ≤ length list.new }
-{
-    let mut p = list_at(input, from);
-    let mut i: usize = 0;
-    while i < list.len() {
-        p = next(input, p, false);
-        if !p.more {
-            return Built { len: i, at: p.at };
+// By its number; each further number is a trace's.
+impl From<u32> for Call {
+    fn from(number: u32) -> Call {
+        match number {
+            0 => Call::Values,
+            1 => Call::Number,
+            2 => Call::Policy,
+            3 => Call::Read,
+            4 => Call::Search,
+            5 => Call::Evidence,
+            7 => Call::Texts,
+            8 => Call::Policies,
+            _ => Call::Trace,
         }
-        list[i] = (p.entry % 65536) as u16;
-        i += 1;
     }
-    Built { len: i, at: p.at }
 }
 
-fn fill64(input: &[u8], from: usize, list: &mut [u64]) -> Built
-    ensures { result.len ≤ length list.new }
+// A list that a call only reads, at the front of the one given. What the input has beyond that is not read.
+fn fill<'l, T: Entry + Copy>(input: &mut Input, list: &'l mut [T]) -> &'l [T]
+    ensures { length result.now ≤ length list.old }
 {
-    let mut p = list_at(input, from);
-    let mut i: usize = 0;
-    while i < list.len() {
-        p = next(input, p, true);
-        if !p.more {
-            return Built { len: i, at: p.at };
-        }
-        list[i] = p.entry;
-        i += 1;
+    let parts = input.scan();
+    if list.is_empty() {
+        return list;
     }
-    Built { len: i, at: p.at }
+    let mut len = 0;
+    for _ in 0..parts {
+        let turns = input.scan().max(1);
+        let count = input.scan().max(1);
+        let part = *input;
+        for _ in 0..turns {
+            *input = part;
+            for _ in 0..count {
+                list[len] = T::scan(input);
+                len += 1;
+                if len == list.len() {
+                    return list;
+                }
+            }
+        }
+    }
+    &list[..len]
 }
 
 fn added(sum: u64, x: u64) -> u64 {
     (sum % 4294967296 * 65599 + x % 4294967296) % 4294967291
 }
 
-fn wide8(x: u8) -> u64
-    ensures { result ≡ x }
-{
-    x as u64
+// An entry of a list that a call writes.
+trait Summed: Copy {
+    // The sum with the entry.
+    fn onto(self, sum: u64) -> u64;
+}
+
+impl Summed for u8 {
+    fn onto(self, sum: u64) -> u64 {
+        added(sum, u64::from(self))
+    }
+}
+
+impl Summed for u16 {
+    fn onto(self, sum: u64) -> u64 {
+        added(sum, u64::from(self))
+    }
+}
+
+impl Summed for u32 {
+    fn onto(self, sum: u64) -> u64 {
+        added(sum, u64::from(self))
+    }
+}
+
+// Its halves, the upper half first.
+impl Summed for u64 {
+    fn onto(self, sum: u64) -> u64 {
+        added(added(sum, self / 4294967296), self)
+    }
 }
 
 fn show_sum(stdout: Stdout, sum: u64) {
@@ -172,755 +130,362 @@ fn show_sum(stdout: Stdout, sum: u64) {
     harness::number(stdout, sum);
 }
 
-// The sum over the first entries.
-fn sum8(stdout: Stdout, list: &[u8; 600], count: usize) {
-    let n = harness::least(count, 600);
-    let mut sum: u64 = 1;
-    let mut i: usize = 0;
-    while i < n {
-        sum = added(sum, wide8(list[i]));
-        i += 1;
-    }
-    show_sum(stdout, sum);
-}
-
-fn sum16(stdout: Stdout, list: &[u16; 66000], count: usize) {
-    let n = harness::least(count, 66000);
-    let mut sum: u64 = 1;
-    let mut i: usize = 0;
-    while i < n {
-        sum = added(sum, harness::wide(list[i]));
-        i += 1;
-    }
-    show_sum(stdout, sum);
-}
-
-fn sum32(stdout: Stdout, list: &[u32; 66000], count: usize) {
-    let n = harness::least(count, 66000);
-    let mut sum: u64 = 1;
-    let mut i: usize = 0;
-    while i < n {
-        sum = added(sum, harness::wide32(list[i]));
-        i += 1;
-    }
-    show_sum(stdout, sum);
-}
-
-// The sum over the halves of the first entries, the upper half first.
-fn sum64(stdout: Stdout, list: &[u64; 66000], count: usize) {
-    let n = harness::least(count, 66000);
-    let mut sum: u64 = 1;
-    let mut i: usize = 0;
-    while i < n {
-        let x = list[i];
-        sum = added(added(sum, x / 4294967296), x);
-        i += 1;
-    }
-    show_sum(stdout, sum);
+// The sum over the entries.
+fn sum<T: Summed>(stdout: Stdout, list: &[T]) {
+    show_sum(stdout, list.iter().fold(1, |sum, x| x.onto(sum)));
 }
 
 fn show(stdout: Stdout, answer: &[u64; 8]) {
-    let mut i: usize = 0;
-    while i < 8 {
-        show_sum(stdout, answer[i]);
-        i += 1;
+    for number in answer {
+        show_sum(stdout, *number);
     }
 }
 
-fn values(
-    stdout: Stdout,
-    input: &[u8],
-    from: usize,
-    left_names: &[u8],
-    left_sizes: &[u16],
-    right_names: &[u8],
-    right_sizes: &[u16],
-    left_kind: &[u8],
-    left_first: &[u16],
-    left_second: &[u16],
-    right_kind: &[u8],
-    right_first: &[u16],
-    right_second: &[u16],
-) -> usize {
-    let number = harness::scan(input, from);
-    let v = harness::lent(input, number.at, 66000);
+fn values(stdout: Stdout, input: &mut Input, t: Tables, p: Pair) {
+    let number = u16::scan(input);
     let mut values = [7u16; 66000];
-    let vn = v.len;
+    let values = input.lent(&mut values);
     let mut answer = [7u64; 8];
     exports::netkat_values(
-        left_names,
-        left_sizes,
-        right_names,
-        right_sizes,
-        left_kind,
-        left_first,
-        left_second,
-        right_kind,
-        right_first,
-        right_second,
-        (number.value % 65536) as u16,
-        &mut values[..vn],
+        t.left_names,
+        t.left_sizes,
+        t.right_names,
+        t.right_sizes,
+        p.left_kind,
+        p.left_first,
+        p.left_second,
+        p.right_kind,
+        p.right_first,
+        p.right_second,
+        number,
+        values,
         &mut answer,
     );
     show(stdout, &answer);
-    sum16(stdout, &values, vn);
-    v.at
+    sum(stdout, values);
 }
 
-fn number(
-    stdout: Stdout,
-    input: &[u8],
-    from: usize,
-    left_names: &[u8],
-    left_sizes: &[u16],
-    right_names: &[u8],
-    right_sizes: &[u16],
-    left_kind: &[u8],
-    left_first: &[u16],
-    left_second: &[u16],
-    right_kind: &[u8],
-    right_first: &[u16],
-    right_second: &[u16],
-) -> usize {
+fn number(stdout: Stdout, input: &mut Input, t: Tables, p: Pair) {
     let mut values = [0u16; 32];
-    let v = fill16(input, from, &mut values);
-    let vn = v.len;
+    let values = fill(input, &mut values);
     let mut answer = [7u64; 8];
     exports::netkat_number(
-        left_names,
-        left_sizes,
-        right_names,
-        right_sizes,
-        left_kind,
-        left_first,
-        left_second,
-        right_kind,
-        right_first,
-        right_second,
-        &values[..vn],
+        t.left_names,
+        t.left_sizes,
+        t.right_names,
+        t.right_sizes,
+        p.left_kind,
+        p.left_first,
+        p.left_second,
+        p.right_kind,
+        p.right_first,
+        p.right_second,
+        values,
         &mut answer,
     );
     show(stdout, &answer);
-    v.at
 }
 
-fn policy(
-    stdout: Stdout,
-    input: &[u8],
-    from: usize,
-    left_names: &[u8],
-    left_sizes: &[u16],
-    right_names: &[u8],
-    right_sizes: &[u16],
-) -> usize {
+fn policy(stdout: Stdout, input: &mut Input, t: Tables) {
     let mut kind = [0u8; 600];
-    let k = harness::build(input, from, &mut kind);
+    let kind = input.build(&mut kind);
     let mut first = [0u16; 600];
-    let fi = fill16(input, k.at, &mut first);
+    let first = fill(input, &mut first);
     let mut second = [0u16; 600];
-    let se = fill16(input, fi.at, &mut second);
-    let kn = k.len;
-    let fin = fi.len;
-    let sen = se.len;
+    let second = fill(input, &mut second);
     let mut answer = [7u64; 8];
     exports::netkat_policy(
-        left_names,
-        left_sizes,
-        right_names,
-        right_sizes,
-        &kind[..kn],
-        &first[..fin],
-        &second[..sen],
+        t.left_names,
+        t.left_sizes,
+        t.right_names,
+        t.right_sizes,
+        kind,
+        first,
+        second,
         &mut answer,
     );
     show(stdout, &answer);
-    se.at
 }
 
-fn read(
-    stdout: Stdout,
-    input: &[u8],
-    from: usize,
-    left_names: &[u8],
-    left_sizes: &[u16],
-    right_names: &[u8],
-    right_sizes: &[u16],
-) -> usize {
-    let side = harness::scan(input, from);
+fn read(stdout: Stdout, input: &mut Input, t: Tables) {
+    let side = u8::scan(input);
     let mut text = [0u8; 8192];
-    let t = harness::build(input, side.at, &mut text);
-    let k = harness::lent(input, t.at, 600);
+    let text = input.build(&mut text);
     let mut kind = [7u8; 600];
-    let fi = harness::lent(input, k.at, 66000);
+    let kind = input.lent(&mut kind);
     let mut first = [7u16; 66000];
-    let se = harness::lent(input, fi.at, 66000);
+    let first = input.lent(&mut first);
     let mut second = [7u16; 66000];
-    let tn = t.len;
-    let kn = k.len;
-    let fin = fi.len;
-    let sen = se.len;
+    let second = input.lent(&mut second);
     let mut answer = [7u64; 8];
     exports::netkat_read(
-        left_names,
-        left_sizes,
-        right_names,
-        right_sizes,
-        (side.value % 256) as u8,
-        &text[..tn],
-        &mut kind[..kn],
-        &mut first[..fin],
-        &mut second[..sen],
+        t.left_names,
+        t.left_sizes,
+        t.right_names,
+        t.right_sizes,
+        side,
+        text,
+        kind,
+        first,
+        second,
         &mut answer,
     );
     show(stdout, &answer);
-    sum8(stdout, &kind, kn);
-    sum16(stdout, &first, fin);
-    sum16(stdout, &second, sen);
-    se.at
+    sum(stdout, kind);
+    sum(stdout, first);
+    sum(stdout, second);
 }
 
-fn search(
-    stdout: Stdout,
-    input: &[u8],
-    from: usize,
-    left_names: &[u8],
-    left_sizes: &[u16],
-    right_names: &[u8],
-    right_sizes: &[u16],
-    left_kind: &[u8],
-    left_first: &[u16],
-    left_second: &[u16],
-    right_kind: &[u8],
-    right_first: &[u16],
-    right_second: &[u16],
-) -> usize {
-    let p = harness::lent(input, from, 66000);
+// The lists that a search writes, lent to it and shown.
+fn searched<
+    F: FnOnce(
+        &mut [u16],
+        &mut [u64],
+        &mut [u64],
+        &mut [u16],
+        &mut [u16],
+        &mut [u32],
+        &mut [u64; 8],
+    ),
+>(stdout: Stdout, input: &mut Input, search: F)
+    requires { F.IsAlwaysCallable search }
+{
     let mut packet = [7u16; 66000];
-    let l = harness::lent(input, p.at, 66000);
+    let packet = input.lent(&mut packet);
     let mut left = [7u64; 66000];
-    let r = harness::lent(input, l.at, 66000);
+    let left = input.lent(&mut left);
     let mut right = [7u64; 66000];
-    let q = harness::lent(input, r.at, 66000);
+    let right = input.lent(&mut right);
     let mut parent = [7u16; 66000];
-    let t = harness::lent(input, q.at, 66000);
+    let parent = input.lent(&mut parent);
     let mut trace = [7u16; 66000];
-    let w = harness::lent(input, t.at, 66000);
+    let trace = input.lent(&mut trace);
     let mut work = [7u32; 66000];
-    let pn = p.len;
-    let ln = l.len;
-    let rn = r.len;
-    let qn = q.len;
-    let tn = t.len;
-    let wn = w.len;
+    let work = input.lent(&mut work);
     let mut answer = [7u64; 8];
-    exports::netkat_search(
-        left_names,
-        left_sizes,
-        right_names,
-        right_sizes,
-        left_kind,
-        left_first,
-        left_second,
-        right_kind,
-        right_first,
-        right_second,
-        &mut packet[..pn],
-        &mut left[..ln],
-        &mut right[..rn],
-        &mut parent[..qn],
-        &mut trace[..tn],
-        &mut work[..wn],
-        &mut answer,
-    );
+    search(packet, left, right, parent, trace, work, &mut answer);
     show(stdout, &answer);
-    sum16(stdout, &packet, pn);
-    sum64(stdout, &left, ln);
-    sum64(stdout, &right, rn);
-    sum16(stdout, &parent, qn);
-    sum16(stdout, &trace, tn);
-    sum32(stdout, &work, wn);
-    w.at
+    sum(stdout, packet);
+    sum(stdout, left);
+    sum(stdout, right);
+    sum(stdout, parent);
+    sum(stdout, trace);
+    sum(stdout, work);
 }
 
-fn evidence(
-    stdout: Stdout,
-    input: &[u8],
-    from: usize,
-    left_names: &[u8],
-    left_sizes: &[u16],
-    right_names: &[u8],
-    right_sizes: &[u16],
-    left_kind: &[u8],
-    left_first: &[u16],
-    left_second: &[u16],
-    right_kind: &[u8],
-    right_first: &[u16],
-    right_second: &[u16],
-) -> usize {
-    let mut packet = [0u16; 66000];
-    let p = fill16(input, from, &mut packet);
-    let mut left = [0u64; 66000];
-    let l = fill64(input, p.at, &mut left);
-    let mut right = [0u64; 66000];
-    let r = fill64(input, l.at, &mut right);
-    let w = harness::lent(input, r.at, 66000);
-    let mut work = [7u32; 66000];
-    let pn = p.len;
-    let ln = l.len;
-    let rn = r.len;
-    let wn = w.len;
-    let mut answer = [7u64; 8];
-    exports::netkat_evidence(
-        left_names,
-        left_sizes,
-        right_names,
-        right_sizes,
-        left_kind,
-        left_first,
-        left_second,
-        right_kind,
-        right_first,
-        right_second,
-        &packet[..pn],
-        &left[..ln],
-        &right[..rn],
-        &mut work[..wn],
-        &mut answer,
-    );
-    show(stdout, &answer);
-    sum32(stdout, &work, wn);
-    w.at
-}
-
-fn trace(
-    stdout: Stdout,
-    input: &[u8],
-    from: usize,
-    left_names: &[u8],
-    left_sizes: &[u16],
-    right_names: &[u8],
-    right_sizes: &[u16],
-    left_kind: &[u8],
-    left_first: &[u16],
-    left_second: &[u16],
-    right_kind: &[u8],
-    right_first: &[u16],
-    right_second: &[u16],
-) -> usize {
-    let entering = harness::scan(input, from);
-    let mut trace = [0u16; 66000];
-    let t = fill16(input, entering.at, &mut trace);
-    let w = harness::lent(input, t.at, 66000);
-    let mut work = [7u32; 66000];
-    let tn = t.len;
-    let wn = w.len;
-    let mut answer = [7u64; 8];
-    exports::netkat_trace(
-        left_names,
-        left_sizes,
-        right_names,
-        right_sizes,
-        left_kind,
-        left_first,
-        left_second,
-        right_kind,
-        right_first,
-        right_second,
-        (entering.value % 65536) as u16,
-        &trace[..tn],
-        &mut work[..wn],
-        &mut answer,
-    );
-    show(stdout, &answer);
-    sum32(stdout, &work, wn);
-    w.at
-}
-
-fn texts_read(
-    stdout: Stdout,
-    input: &[u8],
-    from: usize,
-    left_names: &[u8],
-    left_sizes: &[u16],
-    right_names: &[u8],
-    right_sizes: &[u16],
-    left_text: &[u8],
-    right_text: &[u8],
-) -> usize {
-    let p = harness::lent(input, from, 66000);
-    let mut packet = [7u16; 66000];
-    let l = harness::lent(input, p.at, 66000);
-    let mut left = [7u64; 66000];
-    let r = harness::lent(input, l.at, 66000);
-    let mut right = [7u64; 66000];
-    let q = harness::lent(input, r.at, 66000);
-    let mut parent = [7u16; 66000];
-    let t = harness::lent(input, q.at, 66000);
-    let mut trace = [7u16; 66000];
-    let w = harness::lent(input, t.at, 66000);
-    let mut work = [7u32; 66000];
-    let pn = p.len;
-    let ln = l.len;
-    let rn = r.len;
-    let qn = q.len;
-    let tn = t.len;
-    let wn = w.len;
-    let mut answer = [7u64; 8];
-    exports::netkat_search_texts(
-        left_names,
-        left_sizes,
-        right_names,
-        right_sizes,
-        left_text,
-        right_text,
-        &mut packet[..pn],
-        &mut left[..ln],
-        &mut right[..rn],
-        &mut parent[..qn],
-        &mut trace[..tn],
-        &mut work[..wn],
-        &mut answer,
-    );
-    show(stdout, &answer);
-    sum16(stdout, &packet, pn);
-    sum64(stdout, &left, ln);
-    sum64(stdout, &right, rn);
-    sum16(stdout, &parent, qn);
-    sum16(stdout, &trace, tn);
-    sum32(stdout, &work, wn);
-    w.at
-}
-
-fn texts(
-    stdout: Stdout,
-    input: &[u8],
-    from: usize,
-    left_names: &[u8],
-    left_sizes: &[u16],
-    right_names: &[u8],
-    right_sizes: &[u16],
-) -> usize {
-    let mut left_text = [0u8; 8192];
-    let lt = harness::build(input, from, &mut left_text);
-    let mut right_text = [0u8; 8192];
-    let rt = harness::build(input, lt.at, &mut right_text);
-    let ltn = lt.len;
-    let rtn = rt.len;
-    texts_read(
+fn search(stdout: Stdout, input: &mut Input, t: Tables, p: Pair) {
+    searched(
         stdout,
         input,
-        rt.at,
-        left_names,
-        left_sizes,
-        right_names,
-        right_sizes,
-        &left_text[..ltn],
-        &right_text[..rtn],
-    )
+        |packet, left, right, parent, trace, work, answer| {
+            exports::netkat_search(
+                t.left_names,
+                t.left_sizes,
+                t.right_names,
+                t.right_sizes,
+                p.left_kind,
+                p.left_first,
+                p.left_second,
+                p.right_kind,
+                p.right_first,
+                p.right_second,
+                packet,
+                left,
+                right,
+                parent,
+                trace,
+                work,
+                answer,
+            )
+        },
+    );
 }
 
-fn policies(
-    stdout: Stdout,
-    from: usize,
-    left_names: &[u8],
-    left_sizes: &[u16],
-    right_names: &[u8],
-    right_sizes: &[u16],
-    left_kind: &[u8],
-    left_first: &[u16],
-    left_second: &[u16],
-    right_kind: &[u8],
-    right_first: &[u16],
-    right_second: &[u16],
-) -> usize {
+fn texts(stdout: Stdout, input: &mut Input, t: Tables) {
+    let mut left_text = [0u8; 8192];
+    let left_text = input.build(&mut left_text);
+    let mut right_text = [0u8; 8192];
+    let right_text = input.build(&mut right_text);
+    searched(
+        stdout,
+        input,
+        |packet, left, right, parent, trace, work, answer| {
+            exports::netkat_search_texts(
+                t.left_names,
+                t.left_sizes,
+                t.right_names,
+                t.right_sizes,
+                left_text,
+                right_text,
+                packet,
+                left,
+                right,
+                parent,
+                trace,
+                work,
+                answer,
+            )
+        },
+    );
+}
+
+fn evidence(stdout: Stdout, input: &mut Input, t: Tables, p: Pair) {
+    let mut packet = [0u16; 66000];
+    let packet = fill(input, &mut packet);
+    let mut left = [0u64; 66000];
+    let left = fill(input, &mut left);
+    let mut right = [0u64; 66000];
+    let right = fill(input, &mut right);
+    let mut work = [7u32; 66000];
+    let work = input.lent(&mut work);
     let mut answer = [7u64; 8];
-    exports::netkat_policies(
-        left_names,
-        left_sizes,
-        right_names,
-        right_sizes,
-        left_kind,
-        left_first,
-        left_second,
-        right_kind,
-        right_first,
-        right_second,
+    exports::netkat_evidence(
+        t.left_names,
+        t.left_sizes,
+        t.right_names,
+        t.right_sizes,
+        p.left_kind,
+        p.left_first,
+        p.left_second,
+        p.right_kind,
+        p.right_first,
+        p.right_second,
+        packet,
+        left,
+        right,
+        work,
         &mut answer,
     );
     show(stdout, &answer);
-    from
+    sum(stdout, work);
+}
+
+fn trace(stdout: Stdout, input: &mut Input, t: Tables, p: Pair) {
+    let entering = u16::scan(input);
+    let mut trace = [0u16; 66000];
+    let trace = fill(input, &mut trace);
+    let mut work = [7u32; 66000];
+    let work = input.lent(&mut work);
+    let mut answer = [7u64; 8];
+    exports::netkat_trace(
+        t.left_names,
+        t.left_sizes,
+        t.right_names,
+        t.right_sizes,
+        p.left_kind,
+        p.left_first,
+        p.left_second,
+        p.right_kind,
+        p.right_first,
+        p.right_second,
+        entering,
+        trace,
+        work,
+        &mut answer,
+    );
+    show(stdout, &answer);
+    sum(stdout, work);
+}
+
+fn policies(stdout: Stdout, _input: &mut Input, t: Tables, p: Pair) {
+    let mut answer = [7u64; 8];
+    exports::netkat_policies(
+        t.left_names,
+        t.left_sizes,
+        t.right_names,
+        t.right_sizes,
+        p.left_kind,
+        p.left_first,
+        p.left_second,
+        p.right_kind,
+        p.right_first,
+        p.right_second,
+        &mut answer,
+    );
+    show(stdout, &answer);
 }
 
 // A call on two policies.
-fn of_pair(
+fn of_pair<F: FnOnce(Stdout, &mut Input, Tables, Pair)>(
     stdout: Stdout,
-    call: u32,
-    input: &[u8],
-    from: usize,
-    left_names: &[u8],
-    left_sizes: &[u16],
-    right_names: &[u8],
-    right_sizes: &[u16],
-    left_kind: &[u8],
-    left_first: &[u16],
-    left_second: &[u16],
-    right_kind: &[u8],
-    right_first: &[u16],
-    right_second: &[u16],
-) -> usize {
-    if call == 0 {
-        return values(
-            stdout,
-            input,
-            from,
-            left_names,
-            left_sizes,
-            right_names,
-            right_sizes,
-            left_kind,
-            left_first,
-            left_second,
-            right_kind,
-            right_first,
-            right_second,
-        );
-    }
-    if call == 1 {
-        return number(
-            stdout,
-            input,
-            from,
-            left_names,
-            left_sizes,
-            right_names,
-            right_sizes,
-            left_kind,
-            left_first,
-            left_second,
-            right_kind,
-            right_first,
-            right_second,
-        );
-    }
-    if call == 4 {
-        return search(
-            stdout,
-            input,
-            from,
-            left_names,
-            left_sizes,
-            right_names,
-            right_sizes,
-            left_kind,
-            left_first,
-            left_second,
-            right_kind,
-            right_first,
-            right_second,
-        );
-    }
-    if call == 5 {
-        return evidence(
-            stdout,
-            input,
-            from,
-            left_names,
-            left_sizes,
-            right_names,
-            right_sizes,
-            left_kind,
-            left_first,
-            left_second,
-            right_kind,
-            right_first,
-            right_second,
-        );
-    }
-    if call == 8 {
-        return policies(
-            stdout,
-            from,
-            left_names,
-            left_sizes,
-            right_names,
-            right_sizes,
-            left_kind,
-            left_first,
-            left_second,
-            right_kind,
-            right_first,
-            right_second,
-        );
-    }
-    trace(
-        stdout,
-        input,
-        from,
-        left_names,
-        left_sizes,
-        right_names,
-        right_sizes,
+    input: &mut Input,
+    tables: Tables,
+    call: F,
+)
+    requires { F.IsAlwaysCallable call }
+{
+    let mut left_kind = [0u8; 600];
+    let left_kind = input.build(&mut left_kind);
+    let mut left_first = [0u16; 600];
+    let left_first = fill(input, &mut left_first);
+    let mut left_second = [0u16; 600];
+    let left_second = fill(input, &mut left_second);
+    let mut right_kind = [0u8; 600];
+    let right_kind = input.build(&mut right_kind);
+    let mut right_first = [0u16; 600];
+    let right_first = fill(input, &mut right_first);
+    let mut right_second = [0u16; 600];
+    let right_second = fill(input, &mut right_second);
+    let pair = Pair {
         left_kind,
         left_first,
         left_second,
         right_kind,
         right_first,
         right_second,
-    )
-}
-
-fn pair(
-    stdout: Stdout,
-    call: u32,
-    input: &[u8],
-    from: usize,
-    left_names: &[u8],
-    left_sizes: &[u16],
-    right_names: &[u8],
-    right_sizes: &[u16],
-) -> usize {
-    let mut left_kind = [0u8; 600];
-    let lk = harness::build(input, from, &mut left_kind);
-    let mut left_first = [0u16; 600];
-    let lf = fill16(input, lk.at, &mut left_first);
-    let mut left_second = [0u16; 600];
-    let ls = fill16(input, lf.at, &mut left_second);
-    let mut right_kind = [0u8; 600];
-    let rk = harness::build(input, ls.at, &mut right_kind);
-    let mut right_first = [0u16; 600];
-    let rf = fill16(input, rk.at, &mut right_first);
-    let mut right_second = [0u16; 600];
-    let rs = fill16(input, rf.at, &mut right_second);
-    let lkn = lk.len;
-    let lfn = lf.len;
-    let lsn = ls.len;
-    let rkn = rk.len;
-    let rfn = rf.len;
-    let rsn = rs.len;
-    of_pair(
-        stdout,
-        call,
-        input,
-        rs.at,
-        left_names,
-        left_sizes,
-        right_names,
-        right_sizes,
-        &left_kind[..lkn],
-        &left_first[..lfn],
-        &left_second[..lsn],
-        &right_kind[..rkn],
-        &right_first[..rfn],
-        &right_second[..rsn],
-    )
-}
-
-fn with_tables(
-    stdout: Stdout,
-    call: u32,
-    input: &[u8],
-    from: usize,
-    left_names: &[u8],
-    left_sizes: &[u16],
-    right_names: &[u8],
-    right_sizes: &[u16],
-) -> usize {
-    if call == 2 {
-        return policy(
-            stdout,
-            input,
-            from,
-            left_names,
-            left_sizes,
-            right_names,
-            right_sizes,
-        );
-    }
-    if call == 3 {
-        return read(
-            stdout,
-            input,
-            from,
-            left_names,
-            left_sizes,
-            right_names,
-            right_sizes,
-        );
-    }
-    if call == 7 {
-        return texts(
-            stdout,
-            input,
-            from,
-            left_names,
-            left_sizes,
-            right_names,
-            right_sizes,
-        );
-    }
-    pair(
-        stdout,
-        call,
-        input,
-        from,
-        left_names,
-        left_sizes,
-        right_names,
-        right_sizes,
-    )
+    };
+    call(stdout, input, tables, pair);
 }
 
 // A call has its tables first.
-fn one_call(stdout: Stdout, input: &[u8], from: usize) -> usize {
-    let call = harness::scan(input, from);
+fn one_call(stdout: Stdout, input: &mut Input) {
+    let call = Call::from(input.scan());
     let mut left_names = [0u8; 66000];
-    let ln = harness::build(input, call.at, &mut left_names);
+    let left_names = input.build(&mut left_names);
     let mut left_sizes = [0u16; 4200];
-    let ls = fill16(input, ln.at, &mut left_sizes);
+    let left_sizes = fill(input, &mut left_sizes);
     let mut right_names = [0u8; 66000];
-    let rn = harness::build(input, ls.at, &mut right_names);
+    let right_names = input.build(&mut right_names);
     let mut right_sizes = [0u16; 4200];
-    let rs = fill16(input, rn.at, &mut right_sizes);
-    let lnn = ln.len;
-    let lsn = ls.len;
-    let rnn = rn.len;
-    let rsn = rs.len;
-    with_tables(
-        stdout,
-        call.value,
-        input,
-        rs.at,
-        &left_names[..lnn],
-        &left_sizes[..lsn],
-        &right_names[..rnn],
-        &right_sizes[..rsn],
-    )
+    let right_sizes = fill(input, &mut right_sizes);
+    let tables = Tables {
+        left_names,
+        left_sizes,
+        right_names,
+        right_sizes,
+    };
+    match call {
+        Call::Values => of_pair(stdout, input, tables, values),
+        Call::Number => of_pair(stdout, input, tables, number),
+        Call::Policy => policy(stdout, input, tables),
+        Call::Read => read(stdout, input, tables),
+        Call::Search => of_pair(stdout, input, tables, search),
+        Call::Evidence => of_pair(stdout, input, tables, evidence),
+        Call::Trace => of_pair(stdout, input, tables, trace),
+        Call::Texts => texts(stdout, input, tables),
+        Call::Policies => of_pair(stdout, input, tables, policies),
+    }
 }
 
-fn run(stdout: Stdout, input: &[u8]) {
-    let mut at = harness::next_digit(input, 0);
-    let mut i: usize = 0;
-    while i < input.len() {
-        if input.len() <= at {
+fn run(stdout: Stdout, bytes: &[u8]) {
+    let mut input = Input { rest: bytes };
+    for _ in 0..bytes.len() {
+        if !input.next_digit() {
             return;
         }
-        at = harness::next_digit(input, one_call(stdout, input, at));
+        one_call(stdout, &mut input);
         harness::line_end(stdout);
-        i += 1;
     }
 }
 
 // A block of the input is 65,536 bytes, the last one may be shorter; no call goes over a block's end.
 fn block(stdin: Stdin, stdout: Stdout) {
     let mut input = [0u8; 65536];
-    let n = harness::read_full(stdin, &mut input);
-    run(stdout, &input[..n]);
+    run(stdout, harness::read_full(stdin, &mut input));
 }
 
 fn main(rt: HostRuntime) {
-    let mut i: usize = 0;
-    while i < 64 {
+    for _ in 0..64 {
         block(rt.stdin(), rt.stdout());
-        i += 1;
     }
 }

@@ -8,6 +8,7 @@ ghost use Rattle.pair.specs.Search.{rows_full};
 ghost use Rattle.verdict.specs.InnerEnding.{CanRead, Readable, telling_answer, ended_answer};
 ghost use Rattle.verdict.specs.Verdicts.{verdict_of, Told};
 
+use index::RowLists;
 use packet::Refusal;
 
 // How the row order ends. Inner.
@@ -32,7 +33,7 @@ pub struct Stop {
     pub ended: Ended,
 }
 
-// What the search answers.
+// What the search answers; four cases, which document 01 lists, so no Result.
 #[derive(Drop)]
 pub enum Verdict {
     // the row count
@@ -70,9 +71,10 @@ fn tell(
     parent_traces::write_trace(packets, parents, listed, row, last, trace);
     let alpha = parent_traces::entering(packets, parents, listed, row);
     if left_has {
-        return Verdict::Left(needed, alpha);
+        Verdict::Left(needed, alpha)
+    } else {
+        Verdict::Right(needed, alpha)
     }
-    Verdict::Right(needed, alpha)
 }
 
 // Inner: refusal 11 with so many rows lent, and the depth of the row being handled.
@@ -92,8 +94,7 @@ pub fn conclude(packets: &[u16], parents: &[u16], stop: Stop, trace: &mut [u16])
     requires { Readable packets.now parents.now stop }
     ensures { Told (ended_answer (length packets.now) (length trace.old) packets.now parents.now stop) trace.old result trace.new }
 {
-    let ended = stop.ended;
-    match ended {
+    match stop.ended {
         Ended::Done(rows) => Verdict::Equal(rows),
         Ended::Left(last) => tell(packets, parents, stop.listed, stop.row, true, last, trace),
         Ended::Right(last) => tell(packets, parents, stop.listed, stop.row, false, last, trace),
@@ -103,4 +104,12 @@ pub fn conclude(packets: &[u16], parents: &[u16], stop: Stop, trace: &mut [u16])
         ),
         Ended::Unstarted => full(packets.len(), 0),
     }
+}
+
+// Inner: the same of the row lists. (What a `&mut` lends is not lent again in part by a caller that has the struct behind a reference.)
+pub fn conclude_rows(rows: &RowLists, stop: Stop, trace: &mut [u16]) -> Verdict
+    requires { Readable rows.now.packets.now rows.now.parents.now stop }
+    ensures { let packets = rows.now.packets.now in Told (ended_answer (length packets) (length trace.old) packets rows.now.parents.now stop) trace.old result trace.new }
+{
+    conclude(rows.packets, rows.parents, stop, trace)
 }

@@ -4,4 +4,4 @@ use Rattle.changes.proofs.Folds.{joined_bits}
 use Rattle.changes.proofs.joined.Goals as goal
 
 pub returns : goal.returns
-returns c = joined_bits _ _ _ (search rules)
+returns c = rw (c.from.ensures, c.from-2.ensures) (joined_bits _ _ _ (search rules))

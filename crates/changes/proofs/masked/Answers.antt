@@ -5,5 +5,5 @@ use Rattle.changes.proofs.masked.Goals as goal
 pub returns-then-mask-eq0 : goal.returns-then-mask-eq0
 returns-then-mask-eq0 c = masked_none _ _ _ _ _ c.if-mask-eq0.true
 
-pub returns : goal.returns
-returns c = masked_some _ _ _ _ _ _ c.gather.ensures
+pub returns-else-mask-eq0 : goal.returns-else-mask-eq0
+returns-else-mask-eq0 c = masked_some _ _ _ _ _ _ c.gather.ensures

@@ -1,5 +1,4 @@
 -- `more_than` is safe and ends: the count stays small, since it ends the loop. Assumes nothing.
-use Prim.Native.Nat.{◌-◌}
 use native.Mathlib.Omega.{arith}
 use Rattle.changes.proofs.more_than.Goals as goal
 

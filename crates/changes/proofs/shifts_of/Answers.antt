@@ -3,11 +3,5 @@ use native.Mathlib.Nat.{div-le_self}
 use native.Mathlib.Omega.{arith}
 use Rattle.changes.proofs.shifts_of.Goals as goal
 
-pub overflow_add-most : goal.overflow_add-most
-overflow_add-most c = let h = div-le_self 31 c.args.stride in omega arith
-
-pub returns-then-size-most : goal.returns-then-size-most
-returns-then-size-most c = let h = div-le_self 31 c.args.stride in omega arith
-
 pub returns : goal.returns
 returns c = let h = div-le_self 31 c.args.stride in omega arith

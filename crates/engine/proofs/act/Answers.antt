@@ -1,5 +1,5 @@
 -- `act` meets its contract. Assumes nothing.
-use Rattle.engine.proofs.Visits.{act_equals, act_differs, act_set, act_asks}
+use Rattle.engine.proofs.Visits.{act_set, act_tests, act_asks}
 use Rattle.engine.proofs.act.Goals as goal
 
 pub change-requires : goal.change-requires
@@ -9,7 +9,4 @@ pub returns-in-Set : goal.returns-in-Set
 returns-in-Set c = act_set _ _ _ _ _ _ _ _ c.in-Set.is c.change.ensures
 
 pub returns-in-Equals : goal.returns-in-Equals
-returns-in-Equals c = act_equals _ _ _ _ _ _ _ _ c.in-Equals.is
-
-pub returns-in-Differs : goal.returns-in-Differs
-returns-in-Differs c = act_differs _ _ _ _ _ _ _ _ c.in-Differs.is
+returns-in-Equals c = act_tests _ _ _ _ _ _ c.in-Equals.is

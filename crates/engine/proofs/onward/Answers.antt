@@ -1,36 +1,26 @@
 -- `onward` meets its contract. Assumes nothing.
-use Rattle.engine.specs.Visiting.{onward}
+use Prim.Native.Nat.{ℕ}
+use mathlib.Core.Path.{◌≡◌, refl}
 use borrow.Author.Rules.{rules}
+use Rattle.policy.specs.declared.Node.{Node}
+use Rattle.policy.specs.declared.Node.TheVariants.{Drop, Id, Field, Dup, Sum, Seq, Star, Neg}
+use Rattle.engine.specs.Visiting.{onward}
 use Rattle.engine.proofs.onward.Goals as goal
 
-pub returns-in-Drop : goal.returns-in-Drop
+no_seq : (node : Node) (above : ℕ) → ((l r : ℕ) → node ≡ Seq l r → ⊥) → above ≡ onward node above
 unfolding onward
-returns-in-Drop c = search rules
-
-pub returns-in-Id : goal.returns-in-Id
-unfolding onward
-returns-in-Id c = search rules
-
-pub returns-in-Field : goal.returns-in-Field
-unfolding onward
-returns-in-Field c = search rules
-
-pub returns-in-Dup : goal.returns-in-Dup
-unfolding onward
-returns-in-Dup c = search rules
-
-pub returns-in-Sum : goal.returns-in-Sum
-unfolding onward
-returns-in-Sum c = search rules
+no_seq Drop above n = refl
+no_seq Id above n = refl
+no_seq (Field a) above n = refl
+no_seq Dup above n = refl
+no_seq (Sum l r) above n = refl
+no_seq (Seq l r) above n = absurd (n l r refl)
+no_seq (Star c) above n = refl
+no_seq (Neg c) above n = refl
 
 pub returns-in-Seq : goal.returns-in-Seq
 unfolding onward
 returns-in-Seq c = search rules
 
-pub returns-in-Star : goal.returns-in-Star
-unfolding onward
-returns-in-Star c = search rules
-
-pub returns-in-Neg : goal.returns-in-Neg
-unfolding onward
-returns-in-Neg c = search rules
+pub returns-in_default : goal.returns-in_default
+returns-in_default c = no_seq _ _ c.in_default.not-Seq

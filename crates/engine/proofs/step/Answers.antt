@@ -1,31 +1,27 @@
 -- `step` meets its contract: the marked remainders are stepped one after another. Assumes nothing.
 use borrow.Author.Rules.{rules}
-use Prim.Native.Nat.{◌-◌}
-use mathlib.Core.Path.{◌∙◌}
+use mathlib.Core.Path.{refl, sym}
 use native.Mathlib.Omega.{arith}
-use Rattle.engine.proofs.Stepping.{step_start, step_more, step_end, unsee_asks, follow_asks}
+use Rattle.engine.proofs.Stepping.{none_from, step_start, step_more, step_end, unsee_asks}
 use Rattle.engine.proofs.step.Goals as goal
+use Rattle.engine.proofs.step.Goals.{else-loop-i-test, then-loop-i-test+then-state-i-eq0}
 
-pub loop-out-init : goal.loop-out-init
-loop-out-init c = step_start c.requires (search rules)
+pub loop-i-init : goal.loop-i-init
+loop-i-init c = (step_start c.requires (search rules), (refl, refl))
 
-pub follow-came-requires : goal.follow-came-requires
-follow-came-requires c = (c.marks_left.ensures.inside c.loop-out-test.true, follow_asks c.loop-out.invariant c.requires)
-
-pub overflow_add-i : goal.overflow_add-i
-overflow_add-i c = omega (arith, c.marks_left.ensures.inside c.loop-out-test.true)
-
-pub loop-out-smaller : goal.loop-out-smaller
-loop-out-smaller c = omega (arith, c.marks_left.ensures.inside c.loop-out-test.true)
-
-pub loop-out-preserved : goal.loop-out-preserved
-loop-out-preserved c = step_more c.loop-out.invariant (c.marks_left.ensures.inside c.loop-out-test.true) c.follow-came.ensures c.follow-came.auto.work
+pub loop-i-preserved : goal.loop-i-preserved
+loop-i-preserved c = (step_more c.loop-i.invariant.0 (omega arith) c.follow-at.ensures.visited, search rules)
 
 pub unsee-requires : goal.unsee-requires
-unsee-requires c = unsee_asks c.loop-out.invariant c.requires
-
-pub shape_of-work : goal.shape_of-work
-shape_of-work c = c.unsee.auto.work ∙ c.loop-out.invariant.same
+unsee-requires c = unsee_asks c.loop-i.invariant.0 c.requires
 
 pub returns : goal.returns
-returns c = step_end c.loop-out.invariant (c.marks_left.ensures.none c.loop-out-test.false) c.requires c.unsee.ensures c.unsee.auto.work
+returns c =
+    let work = c.work-1.given.1.1 (sym c.loop-i.invariant.1.0) in
+    let next = c.next-1.given.1 (sym c.loop-i.invariant.1.1) in
+    rw (work, next) (step_end c.loop-i.invariant.0
+    (elim c.loop-i-test.branch [
+      | else-loop-i-test w ↦ λ j a b. absurd (omega arith)
+      | then-loop-i-test+then-state-i-eq0 w ↦ λ j a b. none_from _ _ w.if-state-i-eq0.true j a
+    ])
+    c.requires c.unsee.ensures c.unsee.auto.work)

@@ -1,11 +1,7 @@
 -- `step` meets its contract: the marked remainders are stepped one after another. Assumes nothing.
-use Prim.Native.Nat.{◌-◌}
-use Rattle.packet_set.specs.Bits.{mask_bits}
+use Rattle.engine.specs.Visiting.{SameLists}
 use Rattle.engine.proofs.Stepping.{StepsLists}
 use Rattle.engine.proofs.step.Given as goal
 
-abbrev pub invariant-loop-out : goal.invariant-loop-out
-invariant-loop-out l = StepsLists l.sizes l.nodes l.tests l.state l.packet l.initial.out l.initial.work l.initial.seen l.initial.next l.out l.work l.seen l.next l.at.from l.at.to l.i
-
-abbrev pub decreases-loop-out : goal.decreases-loop-out
-decreases-loop-out l = mask_bits - l.i
+abbrev pub invariant-loop-i : goal.invariant-loop-i
+invariant-loop-i l = StepsLists l.policy.sizes.now l.policy.nodes.now l.policy.tests.now l.state l.packet l.initial.out l.initial.progress.work.now l.initial.progress.seen l.initial.progress.next.now l.out l.progress.work.now l.progress.seen l.progress.next.now l.at.from l.at.to l.i × SameLists l.initial.progress l.progress

@@ -1,10 +1,7 @@
--- `engine_cases::output` ends: it counts its turns.
+-- `engine_cases::output` ends: it goes up from packet to packet.
 -- Assumes nothing.
-use Prim.Native.Nat.{◌-◌, ◌≤◌}
+use Prim.Native.Nat.{◌-◌}
 use Rattle.engine_cases.proofs.output.Given as goal
 
-abbrev pub invariant-loop-turns : goal.invariant-loop-turns
-invariant-loop-turns l = l.turns ≤ 1024
-
-abbrev pub decreases-loop-turns : goal.decreases-loop-turns
-decreases-loop-turns l = 1024 - l.turns
+abbrev pub decreases-loop-packet : goal.decreases-loop-packet
+decreases-loop-packet l = 1024 - l.from

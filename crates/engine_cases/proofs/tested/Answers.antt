@@ -1,11 +1,13 @@
 -- `engine_cases::tested`: what passes the sizes' and the policy's stages is legal. Assumes nothing.
-use mathlib.Core.List.{[], ◌∷◌}
-use mathlib.Core.Path.{ap, ◌∙◌}
-use Rattle.packet.specs.Refusals.{first_refused}
-use Rattle.packet.specs.declared.Tested.{Tested}
+use mathlib.Core.Path.{sym, ◌∙◌}
+use Rattle.packet.specs.Sizes.{packet_count}
+use Rattle.packet.proofs.Sizes.{counted_passed}
 use Rattle.legality.proofs.AnswerLaws.{stages_legal}
 use Rattle.engine_cases.proofs.tested.Goals as goal
 
 pub returns : goal.returns
-returns c = stages_legal _ 0 _ c.packet_count-counted.ensures.says c.policy_stage-policy.ensures.tested c.first_of.ensures
-    (c.first_of-2.ensures ∙ ap (λ (t : Tested). first_refused (t ∷ c.first_of.result ∷ [])) c.fields_stage-fields.ensures)
+unfolding packet_count
+returns c =
+    let counted = counted_passed _ (sym c.packet_count.ensures ∙ c.in_ok-count.was) in
+    let legal = stages_legal _ 0 _ (sym c.fields_stage.ensures ∙ c.in_ok-fields_stage.was) counted.0 (counted_passed _ (sym c.policy_stage.ensures ∙ c.in_ok-policy_stage.was)).0 in
+    (legal.0, legal.1, counted.1)

@@ -2,11 +2,5 @@
 use Rattle.exports.proofs.Laws.{evidence_out}
 use Rattle.exports.proofs.netkat_evidence.Goals as goal
 
-pub check-requires : goal.check-requires
-check-requires c = tt
-
-pub of_evidence-requires : goal.of_evidence-requires
-of_evidence-requires c = tt
-
 pub returns : goal.returns
-returns c = evidence_out c.check.ensures c.of_evidence.ensures
+returns c = evidence_out c.tables.ensures c.policy.ensures c.policy-2.ensures c.check.ensures c.of_evidence.ensures

@@ -1,12 +1,10 @@
 -- `netkat_search` meets its contract. Assumes nothing.
+use borrow.Author.Rules.{rules}
+use Rattle.search.proofs.Answering.{searched_in}
 use Rattle.exports.proofs.Laws.{searched_out}
 use Rattle.exports.proofs.netkat_search.Goals as goal
 
-pub search-requires : goal.search-requires
-search-requires c = tt
-
-pub of_verdict-requires : goal.of_verdict-requires
-of_verdict-requires c = tt
-
 pub returns : goal.returns
-returns c = searched_out c.search.ensures c.of_verdict.ensures
+returns c =
+    let done = searched_in c.search.new.rows c.search.ensures.searched (search rules) (search rules) (search rules) (search rules) in
+    searched_out c.tables.ensures c.policy.ensures c.policy-2.ensures done c.of_verdict.ensures

@@ -2,11 +2,5 @@
 use Rattle.exports.proofs.Laws.{trace_out}
 use Rattle.exports.proofs.netkat_trace.Goals as goal
 
-pub check-requires : goal.check-requires
-check-requires c = tt
-
-pub of_trace-requires : goal.of_trace-requires
-of_trace-requires c = tt
-
 pub returns : goal.returns
-returns c = trace_out c.check.ensures c.of_trace.ensures
+returns c = trace_out c.tables.ensures c.policy.ensures c.policy-2.ensures c.check.ensures c.of_trace.ensures

@@ -1,23 +1,20 @@
--- `has_other` meets its contract.
-use borrow.Author.Rules.{rules}
-use Prim.Native.Nat.{◌<◌}
+-- `has_other` meets its contract. Assumes nothing.
+use native.Mathlib.Omega.{arith}
 use mathlib.Core.Path.{sym, ap, ◌∙◌}
-use lib.ListN.{length}
-use Rattle.packet.specs.Lowest.{option_of}
-use Rattle.fields.proofs.TableLaws.{size_below, another_none, another_same, another_other}
+use Rattle.fields.specs.Tables.{another}
+use Rattle.fields.proofs.TableLaws.{size_below}
 use Rattle.fields.proofs.has_other.Goals as goal
 
-pub offset_bounds-sizes-j : goal.offset_bounds-sizes-j
-offset_bounds-sizes-j c = let below : c.in-At.j < length c.args.sizes.now = size_below c.args.cells.now c.args.w.now c.args.sizes.now _ c.requires (sym c.find.ensures ∙ ap option_of c.in-At.is) in search rules
+pub offset_bounds-table-j : goal.offset_bounds-table-j
+offset_bounds-table-j c = omega (arith, size_below _ _ _ _ c.requires (sym c.find.ensures ∙ c.in-Some.is))
 
-pub bounds-sizes-j : goal.bounds-sizes-j
-bounds-sizes-j c = size_below c.args.cells.now c.args.w.now c.args.sizes.now _ c.requires (sym c.find.ensures ∙ ap option_of c.in-At.is)
+pub bounds-table-j : goal.bounds-table-j
+bounds-table-j c = size_below _ _ _ _ c.requires (sym c.find.ensures ∙ c.in-Some.is)
 
-pub returns-then-other-size : goal.returns-then-other-size
-returns-then-other-size c = another_same _ _ (sym c.find.ensures ∙ ap option_of c.in-At.is) c.if-other-size.true
+pub returns-in-Some : goal.returns-in-Some
+unfolding another
+returns-in-Some c = sym (ap (another _ _) (sym c.find.ensures ∙ c.in-Some.is))
 
-pub returns-else-other-size : goal.returns-else-other-size
-returns-else-other-size c = another_other _ _ (sym c.find.ensures ∙ ap option_of c.in-At.is) c.if-other-size.false
-
-pub returns-in-Nowhere : goal.returns-in-Nowhere
-returns-in-Nowhere c = another_none _ _ (sym c.find.ensures ∙ ap option_of c.in-Nowhere.is)
+pub returns-in-None : goal.returns-in-None
+unfolding another
+returns-in-None c = sym (ap (another _ _) (sym c.find.ensures ∙ c.in-None.is))

@@ -1,16 +1,25 @@
--- `joined` meets its contract.
+-- `joined` meets its contract: the fields of both tables are held. Assumes nothing.
 use native.Mathlib.Omega.{arith}
-use mathlib.Core.Path.{sym}
-use lib.Seq.{length-take-le}
-use Rattle.fields.specs.Tables.{tables}
-use Rattle.fields.proofs.HeldLaws.{joint_held, joined_many, joined_few}
+use mathlib.Core.Path.{sym, ap, ◌∙◌}
+use Rattle.std.proofs.Common.{Err}
+use Rattle.packet.specs.Sizes.{fields_stage}
+use Rattle.packet.proofs.Stages.{handed_on}
+use Rattle.fields.specs.Tables.{lent_tables}
+use Rattle.fields.proofs.CauseLaws.{answer_refused}
+use Rattle.fields.proofs.HeldLaws.{joint_held, joined_many, joined_sizes, joined_held}
 use Rattle.fields.proofs.joined.Goals as goal
 
-pub returns-then-count-gt8 : goal.returns-then-count-gt8
-returns-then-count-gt8 c = joined_many (tables c.args.left_names.now c.args.left_sizes.now c.args.right_names.now c.args.right_sizes.now) c.add_table-count.result c.add_table-count.new.names c.add_table-count.new.sizes (joint_held c.add_table-left.ensures c.add_table-count.ensures) (omega (arith, c.add_table-count.ensures.room, c.add_table-left.ensures.room)) (omega (arith, c.add_table-count.ensures.space, c.add_table-left.ensures.space)) c.if-count-gt8.true c.refuse.ensures
+pub returns-then-joint-gt8 : goal.returns-then-joint-gt8
+returns-then-joint-gt8 c =
+    joined_many (lent_tables c.args.tables) _ _ _ (joint_held c.add_table.ensures c.add_table-2.ensures) (omega arith) (omega arith) c.if-joint-gt8.true ∙ sym (ap Err c.unsided.ensures)
 
-pub slice_bounds-fields_stage-end : goal.slice_bounds-fields_stage-end
-slice_bounds-fields_stage-end c = sym (length-take-le _ _ (omega (arith, c.add_table-count.ensures.space, c.add_table-left.ensures.space)))
+pub returns-in_err-fields_stage : goal.returns-in_err-fields_stage
+returns-in_err-fields_stage c =
+    answer_refused _ c.from_residual.result (handed_on _ c.from_residual.ensures.1)
+    (ap fields_stage (sym (joined_sizes (lent_tables c.args.tables) _ _ _ (joint_held c.add_table.ensures c.add_table-2.ensures) (omega arith) (omega arith) c.if-joint-gt8.false)) ∙ sym c.fields_stage.ensures ∙ c.in_err-fields_stage.was)
 
 pub returns : goal.returns
-returns c = joined_few (tables c.args.left_names.now c.args.left_sizes.now c.args.right_names.now c.args.right_sizes.now) c.add_table-count.result c.add_table-count.new.names c.add_table-count.new.sizes (joint_held c.add_table-left.ensures c.add_table-count.ensures) (omega (arith, c.add_table-count.ensures.room, c.add_table-left.ensures.room)) (omega (arith, c.add_table-count.ensures.space, c.add_table-left.ensures.space)) c.if-count-gt8.false c.fields_stage-tested.ensures
+returns c = (
+  ap fields_stage (sym (joined_sizes (lent_tables c.args.tables) _ _ _ (joint_held c.add_table.ensures c.add_table-2.ensures) (omega arith) (omega arith) c.if-joint-gt8.false)) ∙ sym c.fields_stage.ensures ∙ c.in_ok-fields_stage.was,
+  joined_held (lent_tables c.args.tables) _ _ _ (joint_held c.add_table.ensures c.add_table-2.ensures) (omega arith) (omega arith) c.if-joint-gt8.false,
+)

@@ -4,17 +4,14 @@ use native.Mathlib.Omega.{arith}
 use Rattle.index.proofs.Hashing.{held_positive, held_range, held_bucket}
 use Rattle.index.proofs.bucket.Goals as goal
 
-pub nonzero_div-width : goal.nonzero_div-width
-nonzero_div-width c = omega (arith, c.wide.ensures, c.requires.packet_lt_count)
-
 pub overflow_mul-result : goal.overflow_mul-result
-overflow_mul-result c = record { fits = omega (arith, held_range _ _ c.args.row c.requires.packet_lt_count c.requires.count_le_size _ _ c.wide.ensures c.wide-2.ensures) }
+overflow_mul-result c = record { fits = omega (arith, held_range _ _ c.args.row c.requires.packet_lt_count c.requires.count_le_size _ _ c.from.ensures c.from-2.ensures) }
 
 pub nonzero_rem-result : goal.nonzero_rem-result
-nonzero_rem-result c = held_positive _ _ c.args.row c.requires.packet_lt_count c.requires.count_le_size _ c.wide-2.result c.wide.ensures c.wide-2.ensures
+nonzero_rem-result c = held_positive _ _ c.args.row c.requires.packet_lt_count c.requires.count_le_size _ c.from-2.result c.from.ensures c.from-2.ensures
 
 pub overflow_add-result : goal.overflow_add-result
-overflow_add-result c = record { fits = omega (arith, held_range _ _ c.args.row c.requires.packet_lt_count c.requires.count_le_size _ _ c.wide.ensures c.wide-2.ensures, mod-lt c.hash.result (held_positive _ _ c.args.row c.requires.packet_lt_count c.requires.count_le_size _ _ c.wide.ensures c.wide-2.ensures)) }
+overflow_add-result c = record { fits = omega (arith, held_range _ _ c.args.row c.requires.packet_lt_count c.requires.count_le_size _ _ c.from.ensures c.from-2.ensures, mod-lt c.hash.result (held_positive _ _ c.args.row c.requires.packet_lt_count c.requires.count_le_size _ _ c.from.ensures c.from-2.ensures)) }
 
 pub returns : goal.returns
-returns c = (held_bucket _ _ c.args.row c.requires.packet_lt_count c.requires.count_le_size _ _ c.wide.ensures c.wide-2.ensures _ c.hash.ensures, omega (arith, held_range _ _ c.args.row c.requires.packet_lt_count c.requires.count_le_size _ _ c.wide.ensures c.wide-2.ensures, mod-lt c.hash.result (held_positive _ _ c.args.row c.requires.packet_lt_count c.requires.count_le_size _ _ c.wide.ensures c.wide-2.ensures)))
+returns c = (held_bucket _ _ c.args.row c.requires.packet_lt_count c.requires.count_le_size _ _ c.from.ensures c.from-2.ensures _ c.hash.ensures, omega (arith, held_range _ _ c.args.row c.requires.packet_lt_count c.requires.count_le_size _ _ c.from.ensures c.from-2.ensures, mod-lt c.hash.result (held_positive _ _ c.args.row c.requires.packet_lt_count c.requires.count_le_size _ _ c.from.ensures c.from-2.ensures)))

@@ -1,25 +1,18 @@
 -- `index::hash` meets its contract: the states passed are hashed. Assumes nothing.
-use borrow.Author.Rules.{rules}
-use Prim.Native.Nat.{◌-◌}
 use native.Mathlib.Nat.{mod-lt}
 use native.Mathlib.Omega.{arith}
-use Rattle.index.proofs.Hashing.{high_half, hash_below, hash_none, hash_more, hash_all}
+use mathlib.Core.Path.{refl}
+use Rattle.index.proofs.Hashing.{hash_below, hash_none, hash_more, hash_all}
 use Rattle.index.proofs.hash.Goals as goal
 
-pub loop-k-init : goal.loop-k-init
-loop-k-init c = (search rules, hash_none _)
+pub loop-mask-init : goal.loop-mask-init
+loop-mask-init c = hash_none _
 
 pub mix-requires : goal.mix-requires
-mix-requires c = (rw c.loop-k.invariant.1 (hash_below _ _), mod-lt _ (omega arith))
+mix-requires c = (rw c.loop-mask.invariant (hash_below _ _), mod-lt _ (omega arith))
 
-pub mix_upper-h-requires : goal.mix_upper-h-requires
-mix_upper-h-requires c = (c.mix.ensures.1, high_half c.wide_mask-state.ensures.1)
-
-pub loop-k-preserved : goal.loop-k-preserved
-loop-k-preserved c = (
-  search rules,
-  hash_more _ _ _ _ c.loop-k.invariant.1 c.wide_mask-state.ensures.0 _ _ c.mix.ensures.0 c.mix_upper-h.ensures,
-)
+pub loop-mask-preserved : goal.loop-mask-preserved
+loop-mask-preserved c = hash_more _ _ _ _ c.loop-mask.invariant refl _ _ c.mix.ensures.0 c.mix_upper-h.ensures
 
 pub returns : goal.returns
-returns c = hash_all _ _ _ _ c.loop-k.invariant.0 c.loop-k-test.false c.loop-k.invariant.1
+returns c = hash_all _ _ _ _ c.loop-mask.auto.mask-index-end c.loop-mask-test.false c.loop-mask.invariant

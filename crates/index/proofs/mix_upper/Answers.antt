@@ -5,8 +5,5 @@ use Rattle.index.proofs.mix_upper.Goals as goal
 pub returns-then-upper-eq0 : goal.returns-then-upper-eq0
 returns-then-upper-eq0 c = upper_none _ _ c.if-upper-eq0.true
 
-pub mix-requires : goal.mix-requires
-mix-requires c = c.requires
-
-pub returns : goal.returns
-returns c = upper_some _ _ _ c.if-upper-eq0.false c.mix.ensures.0
+pub returns-else-upper-eq0 : goal.returns-else-upper-eq0
+returns-else-upper-eq0 c = upper_some _ _ _ c.if-upper-eq0.false c.mix.ensures.0

@@ -1,18 +1,12 @@
 -- `index::place_new` meets its contract. Assumes nothing.
-use Rattle.index.proofs.Adding.{new_dead, new_listed, new_at}
+use mathlib.Core.Path.{◌∙◌, refl}
+use borrow.Author.Rules.{rules}
+use Rattle.index.proofs.States.{states_equal}
+use Rattle.index.proofs.Adding.{new_dead, new_placed}
 use Rattle.index.proofs.place_new.Goals as goal
 
-pub same_states-requires : goal.same_states-requires
-same_states-requires c = tt
+pub returns-then-eq : goal.returns-then-eq
+returns-then-eq c = new_dead _ (c.eq.ensures ∙ states_equal _ _ (search rules) refl) c.if-eq.true
 
-pub returns-then-same_states : goal.returns-then-same_states
-returns-then-same_states c = new_dead _ c.same_states.ensures c.if-same_states.true
-
-pub place-requires : goal.place-requires
-place-requires c = record { indexed = c.requires.indexed; packet_lt_count = c.requires.packet_lt_count }
-
-pub returns-in-Listed : goal.returns-in-Listed
-returns-in-Listed c = new_listed _ c.same_states.ensures c.if-same_states.false c.place.ensures _ c.in-Listed.is
-
-pub returns-in-Vacant : goal.returns-in-Vacant
-returns-in-Vacant c = new_at _ c.same_states.ensures c.if-same_states.false c.place.ensures _ c.in-Vacant.is
+pub returns : goal.returns
+returns c = rw c.err.ensures.value (new_placed _ (c.eq.ensures ∙ states_equal _ _ (search rules) refl) c.if-eq.false _ c.place.ensures)

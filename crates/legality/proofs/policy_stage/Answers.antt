@@ -1,21 +1,31 @@
 -- `policy_stage` meets its contract: causes 4, then 5 to 7, then 8, 19 and 9. Assumes nothing.
-use mathlib.Core.Path.{sym, ◌∙◌}
-use Rattle.policy.specs.NodeLists.{node_count}
-use Rattle.legality.proofs.AnswerLaws.{lengths_tested, same_lengths, countable_children, lengths_answer, nodes_answer, tree_answer}
+use mathlib.Core.Path.{sym, ap, ◌∙◌}
+use Rattle.packet.specs.Refusals.{refused_at, Tested}
+use Rattle.packet.specs.Sizes.{counted}
+use Rattle.policy.specs.AsLists.{lists_of}
+use Rattle.policy.specs.NodeLists.{node_count, dups_below}
+use Rattle.packet.proofs.Sizes.{counted_as}
+use Rattle.packet.proofs.Stages.{handed_on}
+use Rattle.legality.proofs.AnswerLaws.{same_lengths, countable_children, lengths_refused, nodes_refused, nodes_passed}
 use Rattle.legality.proofs.policy_stage.Goals as goal
 
+pub returns-in_err-refused_at : goal.returns-in_err-refused_at
+returns-in_err-refused_at c =
+    handed_on _ c.from_residual.ensures.1 ∙ sym (counted_as _ (lengths_refused _ _ _ _ (sym (c.refused_at.ensures ∙ ap (refused_at 4 c.args.side) c.bad_lengths.ensures) ∙ c.in_err-refused_at.was)))
+
 pub nodes_tested-requires : goal.nodes_tested-requires
-nodes_tested-requires c = same_lengths _ _ (lengths_tested _ _ c.refused_at.ensures c.bad_lengths.ensures c.in-Passed.is)
+nodes_tested-requires c = same_lengths _ _ (sym (c.refused_at.ensures ∙ ap (refused_at 4 c.args.side) c.bad_lengths.ensures) ∙ c.in_ok-refused_at.was)
+
+pub returns-in_err-nodes_tested : goal.returns-in_err-nodes_tested
+returns-in_err-nodes_tested c =
+    handed_on _ c.from_residual-in_err-nodes_tested.ensures.1
+    ∙ sym (counted_as _ (nodes_refused _ _ _ _ (sym (c.refused_at.ensures ∙ ap (refused_at 4 c.args.side) c.bad_lengths.ensures) ∙ c.in_ok-refused_at.was) (sym c.nodes_tested.ensures ∙ c.in_err-nodes_tested.was)))
 
 pub tree_tested-requires : goal.tree_tested-requires
-tree_tested-requires c = countable_children _ _ _ (lengths_tested _ _ c.refused_at.ensures c.bad_lengths.ensures c.in-Passed.is) (sym c.nodes_tested.ensures ∙ c.in-Passed-nodes_tested.is)
+tree_tested-requires c =
+    countable_children _ _ _ (sym (c.refused_at.ensures ∙ ap (refused_at 4 c.args.side) c.bad_lengths.ensures) ∙ c.in_ok-refused_at.was) (sym c.nodes_tested.ensures ∙ c.in_ok-nodes_tested.was)
 
-pub returns-in-Refused : goal.returns-in-Refused
-returns-in-Refused c = lengths_answer _ _ _ _ _ (lengths_tested _ _ c.refused_at.ensures c.bad_lengths.ensures c.in-Refused.is)
-
-pub returns-in-Refused-nodes_tested : goal.returns-in-Refused-nodes_tested
-returns-in-Refused-nodes_tested c = nodes_answer _ _ _ _ _ (lengths_tested _ _ c.refused_at.ensures c.bad_lengths.ensures c.in-Passed.is) (sym c.nodes_tested.ensures ∙ c.in-Refused-nodes_tested.is)
-
-pub returns-in-Passed-nodes_tested : goal.returns-in-Passed-nodes_tested
-unfolding node_count
-returns-in-Passed-nodes_tested c = tree_answer _ _ _ (lengths_tested _ _ c.refused_at.ensures c.bad_lengths.ensures c.in-Passed.is) (sym c.nodes_tested.ensures ∙ c.in-Passed-nodes_tested.is) c.tree_tested.ensures
+pub returns : goal.returns
+returns c =
+    c.tree_tested.ensures
+    ∙ ap (λ (t : Tested). counted t (dups_below (lists_of c.args.policy) (node_count (lists_of c.args.policy)))) (sym (nodes_passed _ _ _ (sym (c.refused_at.ensures ∙ ap (refused_at 4 c.args.side) c.bad_lengths.ensures) ∙ c.in_ok-refused_at.was) (sym c.nodes_tested.ensures ∙ c.in_ok-nodes_tested.was)))

@@ -1,5 +1,4 @@
 -- `either` meets its contract: each turn of the loop joins one more word. Assumes nothing.
-use Prim.Native.Nat.{◌-◌}
 use mathlib.Core.Path.{refl}
 use Rattle.marks.proofs.Touched.{joined_none, joined_more, joined_members}
 use Rattle.marks.proofs.either.Goals as goal

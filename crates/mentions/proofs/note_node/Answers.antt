@@ -1,15 +1,14 @@
 -- `note_node` meets its contract. Assumes nothing.
-use Rattle.mentions.proofs.Noting.{equals_noted, differs_noted, change_noted, node_passed}
+use Rattle.mentions.proofs.Noting.{of_field_noted, lower_passed, higher_passed}
 use Rattle.mentions.proofs.note_node.Goals as goal
+use Rattle.mentions.proofs.note_node.Goals.{else-kind-ge2-via-then-kind-ge2+else-kind-le4, else-kind-ge2-via-else-kind-ge2}
 
-pub returns-in-2 : goal.returns-in-2
-returns-in-2 c = equals_noted _ _ _ _ _ c.in-2.is c.note_field.ensures
+pub returns-then-kind-le4 : goal.returns-then-kind-le4
+returns-then-kind-le4 c = of_field_noted _ _ _ _ _ c.if-kind-ge2.true c.if-kind-le4.true c.note_field.ensures
 
-pub returns-in-3 : goal.returns-in-3
-returns-in-3 c = differs_noted _ _ _ _ _ c.in-3.is c.note_field-in-3.ensures
-
-pub returns-in-4 : goal.returns-in-4
-returns-in-4 c = change_noted _ _ _ _ _ c.in-4.is c.note_field-in-4.ensures
-
-pub returns-in_default : goal.returns-in_default
-returns-in_default c = node_passed _ _ _ _ c.in_default.in_default-own.rest
+pub returns-else-kind-ge2 : goal.returns-else-kind-ge2
+returns-else-kind-ge2 c =
+    elim c.else-kind-ge2.branch [
+      | else-kind-ge2-via-then-kind-ge2+else-kind-le4 w ↦ higher_passed _ _ _ _ w.if-kind-le4.false
+      | else-kind-ge2-via-else-kind-ge2 w ↦ lower_passed _ _ _ _ w.if-kind-ge2.false
+    ]

@@ -1,16 +1,11 @@
 -- `bad_child` meets its contract: below `i` each node's children are below it.
 -- Assumes nothing.
-use Prim.Native.Nat.{◌≤◌, ◌-◌}
-use mathlib.Core.Option.{none}
+use Rattle.std.specs.Prelude.{None}
 use mathlib.Core.Path.{◌≡◌}
-use lib.ListN.{length}
 use Rattle.packet.specs.Lowest.{lowest}
-use Rattle.policy.specs.AsLists.{as_lists}
+use Rattle.policy.specs.AsLists.{lists_of}
 use Rattle.policy.specs.Legality.{bad_child}
 use Rattle.node_causes.proofs.bad_child.Given as goal
 
 abbrev pub invariant-loop-i : goal.invariant-loop-i
-invariant-loop-i l = (l.i ≤ length l.kind) × (length l.first ≡ length l.kind) × (length l.second ≡ length l.kind) × (lowest (bad_child (as_lists l.kind l.first l.second)) l.i ≡ none)
-
-abbrev pub decreases-loop-i : goal.decreases-loop-i
-decreases-loop-i l = length l.kind - l.i
+invariant-loop-i l = lowest (bad_child (lists_of l.policy)) l.i ≡ None

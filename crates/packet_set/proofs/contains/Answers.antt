@@ -5,4 +5,4 @@ use Rattle.packet_set.proofs.contains.Goals as goal
 
 pub returns : goal.returns
 unfolding member
-returns c = shift_tests _ _
+returns c = rw c.from.ensures (shift_tests _ _)

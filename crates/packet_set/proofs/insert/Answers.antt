@@ -3,4 +3,4 @@ use Rattle.packet_set.proofs.Words.{stored_packet}
 use Rattle.packet_set.proofs.insert.Goals as goal
 
 pub returns : goal.returns
-returns c = stored_packet _ _
+returns c = rw c.from.ensures (stored_packet _ _)

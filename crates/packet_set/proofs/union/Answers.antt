@@ -1,5 +1,4 @@
 -- `union` meets its contract: each turn of the loop does one more word. Assumes nothing.
-use Prim.Native.Nat.{◌-◌}
 use mathlib.Core.Path.{refl}
 use lib.Bits.{bit_or}
 use Rattle.packet_set.specs.InnerMembers.{union_of}

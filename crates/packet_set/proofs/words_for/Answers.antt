@@ -1,8 +1,8 @@
 -- `words_for` meets its contract. Assumes nothing.
-use mathlib.Core.Path.{refl}
+use native.Mathlib.Omega.{arith}
 use Rattle.packet_set.specs.InnerMembers.{words_for}
 use Rattle.packet_set.proofs.words_for.Goals as goal
 
 pub returns : goal.returns
 unfolding words_for
-returns c = refl
+returns c = omega arith

@@ -1,34 +1,12 @@
 -- `parent_traces::entering` meets its contract: row by row up the line. Assumes nothing.
-use native.Mathlib.Omega.{arith}
-use Rattle.parent_traces.proofs.Lines.{looking_none, looking_more, looking_all, rises}
+use Rattle.parent_traces.proofs.Lines.{looking_none, looking_more, looking_all}
 use Rattle.parent_traces.proofs.entering.Goals as goal
 
-pub offset_bounds-parents-i : goal.offset_bounds-parents-i
-offset_bounds-parents-i c = omega (arith, c.requires.rooted.within, c.well_formed.1.0)
-
-pub bounds-parents-i : goal.bounds-parents-i
-bounds-parents-i c = omega (arith, c.requires.rooted.within)
-
 pub loop-parent-init : goal.loop-parent-init
-loop-parent-init c = looking_none c.requires.rooted _ _ _ c.wide-parent.ensures
-
-pub offset_bounds-parents-i-in-loop-parent : goal.offset_bounds-parents-i-in-loop-parent
-offset_bounds-parents-i-in-loop-parent c = omega (arith, c.loop-parent.invariant.on.inside, rises c.requires.rooted c.requires.h_lt_listed c.loop-parent.invariant.on c.loop-parent-test.true, c.requires.rooted.within, c.well_formed.1.0)
-
-pub bounds-parents-i-in-loop-parent : goal.bounds-parents-i-in-loop-parent
-bounds-parents-i-in-loop-parent c = omega (arith, c.loop-parent.invariant.on.inside, rises c.requires.rooted c.requires.h_lt_listed c.loop-parent.invariant.on c.loop-parent-test.true, c.requires.rooted.within)
-
-pub loop-parent-smaller : goal.loop-parent-smaller
-loop-parent-smaller c = rises c.requires.rooted c.requires.h_lt_listed c.loop-parent.invariant.on c.loop-parent-test.true
+loop-parent-init c = looking_none c.requires.rooted _ _ _ c.from-parent.ensures
 
 pub loop-parent-preserved : goal.loop-parent-preserved
-loop-parent-preserved c = looking_more c.requires.rooted c.requires.h_lt_listed c.loop-parent.invariant c.loop-parent-test.true _ c.wide-parent-in-loop-parent.ensures
-
-pub offset_bounds-packets-i : goal.offset_bounds-packets-i
-offset_bounds-packets-i c = omega (arith, c.loop-parent.invariant.on.inside, c.well_formed.0)
-
-pub bounds-packets-i : goal.bounds-packets-i
-bounds-packets-i c = omega (arith, c.loop-parent.invariant.on.inside)
+loop-parent-preserved c = looking_more c.requires.rooted c.requires.h_lt_listed c.loop-parent.invariant c.loop-parent-test.true _ c.from-parent-in-loop-parent.ensures
 
 pub returns : goal.returns
 returns c = looking_all c.requires.rooted c.requires.h_lt_listed c.loop-parent.invariant c.loop-parent-test.false

@@ -1,11 +1,6 @@
 -- `printing::trace` meets its contract.
-use Prim.Native.Nat.{◌-◌}
-use lib.ListN.{length}
 use Rattle.printing.proofs.PrintLaws.{TraceSoFar}
 use Rattle.printing.proofs.trace.Given as goal
 
 abbrev pub invariant-loop-i : goal.invariant-loop-i
 invariant-loop-i l = TraceSoFar l.packets l.initial.out l.out l.from l.at l.i
-
-abbrev pub decreases-loop-i : goal.decreases-loop-i
-decreases-loop-i l = length l.packets - l.i

@@ -18,7 +18,7 @@ written cs xs ys i v e h = ap (λ l. set l i v) e ∙ over_next cs xs i v h ∙ 
 
 pub loop-i-init : goal.loop-i-init
 unfolding over stray_in
-loop-i-init c = record { within = omega arith; found = refl; packets = refl; lefts = refl; rights = refl }
+loop-i-init c = record { found = refl; packets = refl; lefts = refl; rights = refl }
 
 pub loop-i-preserved : goal.loop-i-preserved
 loop-i-preserved c =
@@ -30,7 +30,6 @@ loop-i-preserved c =
     ap (λ s. stray_after c.args.end s i (row_in_range c.args.count dups (mask_row r.packet r.left r.right))) c.loop-i.invariant.found
     ∙ stray_next c.args.end c.args.count dups rows i in
     record {
-      within = omega (arith, c.loop-i-test.true);
       found = c.stray_after-found.ensures ∙ step ∙ ap (stray_in c.args.end c.args.count dups rows) (one_more i);
       packets = written (packets_of rows) c.args.packets.now _ i _ c.loop-i.invariant.packets (packet_at rows i);
       lefts = written (lefts_of rows) c.args.lefts.now _ i _ c.loop-i.invariant.lefts (left_at rows i);

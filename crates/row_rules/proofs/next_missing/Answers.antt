@@ -5,8 +5,5 @@ use Rattle.row_rules.proofs.next_missing.Goals as goal
 pub returns-then-zero_states : goal.returns-then-zero_states
 returns-then-zero_states c = next_zero _ _ _ _ _ _ _ c.zero_states.ensures c.if-zero_states.true
 
-pub find-requires : goal.find-requires
-find-requires c = record { indexed = c.requires.indexed; packet_lt_count = c.requires.packet_lt_count }
-
 pub returns : goal.returns
 returns c = next_looked _ _ _ _ _ _ _ c.zero_states.ensures c.if-zero_states.false _ c.find.ensures

@@ -11,5 +11,5 @@ returns-then-row_fits c = stray_kept _ _ _ _ _ c.row_fits.ensures c.if-row_fits.
 pub returns-then-found-end : goal.returns-then-found-end
 returns-then-found-end c = stray_found _ _ _ _ _ c.row_fits.ensures c.if-row_fits.false c.if-found-end.true
 
-pub returns : goal.returns
-returns c = stray_first _ _ _ _ _ c.row_fits.ensures c.if-row_fits.false c.if-found-end.false
+pub returns-else-found-end : goal.returns-else-found-end
+returns-else-found-end c = stray_first _ _ _ _ _ c.row_fits.ensures c.if-row_fits.false c.if-found-end.false

@@ -1,5 +1,4 @@
 -- `clear` meets its contract: each turn of the loop does one more word. Assumes nothing.
-use Prim.Native.Nat.{◌-◌}
 use mathlib.Core.Path.{refl}
 use borrow.Author.Rules.{rules}
 use Rattle.spans.proofs.Rewriting.{one_done}

@@ -1,10 +1,6 @@
 -- `clear` meets its contract: each turn of the loop does one more word. Assumes nothing.
-use Prim.Native.Nat.{◌-◌}
 use Rattle.spans.proofs.Rewriting.{Doing}
 use Rattle.spans.proofs.clear.Given as goal
 
 abbrev pub invariant-loop-i : goal.invariant-loop-i
 invariant-loop-i l = Doing (λ j. 0) l.initial.set l.set l.i
-
-abbrev pub decreases-loop-i : goal.decreases-loop-i
-decreases-loop-i l = l.to - l.i

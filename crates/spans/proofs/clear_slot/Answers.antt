@@ -1,22 +1,14 @@
--- `clear_slot` meets its contract: each turn of the loop does one more word. Assumes nothing.
-use Prim.Native.Nat.{◌-◌}
+-- `clear_slot` meets its contract. Assumes nothing.
+use Prim.Native.Nat.{ℕ, ◌+◌, ◌-◌, ◌*◌}
+use mathlib.Core.Path.{◌≡◌, ap, ◌∙◌}
 use native.Mathlib.Omega.{arith}
-use borrow.Author.Rules.{rules}
-use Rattle.spans.proofs.Rewriting.{none_done, one_done, all_done}
-use Rattle.spans.proofs.Slots.{cleared_here, cleared_else}
+use lib.ListN.{length, take, drop, replicate, length-drop}
+use lib.Seq.{length-take-le}
+use Rattle.spans.proofs.Slots.{cleared}
 use Rattle.spans.proofs.clear_slot.Goals as goal
 
-pub loop-i-init : goal.loop-i-init
-loop-i-init c = none_done _ _ _ (λ j l. cleared_else _ _ _ (λ e. omega arith))
-
-pub bounds-work-start : goal.bounds-work-start
-bounds-work-start c = omega (arith, c.loop-i.invariant.long)
-
-pub loop-i-preserved : goal.loop-i-preserved
-loop-i-preserved c = one_done _ _ _ _ c.loop-i.invariant _ _ (search rules) (cleared_here _ _ _ (omega arith)) (omega arith)
-
-pub shape_of-work : goal.shape_of-work
-shape_of-work c = c.loop-i.invariant.long
-
 pub returns : goal.returns
-returns c = all_done _ _ _ _ c.loop-i.invariant (λ j l. cleared_else _ _ _ (λ e. let h = c.loop-i-test.false in omega arith))
+returns c =
+    let k : 32 * c.args.n + 32 - 32 * c.args.n ≡ 32 = omega arith in
+    let m : length (take 32 (drop (32 * c.args.n) c.args.work.now)) ≡ 32 = length-take-le 32 (drop (32 * c.args.n) c.args.work.now) (omega (arith, length-drop (32 * c.args.n) c.args.work.now)) in
+    rw k (cleared _ _ _ (omega arith) ((rw k at c.fill.ensures.after (λ y q. q)) ∙ ap (λ (n : ℕ). replicate {A = ℕ} n 0) m))

@@ -1,5 +1,4 @@
 -- `join` meets its contract: each turn of the loop does one more word. Assumes nothing.
-use Prim.Native.Nat.{◌-◌}
 use Rattle.spans.proofs.Sets.{joining_start, joining_turn, joining_end}
 use Rattle.spans.proofs.join.Goals as goal
 

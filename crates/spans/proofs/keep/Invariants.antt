@@ -1,10 +1,6 @@
 -- `keep` meets its contract: each turn of the loop does one more word. Assumes nothing.
-use Prim.Native.Nat.{◌-◌}
 use Rattle.spans.proofs.Sets.{Keeping}
 use Rattle.spans.proofs.keep.Given as goal
 
 abbrev pub invariant-loop-i : goal.invariant-loop-i
 invariant-loop-i l = Keeping l.initial.set l.tests l.k l.set l.any l.i
-
-abbrev pub decreases-loop-i : goal.decreases-loop-i
-decreases-loop-i l = l.to - l.i

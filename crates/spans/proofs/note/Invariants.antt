@@ -1,10 +1,6 @@
 -- `note` meets its contract: each turn of the loop takes one more word. Assumes nothing.
-use Prim.Native.Nat.{◌-◌}
 use Rattle.spans.proofs.Sets.{Noting}
 use Rattle.spans.proofs.note.Given as goal
 
 abbrev pub invariant-loop-i : goal.invariant-loop-i
 invariant-loop-i l = Noting l.initial.work l.n l.initial.set l.work l.set l.any l.i
-
-abbrev pub decreases-loop-i : goal.decreases-loop-i
-decreases-loop-i l = l.to - l.i

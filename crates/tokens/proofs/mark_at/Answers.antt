@@ -1,18 +1,15 @@
 -- `mark_at` meets its contract.
-use Prim.Native.Nat.{ℕ, ◌+◌}
-use mathlib.Core.Bool.{cond}
-use mathlib.Core.Path.{sym, ◌∙◌, subst}
-use borrow.Author.Tests.{ne_eqb}
-use lib.Dec.{eqb}
-use Rattle.tokens.specs.Inner.{FrontAt}
-use Rattle.tokens.proofs.TokenLaws.{front_single}
+use mathlib.Core.Path.{sym, ◌∙◌, ap}
+use native.Mathlib.Nat.{le_refl}
+use borrow.Author.Tests.{eq-eqb, ne_eqb}
+use Rattle.std.specs.Option.{unwrap_or}
+use Rattle.tokens.proofs.TokenLaws.{front_alone, front_two}
 use Rattle.tokens.proofs.mark_at.Goals as goal
+use Rattle.tokens.proofs.mark_at.Goals.{then-b-eq33, else-b-eq33}
 
-pub double_at-requires : goal.double_at-requires
-double_at-requires c = (c.requires.0, c.requires.1, sym c.begins_double.ensures ∙ c.if-begins_double.true)
-
-pub returns-then-kind-eq5 : goal.returns-then-kind-eq5
-returns-then-kind-eq5 c = λ names. subst (λ (k : ℕ). FrontAt names c.args.text.now c.args.at (record { kind = k; value = cond (eqb k 5) 2 0; start = c.args.at; next = c.args.at + 1 })) c.if-kind-eq5.true (front_single names c.args.text.now c.args.at c.requires.0 c.requires.1 c.single-kind.result (sym c.begins_double.ensures ∙ c.if-begins_double.false) c.single-kind.ensures)
+pub returns-then-not-is_double : goal.returns-then-not-is_double
+returns-then-not-is_double c = λ names. front_alone names _ _ c.requires.0 c.requires.1 (c.unwrap_or-after.ensures ∙ ap (λ o. unwrap_or o 0) c.copied.ensures ∙ c.get.ensures.lookup.4 (le_refl _) 0) (sym c.is_double.ensures ∙ c.if-not-is_double.true) c.lone.ensures
 
 pub returns : goal.returns
-returns c = λ names. rw (ne_eqb _ _ c.if-kind-eq5.false) at (front_single names c.args.text.now c.args.at c.requires.0 c.requires.1 c.single-kind.result (sym c.begins_double.ensures ∙ c.if-begins_double.false) c.single-kind.ensures)
+returns c = λ names. front_two names _ _ c.requires.0 c.requires.1 (c.unwrap_or-after.ensures ∙ ap (λ o. unwrap_or o 0) c.copied.ensures ∙ c.get.ensures.lookup.4 (le_refl _) 0) (sym c.is_double.ensures ∙ c.if-not-is_double.false)
+    (elim c.if-b-eq33.branch [ then-b-eq33 w ↦ w.comparison-is ∙ sym (rw (eq-eqb _ _ w.if-b-eq33.true)) | else-b-eq33 w ↦ w.comparison-is ∙ sym (rw (ne_eqb _ _ w.if-b-eq33.false)) ])

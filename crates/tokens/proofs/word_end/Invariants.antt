@@ -1,12 +1,9 @@
 -- `word_end` meets its contract.
-use Prim.Native.Nat.{◌≤◌, ◌-◌, ◌+◌}
+use Prim.Native.Nat.{◌+◌}
 use mathlib.Core.Path.{◌≡◌}
 use lib.ListN.{length, drop}
 use Rattle.grammar.specs.Tokens.{word_of}
 use Rattle.tokens.proofs.word_end.Given as goal
 
 abbrev pub invariant-loop-i : goal.invariant-loop-i
-invariant-loop-i l = (l.at ≤ l.i) × (l.i ≤ length l.text) × (l.at + length (word_of (drop l.at l.text)) ≡ l.i + length (word_of (drop l.i l.text)))
-
-abbrev pub decreases-loop-i : goal.decreases-loop-i
-decreases-loop-i l = length l.text - l.i
+invariant-loop-i l = l.at + length (word_of (drop l.at l.text)) ≡ l.i + length (word_of (drop l.i l.text))

@@ -1,6 +1,5 @@
 -- `turning::number_from` meets its contract: the classes of the fields passed are in the number.
 -- Assumes nothing.
-use Prim.Native.Nat.{◌-◌}
 use native.Mathlib.Omega.{arith}
 use Rattle.turning.proofs.Loops.{joined_none, joined_fits, joined_all, class_joined, class_fits}
 use Rattle.turning.proofs.number_from.Goals as goal

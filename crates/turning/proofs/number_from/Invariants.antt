@@ -1,13 +1,8 @@
 -- `turning::number_from` meets its contract: the classes of the fields passed are in the number.
 -- Assumes nothing.
-use Prim.Native.Nat.{◌-◌}
-use lib.ListN.{length}
 use Rattle.turning.specs.Turning.{classes_in}
 use Rattle.turning.proofs.Loops.{Joined}
 use Rattle.turning.proofs.number_from.Given as goal
 
 abbrev pub invariant-loop-i : goal.invariant-loop-i
 invariant-loop-i l = Joined l.core (classes_in l.core l.values) l.number l.i
-
-abbrev pub decreases-loop-i : goal.decreases-loop-i
-decreases-loop-i l = length l.core - l.i

@@ -1,6 +1,5 @@
 -- `turning::write_values` meets its contract: the values of the fields passed stand in the list, the rest of the number holds the others.
 -- Assumes nothing.
-use Prim.Native.Nat.{◌-◌}
 use mathlib.Core.Path.{sym, ◌∙◌}
 use Rattle.turning.proofs.Loops.{split_none, split_more, split_all, size_positive, block_positive}
 use Rattle.turning.proofs.write_values.Goals as goal

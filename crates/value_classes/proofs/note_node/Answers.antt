@@ -6,10 +6,10 @@ use Rattle.value_classes.proofs.NodeLaws.{naming, naming_none, one_key, no_keys,
 use Rattle.value_classes.proofs.note_node.Goals as goal
 
 pub returns-in-2 : goal.returns-in-2
-returns-in-2 c = one_added _ _ _ _ (one_key (naming _ _ _ (omega arith) (omega arith)) ∙ ap (λ k. k ∷ []) (sym c.key.ensures)) (omega arith)
+returns-in-2 c = (one_added _ _ _ _ (one_key (naming _ _ _ (omega arith) (omega arith)) ∙ ap (λ k. k ∷ []) (sym c.key.ensures)) (omega arith), c.ranges.second.fits)
 
 pub returns-in_default : goal.returns-in_default
-returns-in_default c = none_added _ _ _ (no_keys _ (naming_none _ _ _ (λ l h. omega arith)))
+returns-in_default c = (none_added _ _ _ (no_keys _ (naming_none _ _ _ (λ l h. omega arith))), c.ranges.second.fits)
 
 pub returns-in_default-2 : goal.returns-in_default-2
-returns-in_default-2 c = none_added _ _ _ (no_keys _ (naming_none _ _ _ (λ l h. omega arith)))
+returns-in_default-2 c = (none_added _ _ _ (no_keys _ (naming_none _ _ _ (λ l h. omega arith))), c.ranges.second.fits)

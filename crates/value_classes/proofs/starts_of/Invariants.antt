@@ -1,12 +1,7 @@
--- `starts_of` meets its contract: the starts of the fields below f are there. Assumes nothing.
-use Prim.Native.Nat.{◌≤◌, ◌-◌}
-use Rattle.policy.specs.InnerAscending.{Ascending}
+-- `starts_of` meets its contract: the starts of the fields so far are there. Assumes nothing.
 use Rattle.value_classes.proofs.Filling.{Filled}
 use Rattle.value_classes.proofs.FieldLaws.{StartAt}
 use Rattle.value_classes.proofs.starts_of.Given as goal
 
-abbrev pub invariant-loop-f : goal.invariant-loop-f
-invariant-loop-f l = (l.f ≤ 9) × Ascending l.keys × Filled (StartAt l.keys) 9 l.f l.starts
-
-abbrev pub decreases-loop-f : goal.decreases-loop-f
-decreases-loop-f l = 9 - l.f
+abbrev pub invariant-loop-field : goal.invariant-loop-field
+invariant-loop-field l = Filled (StartAt l.keys) 9 l.field l.starts

@@ -1,22 +1,30 @@
--- `names::all_small_or_digit` meets its contract. The loop's invariant: what is left decides.
-use native.Mathlib.Omega.{arith}
-use Prim.Native.Nat.{◌-◌}
-use mathlib.Core.Path.{refl, sym, ap, ◌∙◌}
+-- `all_small_or_digit` meets its contract: what is left decides. Assumes nothing.
 use native.Mathlib.Numerals.{add-one}
-use lib.ListN.{drop}
-use borrow.Author.Tests.{not-true, not-false}
+use mathlib.Core.Bool.{Bool, true, ◌||◌}
+use mathlib.Core.Path.{◌≡◌, sym, ap, ap₂, ◌∙◌}
+use lib.ListN.{get_or, drop}
+use Rattle.packet.proofs.Tests.{or_left, or_right}
+use Rattle.fields.specs.Bytes.{is_small, is_digit}
 use Rattle.fields.specs.Names.{all_small_or_digit}
 use Rattle.fields.proofs.NameLaws.{all_fails, all_on, all_end}
 use Rattle.fields.proofs.names.all_small_or_digit.Goals as goal
+use Rattle.fields.proofs.names.all_small_or_digit.Goals.{else-not-is_ascii_lowercase-via-then-not-is_ascii_lowercase+else-not-is_ascii_digit, else-not-is_ascii_lowercase-via-else-not-is_ascii_lowercase}
 
-pub loop-i-init : goal.loop-i-init
-loop-i-init c = (omega (arith, c.requires), refl)
+pub returns-then-not-is_ascii_digit : goal.returns-then-not-is_ascii_digit
+unfolding is_small is_digit
+returns-then-not-is_ascii_digit c =
+    sym (c.loop-b.invariant ∙ all_fails c.args.w.now c.loop-b.b-index c.loop-b-test.true (ap₂ (λ (a b : Bool). a || b) (sym c.is_ascii_lowercase.ensures.value ∙ c.if-not-is_ascii_lowercase.true) (sym c.is_ascii_digit.ensures.value ∙ c.if-not-is_ascii_digit.true)))
 
-pub returns-then-not-small_or_digit : goal.returns-then-not-small_or_digit
-returns-then-not-small_or_digit c = sym (c.loop-i.invariant.1 ∙ all_fails c.args.w.now c.loop-i.i c.loop-i-test.true (sym c.small_or_digit.ensures ∙ not-true _ c.if-not-small_or_digit.true-raw))
-
-pub loop-i-preserved : goal.loop-i-preserved
-loop-i-preserved c = (omega arith, c.loop-i.invariant.1 ∙ all_on c.args.w.now c.loop-i.i c.loop-i-test.true (sym c.small_or_digit.ensures ∙ not-false _ c.if-not-small_or_digit.false-raw) ∙ ap (λ k. all_small_or_digit (drop k c.args.w.now)) (sym (add-one c.loop-i.i)))
+pub loop-b-preserved : goal.loop-b-preserved
+unfolding is_small is_digit
+loop-b-preserved c =
+    let on : (is_small (get_or c.args.w.now c.loop-b.b-index 0) || is_digit (get_or c.args.w.now c.loop-b.b-index 0)) ≡ true =
+    elim c.else-not-is_ascii_lowercase.branch [
+      | else-not-is_ascii_lowercase-via-then-not-is_ascii_lowercase+else-not-is_ascii_digit w ↦ or_right _ _ (sym w.is_ascii_digit.ensures.value ∙ w.if-not-is_ascii_digit.false)
+      | else-not-is_ascii_lowercase-via-else-not-is_ascii_lowercase w ↦ or_left _ _ (sym c.is_ascii_lowercase.ensures.value ∙ w.if-not-is_ascii_lowercase.false)
+    ]
+    in
+    c.loop-b.invariant ∙ all_on c.args.w.now c.loop-b.b-index c.loop-b-test.true on ∙ ap (λ k. all_small_or_digit (drop k c.args.w.now)) (sym (add-one c.loop-b.b-index))
 
 pub returns : goal.returns
-returns c = sym (c.loop-i.invariant.1 ∙ all_end c.args.w.now c.loop-i.i c.loop-i-test.false)
+returns c = sym (c.loop-b.invariant ∙ all_end c.args.w.now c.loop-b.b-index c.loop-b-test.false)

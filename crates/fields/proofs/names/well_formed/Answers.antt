@@ -1,14 +1,22 @@
--- `names::well_formed` meets its contract.
-use native.Mathlib.Omega.{arith}
-use mathlib.Core.Path.{sym, ◌∙◌}
-use Rattle.fields.proofs.NameLaws.{well_formed_is, ill_formed, no_name}
+-- `well_formed` meets its contract. Assumes nothing.
+use mathlib.Core.Bool.{Bool, ◌&&◌}
+use mathlib.Core.Path.{sym, ap, ◌∙◌}
+use Rattle.fields.specs.Bytes.{is_small}
+use Rattle.fields.specs.Names.{well_formed, all_small_or_digit}
+use Rattle.fields.proofs.NameLaws.{no_name}
 use Rattle.fields.proofs.names.well_formed.Goals as goal
 
-pub returns-then-w-eq0 : goal.returns-then-w-eq0
-returns-then-w-eq0 c = sym (no_name _ c.if-w-eq0.true)
+pub returns-then-is_ascii_lowercase : goal.returns-then-is_ascii_lowercase
+unfolding well_formed is_small
+returns-then-is_ascii_lowercase c =
+    c.all_small_or_digit.ensures
+    ∙ sym (ap well_formed c.in-Some.ensures.cases.0 ∙ ap (λ (b : Bool). b && all_small_or_digit c.in-Some.rest.now) (sym c.is_ascii_lowercase.ensures.value ∙ c.if-is_ascii_lowercase.true))
 
-pub returns-then-small : goal.returns-then-small
-returns-then-small c = well_formed_is _ _ (omega (arith, c.if-w-eq0.false)) (sym c.small.ensures ∙ c.if-small.true) c.all_small_or_digit.ensures
+pub returns-else-is_ascii_lowercase : goal.returns-else-is_ascii_lowercase
+unfolding well_formed is_small
+returns-else-is_ascii_lowercase c =
+    c.if-is_ascii_lowercase.false
+    ∙ sym (ap well_formed c.in-Some.ensures.cases.0 ∙ ap (λ (b : Bool). b && all_small_or_digit c.in-Some.rest.now) (sym c.is_ascii_lowercase.ensures.value ∙ c.if-is_ascii_lowercase.false))
 
-pub returns : goal.returns
-returns c = sym (ill_formed _ (omega (arith, c.if-w-eq0.false)) (sym c.small.ensures ∙ c.if-small.false))
+pub returns-in-None : goal.returns-in-None
+returns-in-None c = sym (no_name _ c.in-None.ensures.cases)

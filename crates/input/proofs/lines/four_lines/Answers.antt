@@ -1,34 +1,34 @@
 -- `lines::four_lines` meets its contract.
+use mathlib.Core.Path.{◌≡◌, sym, ◌∙◌}
+use lib.ListN.{length}
 use native.Mathlib.Omega.{arith}
-use Rattle.input.proofs.LineLaws.{before_none, before_more, four_fewer, four_more, four_are}
+use borrow.Author.Tests.{eqb-true, eqb-false}
+use Rattle.input.specs.Input.{asked_by_lines}
+use Rattle.input.proofs.LineLaws.{lines_none, five_lines}
 use Rattle.input.proofs.lines.four_lines.Goals as goal
 
-pub returns-then-n-eq0 : goal.returns-then-n-eq0
-returns-then-n-eq0 c = four_fewer c.args.input.now (before_none c.args.input.now) (omega arith) (omega arith) c.not_four.ensures
+pub returns-in_err-left_table : goal.returns-in_err-left_table
+unfolding asked_by_lines
+returns-in_err-left_table c = rw (c.from_residual.ensures, c.in_err-left_table.ensures)
 
-pub line_from-a-requires : goal.line_from-a-requires
-line_from-a-requires c = omega arith
+pub returns-in_err-right_table : goal.returns-in_err-right_table
+unfolding asked_by_lines
+returns-in_err-right_table c = rw (c.from_residual-in_err-right_table.ensures, c.in_ok-left_table.ensures, c.in_err-right_table.ensures)
 
-pub returns-then-n-a : goal.returns-then-n-a
-returns-then-n-a c = four_fewer c.args.input.now (before_more c.args.input.now (before_none c.args.input.now) (omega arith) c.line_from-a.ensures) c.if-n-a.true (omega arith) c.not_four-then-n-a.ensures
+pub returns-in_err-left : goal.returns-in_err-left
+unfolding asked_by_lines
+returns-in_err-left c = rw (c.from_residual-in_err-left.ensures, c.in_ok-left_table.ensures, c.in_ok-right_table.ensures, c.in_err-left.ensures)
 
-pub line_from-b-requires : goal.line_from-b-requires
-line_from-b-requires c = omega arith
+pub returns-in_err-right : goal.returns-in_err-right
+unfolding asked_by_lines
+returns-in_err-right c = rw (c.from_residual-in_err-right.ensures, c.in_ok-left_table.ensures, c.in_ok-right_table.ensures, c.in_ok-left.ensures, c.in_err-right.ensures)
 
-pub returns-then-n-b : goal.returns-then-n-b
-returns-then-n-b c = four_fewer c.args.input.now (before_more c.args.input.now (before_more c.args.input.now (before_none c.args.input.now) (omega arith) c.line_from-a.ensures) (omega arith) c.line_from-b.ensures) c.if-n-b.true (omega arith) c.not_four-then-n-b.ensures
-
-pub line_from-c-requires : goal.line_from-c-requires
-line_from-c-requires c = omega arith
-
-pub returns-then-n-c : goal.returns-then-n-c
-returns-then-n-c c = four_fewer c.args.input.now (before_more c.args.input.now (before_more c.args.input.now (before_more c.args.input.now (before_none c.args.input.now) (omega arith) c.line_from-a.ensures) (omega arith) c.line_from-b.ensures) (omega arith) c.line_from-c.ensures) c.if-n-c.true (omega arith) c.not_four-then-n-c.ensures
-
-pub line_from-d-requires : goal.line_from-d-requires
-line_from-d-requires c = omega arith
-
-pub returns-then-d-n : goal.returns-then-d-n
-returns-then-d-n c = four_more c.args.input.now (omega arith) c.line_from-a.ensures (omega arith) c.line_from-b.ensures (omega arith) c.line_from-c.ensures (omega arith) c.line_from-d.ensures c.if-d-n.true c.not_four-then-d-n.ensures
+pub returns-then-not-is_empty : goal.returns-then-not-is_empty
+returns-then-not-is_empty c =
+    let some : ¬ (length c.in_ok-right.rest.now ≡ 0) = eqb-false _ _ (sym c.is_empty.ensures ∙ c.if-not-is_empty.true) in
+    rw (c.in_ok-left_table.ensures, c.in_ok-right_table.ensures, c.in_ok-left.ensures, c.in_ok-right.ensures) (five_lines _ _ _ _ _ (omega arith))
 
 pub returns : goal.returns
-returns c = four_are c.args.input.now (omega arith) c.line_from-a.ensures (omega arith) c.line_from-b.ensures (omega arith) c.line_from-c.ensures (omega arith) c.line_from-d.ensures c.if-d-n.false
+returns c =
+    let none = lines_none c.in_ok-right.rest.now (eqb-true _ _ (sym c.is_empty.ensures ∙ c.if-not-is_empty.false)) in
+    rw (c.in_ok-left_table.ensures, c.in_ok-right_table.ensures, c.in_ok-left.ensures, c.in_ok-right.ensures, none)

@@ -1,11 +1,6 @@
 -- `tables::part_end` meets its contract.
-use Prim.Native.Nat.{◌-◌}
-use lib.ListN.{length}
 use Rattle.input.proofs.PartLaws.{Sought}
 use Rattle.input.proofs.tables.part_end.Given as goal
 
 abbrev pub invariant-loop-at : goal.invariant-loop-at
 invariant-loop-at l = Sought l.by l.w l.from l.at
-
-abbrev pub decreases-loop-at : goal.decreases-loop-at
-decreases-loop-at l = length l.w - l.at

@@ -1,13 +1,16 @@
 -- `tables::size_of` meets its contract.
 use mathlib.Core.Path.{sym, ◌∙◌}
+use borrow.Author.Tests.{eqb-true, eqb-false}
 use Rattle.input.proofs.SizeLaws.{size_empty, size_zero, size_number}
 use Rattle.input.proofs.tables.size_of.Goals as goal
+use Rattle.input.proofs.tables.size_of.Goals.{then-is_empty-via-then-is_empty, then-is_empty-via-else-is_empty+then-leading_zero}
 
-pub returns-then-w-eq0 : goal.returns-then-w-eq0
-returns-then-w-eq0 c = size_empty c.args.w.now c.if-w-eq0.true
-
-pub returns-then-leading_zero : goal.returns-then-leading_zero
-returns-then-leading_zero c = size_zero c.args.w.now (sym c.leading_zero.ensures ∙ c.if-leading_zero.true)
+pub returns-then-is_empty : goal.returns-then-is_empty
+returns-then-is_empty c =
+    elim c.then-is_empty.branch [
+      | then-is_empty-via-then-is_empty w ↦ size_empty _ (eqb-true _ _ (sym c.is_empty.ensures ∙ w.if-is_empty.true))
+      | then-is_empty-via-else-is_empty+then-leading_zero w ↦ size_zero _ (sym w.leading_zero.ensures ∙ w.if-leading_zero.true)
+    ]
 
 pub returns : goal.returns
-returns c = size_number c.args.w.now _ c.if-w-eq0.false (sym c.leading_zero.ensures ∙ c.if-leading_zero.false) c.number_from.ensures
+returns c = c.number_from.ensures ∙ size_number c.args.w.now (eqb-false _ _ (sym c.is_empty.ensures ∙ c.if-is_empty.false)) (sym c.leading_zero.ensures ∙ c.if-leading_zero.false)

@@ -1,12 +1,8 @@
 -- `labels_of` meets its contract. Assumes nothing.
-use Prim.Native.Nat.{◌-◌}
-use lib.ListN.{length}
-use Rattle.policy.specs.AsLists.{as_lists}
+use Rattle.policy.specs.AsLists.{lists_of}
+use Rattle.loaded.proofs.Trees.{Alike}
 use Rattle.loaded.proofs.Labelling.{Counting}
 use Rattle.loaded.proofs.dups.labels_of.Given as goal
 
 abbrev pub invariant-loop-n : goal.invariant-loop-n
-invariant-loop-n l = Counting (as_lists l.kind l.first l.second) l.labels l.d l.n
-
-abbrev pub decreases-loop-n : goal.decreases-loop-n
-decreases-loop-n l = length l.kind - l.n
+invariant-loop-n l = Alike (lists_of l.policy) × Counting (lists_of l.policy) l.labels l.d l.n

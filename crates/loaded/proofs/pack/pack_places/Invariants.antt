@@ -1,11 +1,6 @@
 -- `pack_places` meets its contract. Assumes nothing.
-use Prim.Native.Nat.{◌-◌}
-use Rattle.packet_set.specs.Bits.{mask_bits}
 use Rattle.loaded.proofs.Writing.{Listing}
 use Rattle.loaded.proofs.pack.pack_places.Given as goal
 
 abbrev pub invariant-loop-i : goal.invariant-loop-i
 invariant-loop-i l = Listing l.places l.initial.nodes l.nodes l.i
-
-abbrev pub decreases-loop-i : goal.decreases-loop-i
-decreases-loop-i l = mask_bits - l.i

@@ -1,10 +1,6 @@
 -- `insert_run` meets its contract. Assumes nothing.
-use Prim.Native.Nat.{◌-◌}
 use Rattle.loaded.proofs.Runs.{Inserting}
 use Rattle.loaded.proofs.sets.insert_run.Given as goal
 
 abbrev pub invariant-loop-packet : goal.invariant-loop-packet
 invariant-loop-packet l = Inserting l.from l.to l.initial.set l.set l.packet
-
-abbrev pub decreases-loop-packet : goal.decreases-loop-packet
-decreases-loop-packet l = l.to - l.packet

@@ -1,5 +1,4 @@
 -- `intersect` meets its contract: each turn of the loop does one more word. Assumes nothing.
-use Prim.Native.Nat.{◌-◌}
 use mathlib.Core.Path.{refl}
 use lib.Bits.{bit_and}
 use Rattle.packet_set.proofs.Loops.{none_done, one_done, all_done}

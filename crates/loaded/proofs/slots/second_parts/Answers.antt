@@ -1,24 +1,19 @@
 -- `second_parts` meets its contract. Assumes nothing.
-use Prim.Native.Nat.{◌-◌}
 use mathlib.Core.Path.{refl}
 use Rattle.policy.specs.NodeLists.{node_count}
-use Rattle.loaded.proofs.Trees.{in_lists, placed_read}
+use Rattle.loaded.proofs.Trees.{formed_alike, placed_read}
 use Rattle.loaded.proofs.Guarding.{no_seconds, more_seconds}
 use Rattle.loaded.proofs.slots.second_parts.Goals as goal
 
 pub loop-n-init : goal.loop-n-init
-loop-n-init c = no_seconds _ refl
-
-pub node_at-requires : goal.node_at-requires
-unfolding node_count
-node_at-requires c = in_lists _ c.requires _ c.loop-n-test.true
+loop-n-init c = (formed_alike c.requires, no_seconds _ refl)
 
 pub flag_second-requires : goal.flag_second-requires
 unfolding node_count
-flag_second-requires c = placed_read _ c.requires _ c.loop-n-test.true _ c.node_at.ensures
+flag_second-requires c = placed_read _ c.requires _ c.loop-n-test.true _ c.node.ensures
 
 pub loop-n-preserved : goal.loop-n-preserved
-loop-n-preserved c = more_seconds _ _ c.loop-n.invariant _ c.flag_second.ensures
+loop-n-preserved c = (c.loop-n.invariant.0, more_seconds _ _ c.loop-n.invariant.1 _ c.flag_second.ensures)
 
 pub returns : goal.returns
-returns c = c.loop-n.invariant
+returns c = c.loop-n.invariant.1

@@ -1,5 +1,4 @@
 -- `tests_alone` meets its contract. Assumes nothing.
-use Prim.Native.Nat.{◌-◌}
 use mathlib.Core.Path.{refl}
 use native.Mathlib.Omega.{arith}
 use Rattle.policy.specs.NodeLists.{node_count}
@@ -9,17 +8,13 @@ use Rattle.tree_causes.proofs.alone.tests_alone.Goals as goal
 pub loop-n-init : goal.loop-n-init
 loop-n-init c = flagging_start _ c.requires _ refl
 
-pub node_at-requires : goal.node_at-requires
+pub node-requires : goal.node-requires
 unfolding node_count
-node_at-requires c = omega (arith, c.requires.firsts, c.requires.seconds, c.loop-n-test.true)
+node-requires c = (c.loop-n-test.true, omega (arith, c.loop-n-test.true, c.requires.firsts), omega (arith, c.loop-n-test.true, c.requires.seconds))
 
 pub flag_of-requires : goal.flag_of-requires
 unfolding node_count
-flag_of-requires c = placed_read _ c.requires _ c.loop-n-test.true _ c.node_at.ensures
-
-pub offset_bounds-alone-n : goal.offset_bounds-alone-n
-unfolding node_count
-offset_bounds-alone-n c = omega (arith, c.requires.few, c.loop-n-test.true)
+flag_of-requires c = placed_read _ c.requires _ c.loop-n-test.true _ c.node.ensures
 
 pub bounds-alone-n : goal.bounds-alone-n
 unfolding node_count
@@ -27,8 +22,8 @@ bounds-alone-n c = omega (arith, c.requires.few, c.loop-n-test.true)
 
 pub loop-n-preserved : goal.loop-n-preserved
 unfolding node_count
-loop-n-preserved c = flagging_turn _ c.requires _ _ c.loop-n.invariant c.loop-n-test.true _ c.node_at.ensures _ c.flag_of.ensures
+loop-n-preserved c = flagging_turn _ c.requires _ _ c.loop-n.invariant c.loop-n-test.true _ c.node.ensures _ c.flag_of.ensures
 
 pub returns : goal.returns
 unfolding node_count
-returns c = flagging_end _ c.requires _ _ c.loop-n.invariant c.loop-n-test.false
+returns c = flagging_end _ c.requires _ _ c.loop-n.invariant (omega (arith, c.loop-n-test.false))
