@@ -6,7 +6,7 @@ use native.Mathlib.Numerals.{add-one}
 use mathlib.Core.List.{List, [], ◌∷◌, map}
 use mathlib.Core.Path.{◌≡◌, refl, sym, ap, ◌∙◌, subst}
 use mathlib.Core.HLevel.{Unit-prop, ×_prop}
-use mathlib.Core.Logic.{∥∥₁_elim}
+use mathlib.Core.Logic.{∥∥₁_elim, ∥∥₁_map}
 use native.Mathlib.Bridge.{le_prop}
 use lib.ListN.{length, get_or, take, drop, length-map}
 use lib.Seq.{slice, take-nil, length-slice}
@@ -19,7 +19,7 @@ use Rattle.policy.proofs.EachLaws.{each_at}
 use Rattle.policy.proofs.NamedLaws.{core_length, core_at}
 use Rattle.classes.specs.Named.{place_in, unnamed_from, shown_in}
 use Rattle.ascending.specs.Sorting.{count_below}
-use Rattle.value_classes.specs.Names.{key_of, count_of, FieldNames, NamesOf, SomeNames, StartsOf, ClassIs, ShownIs, CoreSizesOf}
+use Rattle.value_classes.specs.Names.{key_of, count_of, FieldNames, NamesOf, SomeNames, SomeStarts, StartsOf, ClassIs, ShownIs, CoreSizesOf}
 use Rattle.value_classes.proofs.PartLaws.{keys_ascending}
 use Rattle.value_classes.proofs.PlaceLaws.{place_by_key, unnamed_by_key}
 use Rattle.value_classes.proofs.Filling.{Filled, front_is}
@@ -93,12 +93,26 @@ module _ {keys starts : List ℕ} {f : ℕ} (l : f < 8) where
   field : (some : SomeNames keys starts) → FieldNames f (named_values some.policies f) keys (get_or starts f 0) (get_or starts (f + 1) 0)
   field some = rw add-one (some.names.each f l)
 
-  module _ (named : ∥ SomeNames keys starts ∥₁) {part : List ℕ} (same : part ≡ part_of keys starts f) where
-    pub field_ascending : Ascending part
-    field_ascending = ∥∥₁_elim named (ascending_prop part) (λ some. subst Ascending (sym same) (part_ascending (field some)))
+  module _ (named : ∥ SomeNames keys starts ∥₁) where
+    pub starts_inside : get_or starts (f + 1) 0 ≤ length keys
+    starts_inside = ∥∥₁_elim named le_prop (λ some. (field some).inside)
 
-    pub field_few : length part ≤ 1024
-    field_few = ∥∥₁_elim named le_prop (λ some. subst (λ (p : List ℕ). length p ≤ 1024) (sym same) (part_few (field some)))
+    module _ {part : List ℕ} (same : part ≡ part_of keys starts f) where
+      pub field_ascending : Ascending part
+      field_ascending = ∥∥₁_elim named (ascending_prop part) (λ some. subst Ascending (sym same) (part_ascending (field some)))
+
+      pub field_few : length part ≤ 1024
+      field_few = ∥∥₁_elim named le_prop (λ some. subst (λ (p : List ℕ). length p ≤ 1024) (sym same) (part_few (field some)))
+
+pub starts_named : {keys starts : List ℕ} → ∥ SomeNames keys starts ∥₁ → ∥ SomeStarts starts ∥₁
+starts_named named = ∥∥₁_map named (λ some. record { keys = _; names = some })
+
+module _ {starts : List ℕ} {f : ℕ} (l : f < 8) (named : ∥ SomeStarts starts ∥₁) where
+  pub starts_order : get_or starts f 0 ≤ get_or starts (f + 1) 0
+  starts_order = ∥∥₁_elim named le_prop (λ some. (field l some.names).order)
+
+  pub starts_few : get_or starts (f + 1) 0 ≤ 1024
+  starts_few = ∥∥₁_elim named le_prop (λ some. omega (arith, (field l some.names).inside, some.names.names.room))
 
 module _ (keys starts : List ℕ) (f : ℕ) (l : f < 8) where
   of : (Ls : List NodeLists) → NamesOf Ls keys starts → FieldNames f (named_values Ls f) keys (get_or starts f 0) (get_or starts (f + 1) 0)

@@ -75,6 +75,11 @@ pub record Formed (L : NodeLists) : Type 0 where
   pub eight : length sizes ≤ 8
   pub legal : Legal sizes L
 
+-- the starts of some keys
+pub record SomeStarts (starts : List ℕ) : Type 0 where
+  pub keys : List ℕ
+  pub names : SomeNames keys starts
+
 -- the keys of a field start behind all that are lower
 pub record StartsOf (keys starts : List ℕ) : Type 0 where
   pub nine : length starts ≡ 9

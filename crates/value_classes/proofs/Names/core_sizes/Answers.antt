@@ -1,14 +1,6 @@
--- `core_sizes` meets its contract: the class counts of the fields below f are there. Assumes nothing.
-use native.Mathlib.Omega.{arith}
-use Rattle.value_classes.proofs.Filling.{filled_none, filled_more}
-use Rattle.value_classes.proofs.FieldLaws.{counts_found}
+-- `Names::core_sizes` meets its contract: the starts are those of its keys. Assumes nothing.
+use Rattle.value_classes.proofs.FieldLaws.{starts_named}
 use Rattle.value_classes.proofs.Names.core_sizes.Goals as goal
 
-pub loop-f-init : goal.loop-f-init
-loop-f-init c = filled_none _ _ _ (omega arith)
-
-pub loop-f-preserved : goal.loop-f-preserved
-loop-f-preserved c = filled_more _ _ _ _ _ (omega arith) c.loop-f.invariant c.class_count.ensures
-
-pub returns : goal.returns
-returns c = counts_found _ _ _ _ c.requires (omega arith) c.loop-f.invariant
+pub core_sizes-requires : goal.core_sizes-requires
+core_sizes-requires c = (c.requires, starts_named c.args.self.now.named)
