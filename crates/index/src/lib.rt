@@ -133,7 +133,8 @@ fn side_at(states: [Mask; POLICIES], depth: usize) -> usize
 }
 
 // Inner: looks for the row among the first n. It ends at the row, listed with this number, or, as an error, at a slot of the trees where it
-// would be attached.
+// would be attached. (Inlined: a caller that goes from row to row works out once what the trees and the packet count decide.)
+#[inline(always)]
 pub fn place(
     columns: Columns,
     n: usize,

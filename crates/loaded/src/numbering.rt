@@ -53,7 +53,7 @@ fn give(
     let Some(c) = node else {
         return k;
     };
-    let set = sets::test_set(sizes, count, policy, all, c);
+    let set = sets::test_set(sizes, count, &policy, all, c);
     let next = k + 1;
     sets::keep(tests, next, &set);
     sets[c] = next as u16;

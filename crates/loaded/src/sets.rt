@@ -75,16 +75,16 @@ fn field_set(sizes: &[u16], count: u16, all: &PacketWords, action: FieldAction) 
     }
 }
 
-// Inner. The packets that pass node n, which is tests alone.
+// Inner. The packets that pass node n, which is tests alone. (The policy is lent: by value, each call below would have a copy on the stack.)
 pub fn test_set(
     sizes: &[u16],
     count: u16,
-    policy: PolicyLists,
+    policy: &PolicyLists,
     all: &PacketWords,
     n: usize,
 ) -> PacketWords
-    requires { Loading sizes.now (lists_of policy) count all.now × TestNode (lists_of policy) n }
-    ensures { HasMembers result (passing sizes.now (tree_of (lists_of policy.entry) n)) }
+    requires { Loading sizes.now (lists_of policy.now) count all.now × TestNode (lists_of policy.now) n }
+    ensures { HasMembers result (passing sizes.now (tree_of (lists_of policy.now) n)) }
 {
     match policy.node(n) {
         Node::Drop | Node::Dup | Node::Star(_) => packet_set::empty(),

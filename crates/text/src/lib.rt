@@ -86,6 +86,7 @@ fn comparison_kind(c: Comparison) -> u8
 
 impl Reader<'_> {
     // The token at a byte; where there is none, the reading stops at the end.
+    #[inline(always)]
     fn token(&self, at: usize) -> Result<Placed, usize>
         requires { at ≤ length self.now.text.now }
         ensures { TokenRead (names_in self.now.names.now) self.now.text.now at result }
@@ -94,6 +95,7 @@ impl Reader<'_> {
     }
 
     // The byte after the mark, if it is the token at a byte.
+    #[inline(always)]
     fn after(&self, mark: Token, at: usize) -> Option<usize>
         requires { at ≤ length self.now.text.now }
         ensures { MarkRead (names_in self.now.names.now) self.now.text.now mark at result }

@@ -21,6 +21,7 @@ pub struct Placed {
 }
 
 // The first byte from one on that is no blank, or the end.
+#[inline(always)]
 fn skip(text: &[u8], at: usize) -> usize
     requires { at ≤ length text.now }
     ensures { Skipped text.now at result }
@@ -45,6 +46,7 @@ fn word_end(text: &[u8], at: usize) -> usize
     text.len()
 }
 
+#[inline(never)]
 fn word_at(names: &[u8], text: &[u8], at: usize) -> Placed
     requires { (length names.now ≤ 128) × (at < length text.now) × (in_word (get_or text.now at 0) ≡ true) }
     ensures { FrontAt (names_in names.now) text.now at result }
@@ -93,6 +95,7 @@ fn lone(b: u8) -> Token
 }
 
 // The mark at a byte, which the next byte may be a part of.
+#[inline(always)]
 fn mark_at(text: &[u8], at: usize) -> Placed
     requires { (at < length text.now) × (in_word (get_or text.now at 0) ≡ false) }
     ensures { (names : List (List ℕ)) → FrontAt names text.now at result }
@@ -118,7 +121,9 @@ fn mark_at(text: &[u8], at: usize) -> Placed
     }
 }
 
-// Inner: the first token from a byte on, if there is one, over at most eight names in cells.
+// Inner: the first token from a byte on, if there is one, over at most eight names in cells. (Inlined but for words: to hand a mark over
+// takes longer than to read it.)
+#[inline(always)]
 pub fn token_from(names: &[u8], text: &[u8], at: usize) -> Option<Placed>
     requires { (length names.now ≤ 128) × (at ≤ length text.now) }
     ensures { TokenFrom (names_in names.now) text.now at result }
