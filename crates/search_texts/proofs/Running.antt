@@ -146,9 +146,12 @@ module _ (left_table right_table : Table) (left-text right-text : List ℕ) (x :
 
   -- ---- what refuses the call
 
-  pub tables_refused : {r : Refusal} → tables_stage ts ≡ Err r → texts_tests left_table right_table left-text right-text x ≡ Err r
+  pub tables_tested : {r : Refusal} → tables_stage ts ≡ Err r → texts_tests left_table right_table left-text right-text x ≡ Err r
   unfolding texts_tests
-  tables_refused e = order.tables_refused ts _ _ _ _ e
+  tables_tested e = order.tables_refused ts _ _ _ _ e
+
+  pub tables_refused : {r : Refusal} → tables_stage ts ≡ Err r → TextsSearched left_table right_table left-text right-text x (Refused r) x
+  tables_refused e = refused_by (tables_tested e)
 
   texts_refused : {r : Refusal} → tables_stage ts ≡ Ok tt → text_tests ≡ Err r → texts_tests left_table right_table left-text right-text x ≡ Err r
   unfolding texts_tests

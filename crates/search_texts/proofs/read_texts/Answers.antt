@@ -4,11 +4,11 @@ use Rattle.std.specs.Prelude.{Ok}
 use Rattle.packet.proofs.Stages.{handed_on}
 use Rattle.text.proofs.SideLaws.{side_is}
 use Rattle.search_texts.specs.Call.{text_stage}
-use Rattle.search_texts.proofs.Running.{renamed, texts_handed, tables_refused, left_refused, right_refused}
+use Rattle.search_texts.proofs.Running.{renamed, texts_handed, tables_tested, left_refused, right_refused}
 use Rattle.search_texts.proofs.read_texts.Goals as goal
 
 pub returns-in_err-joint : goal.returns-in_err-joint
-returns-in_err-joint c = texts_handed _ _ _ _ _ (handed_on _ c.from_residual.ensures.1) (λ x. tables_refused _ _ _ _ x c.in_err-joint.ensures)
+returns-in_err-joint c = texts_handed _ _ _ _ _ (handed_on _ c.from_residual.ensures.1) (λ x. tables_tested _ _ _ _ x c.in_err-joint.ensures)
 
 pub returns-in_err-left_nodes : goal.returns-in_err-left_nodes
 returns-in_err-left_nodes c =
