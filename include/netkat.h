@@ -62,9 +62,9 @@
  * the row lists and that the work list is all 0 whenever 10 has passed.
  *
  * Stack. A call needs up to NETKAT_STACK bytes of stack, 4 MiB. Measured on policies as deep as they may be, in KiB:
- *   netkat_values 5, netkat_number 5, netkat_policy 5, netkat_policies 5, netkat_read 31,
- *   netkat_search 988, netkat_search_texts 1019, netkat_evidence 981, netkat_evidence_rows 2133,
- *   netkat_trace 551
+ *   netkat_values 5, netkat_number 5, netkat_policy 5, netkat_policies 5, netkat_read 29,
+ *   netkat_search 852, netkat_search_texts 883, netkat_evidence 845, netkat_evidence_rows 1997,
+ *   netkat_trace 416
  * A thread with too little meets its guard page, and the process ends.
  *
  * Time. Small calls take microseconds, searches and checks of evidence mostly milliseconds. On the costliest policies a row may take

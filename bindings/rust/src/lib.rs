@@ -16,7 +16,7 @@
 //! [`Checker`], [`Tables`] and [`Policy`] own their lists and give typed answers; [`lists`] lends slices of any lengths and gives the eight
 //! numbers of the C interface; [`raw`] is that interface itself. The library is proved, this wrapper is not.
 //!
-//! A call needs up to 4 MiB of stack, measured at most 2133 KiB: a thread that makes calls is started with at least [`STACK`] (Rust
+//! A call needs up to 4 MiB of stack, measured at most 1997 KiB: a thread that makes calls is started with at least [`STACK`] (Rust
 //! starts threads with 2 MiB). It runs to its end, on the costliest policies for minutes, and can't be cancelled.
 
 #![warn(missing_docs)]

@@ -85,7 +85,7 @@ fn comparison_kind(c: Comparison) -> u8
 }
 
 impl Reader<'_> {
-    // The token at a byte; where there is none, the reading stops at the end.
+    // The token at a byte; where there is none, the reading stops at the end. (Inlined, as `token_from` is.)
     #[inline(always)]
     fn token(&self, at: usize) -> Result<Placed, usize>
         requires { at ≤ length self.now.text.now }
@@ -94,7 +94,7 @@ impl Reader<'_> {
         tokens::token_from(self.names, self.text, at).ok_or(self.text.len())
     }
 
-    // The byte after the mark, if it is the token at a byte.
+    // The byte after the mark, if it is the token at a byte. (Inlined, as `token_from` is.)
     #[inline(always)]
     fn after(&self, mark: Token, at: usize) -> Option<usize>
         requires { at ≤ length self.now.text.now }

@@ -20,7 +20,7 @@ pub struct Placed {
     pub next: usize,
 }
 
-// The first byte from one on that is no blank, or the end.
+// The first byte from one on that is no blank, or the end. (Inlined: see `token_from`.)
 #[inline(always)]
 fn skip(text: &[u8], at: usize) -> usize
     requires { at ≤ length text.now }
@@ -46,6 +46,7 @@ fn word_end(text: &[u8], at: usize) -> usize
     text.len()
 }
 
+// The word at a byte. (Not inlined: `token_from` would bring it to each of its callers.)
 #[inline(never)]
 fn word_at(names: &[u8], text: &[u8], at: usize) -> Placed
     requires { (length names.now ≤ 128) × (at < length text.now) × (in_word (get_or text.now at 0) ≡ true) }
@@ -94,7 +95,7 @@ fn lone(b: u8) -> Token
     Token::Bad
 }
 
-// The mark at a byte, which the next byte may be a part of.
+// The mark at a byte, which the next byte may be a part of. (Inlined: see `token_from`.)
 #[inline(always)]
 fn mark_at(text: &[u8], at: usize) -> Placed
     requires { (at < length text.now) × (in_word (get_or text.now at 0) ≡ false) }
